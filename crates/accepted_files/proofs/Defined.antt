@@ -18,7 +18,7 @@ use Rattle.cmm_types.specs.Gathered.{first_symbols}
 use Rattle.cmm_types.proofs.FirstSymbols.{agree-from, agree-at, with_symbols-agrees}
 use Rattle.cmm_types.proofs.Containing.{contains_head, contains_tail}
 use Rattle.selection_accepted.proofs.DataBytes.{DatumBytes, DataBytes, ItemsBytes}
-use Rattle.accepted_files.specs.Given.{IsGiven, AreGiven, HasGivenData}
+use Rattle.accepted_files.specs.Given.{IsDatumGiven, AreDataGiven, HasGivenData}
 use Rattle.accepted_files.proofs.Differ.{names, names_append, data_names, item_names}
 use Rattle.accepted_files.proofs.Files.{read_of, lists_fine}
 use Rattle.accepted_files.proofs.Spelled.{IsFine, AreFine, items_named}
@@ -79,7 +79,7 @@ bytes_given [] p = tt
 bytes_given (b ∷ bs) p = (p.0, bytes_given bs p.1)
 
 module _ (text : List ℕ) (file : FileTree) (is : IsFileOf text file) where
-  datum : (l : DataListTree) (i : DataItemTree) (d : DatumTree) → Contains (data_lists file) l → Contains l.items i → i.datum ≡ d → IsFine d → DatumBytes d → IsGiven file d
+  datum : (l : DataListTree) (i : DataItemTree) (d : DatumTree) → Contains (data_lists file) l → Contains l.items i → i.datum ≡ d → IsFine d → DatumBytes d → IsDatumGiven file d
   datum l i (Val word) c k e fine bytes = fine
   datum l i (Text bytes) c k e fine are = bytes_given bytes are
   datum l i (Address true name_at name) c k e fine bytes = defined_valued file name (by (definition_of (defined.symbols file) name) refl)
@@ -98,13 +98,13 @@ module _ (text : List ℕ) (file : FileTree) (is : IsFileOf text file) where
   datum l i AFloat c k e fine bytes = tt
 
   items_given : (l : DataListTree) (items : List DataItemTree) → Contains (data_lists file) l → ((i : DataItemTree) → Contains items i → Contains l.items i) → AreFine items → DataBytes items →
-      AllByRecursion (λ (i : DataItemTree). IsGiven file i.datum) items
+      AllByRecursion (λ (i : DataItemTree). IsDatumGiven file i.datum) items
   items_given l [] c k fine bytes = tt
   items_given l (i ∷ items) c k fine bytes =
       (datum l i i.datum c (k i (contains_head i items)) refl fine.0 bytes.0, items_given l items c (λ j m. k j (contains_tail i items j m)) fine.1 bytes.1)
 
   lists_given : (ls : List DataListTree) → ((l : DataListTree) → Contains ls l → Contains (data_lists file) l) → AllByRecursion (λ (l : DataListTree). AreFine l.items) ls →
-      AllByRecursion (λ (l : DataListTree). DataBytes l.items) ls → AreGiven file ls
+      AllByRecursion (λ (l : DataListTree). DataBytes l.items) ls → AreDataGiven file ls
   lists_given [] k fine bytes = tt
   lists_given (l ∷ ls) k fine bytes =
       (items_given l l.items (k l (contains_head l ls)) (λ i m. m) fine.0 bytes.0, lists_given ls (λ j m. k j (contains_tail l ls j m)) fine.1 bytes.1)

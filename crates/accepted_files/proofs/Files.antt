@@ -46,7 +46,7 @@ use Rattle.cmm_types.proofs.Containing.{contains_none, contains_cases, contains_
 use Rattle.image_form.proofs.Differ.{AllDiffer, apart}
 use Rattle.image_form.specs.Image.{IsParam, IsResult, IsExt}
 use Rattle.layout_rules.specs.Conditions.{IsRowLaid, IsFileLaid}
-use Rattle.layout_rules.specs.Externals.{calls_in_function, all_calls, is_among, firsts_behind}
+use Rattle.layout_rules.specs.Externals.{calls_in_function, all_calls, is_among_externals, firsts_behind}
 use Rattle.layout_rules.proofs.Rules.{all_append}
 use Rattle.selection_accepted.proofs.Selecting.{definitions, front_accepts, selectable}
 use Rattle.selection_laws.proofs.Accepting.{left, right}
@@ -166,7 +166,7 @@ calls_all_few (f ∷ fs) covered =
 
 firsts_few : (before es : List External) → length (firsts_behind before es) ≤ length before + length es
 firsts_few before [] = omega arith
-firsts_few before (e ∷ es) = by (is_among before e) (firsts_few before es) (firsts_few (before ++ e ∷ []) es)
+firsts_few before (e ∷ es) = by (is_among_externals before e) (firsts_few before es) (firsts_few (before ++ e ∷ []) es)
   where
     by : (b : Bool) → length (firsts_behind before es) ≤ length before + length es → length (firsts_behind (before ++ e ∷ []) es) ≤ length (before ++ e ∷ []) + length es →
         length (firsts_behind (cond b before (before ++ e ∷ [])) es) ≤ length before + length (e ∷ es)
@@ -177,7 +177,7 @@ firsts_few before (e ∷ es) = by (is_among before e) (firsts_few before es) (fi
 
 firsts_laid : (before es : List External) → AllByRecursion IsExt before → AllByRecursion IsExt es → AllByRecursion IsExt (firsts_behind before es)
 firsts_laid before [] p q = p
-firsts_laid before (e ∷ es) p q = firsts_laid (cond (is_among before e) before (before ++ e ∷ [])) es (by (is_among before e)) q.1
+firsts_laid before (e ∷ es) p q = firsts_laid (cond (is_among_externals before e) before (before ++ e ∷ [])) es (by (is_among_externals before e)) q.1
   where
     by : (b : Bool) → AllByRecursion IsExt (cond b before (before ++ e ∷ []))
     by true = p

@@ -7,16 +7,16 @@ use Rattle.cmm_tree.specs.Tree.{DatumTree, Val, Address, Text, DataItemTree, Dat
 
 -- A string is of bytes. An integer that is written as a val is in range, and a symbol whose address
 -- is written so is defined: else the cell would hold 0, which fits no val.
-abbrev pub IsGiven : FileTree → DatumTree → Type 0
-IsGiven file (Val word) = IsSome word
-IsGiven file (Address true name_at name) = IsSome (value_of_symbol file name)
-IsGiven file (Text bytes) = AllByRecursion (λ b. b < 256) bytes
-IsGiven file _ = ⊤
+abbrev pub IsDatumGiven : FileTree → DatumTree → Type 0
+IsDatumGiven file (Val word) = IsSome word
+IsDatumGiven file (Address true name_at name) = IsSome (value_of_symbol file name)
+IsDatumGiven file (Text bytes) = AllByRecursion (λ b. b < 256) bytes
+IsDatumGiven file _ = ⊤
 
-abbrev pub AreGiven : FileTree → List DataListTree → Type 0
-AreGiven file lists =
+abbrev pub AreDataGiven : FileTree → List DataListTree → Type 0
+AreDataGiven file lists =
     AllByRecursion
-    (λ (d : DataListTree). AllByRecursion (λ (i : DataItemTree). IsGiven file i.datum) d.items) lists
+    (λ (d : DataListTree). AllByRecursion (λ (i : DataItemTree). IsDatumGiven file i.datum) d.items) lists
 
 pub record HasGivenData (file : FileTree) : Type 0 where
-  pub each : AreGiven file (data_lists file)
+  pub each : AreDataGiven file (data_lists file)

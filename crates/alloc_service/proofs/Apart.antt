@@ -4,7 +4,7 @@ use Rattle.std.specs.List.{list_all}
 use Rattle.std.proofs.lemmas.Bool.{leb-true, le-leb, lt-leb, lt-ltb, leb-false, ltb-true, and_parts, and_from, and_left, and_right, or_cases, or_left, or_parts, or_from, cases_lt, cases_eq}
 use Rattle.rv_machine.specs.Hart.{Placed}
 use Rattle.rv_machine.specs.Marks.{Marks, mark_at}
-use Rattle.rv_machine.specs.Placement.{are_apart, end_of, header_at, is_apart, is_in_heap, placed_at}
+use Rattle.rv_machine.specs.Placement.{are_apart, block_end, header_address, is_apart, is_in_heap, placed_at}
 use Rattle.alloc_service.specs.Forward.{MarksWithin, covers, is_covered}
 use Rattle.machine_laws.proofs.InHeap.{in_heap, unaligned}
 use Rattle.alloc_service.proofs.Steps.{step, step_at}
@@ -52,18 +52,18 @@ uncovered_from (b ∷ bs) (s ∷ ss) (suc k) a e h = uncovered_from bs ss k a (o
 pub record IsClaimed (table : Marks) (blocks : List Placed) : Type 0 where
   pub each : (a : ℕ) → a % 8 ≡ 0 → mark_at table a ≡ cond (is_covered blocks a) 1 0
 
-covered_both : (a : ℕ) (b : Placed) → header_at b ≤ a → a < end_of b → covers a b ≡ true
-covered_both a b h k = and_from _ _ (le-leb (header_at b) a h) (lt-ltb a (end_of b) k)
+covered_both : (a : ℕ) (b : Placed) → header_address b ≤ a → a < block_end b → covers a b ≡ true
+covered_both a b h k = and_from _ _ (le-leb (header_address b) a h) (lt-ltb a (block_end b) k)
 
-covered_parts : (a : ℕ) (b : Placed) → covers a b ≡ true → (header_at b ≤ a) × (a < end_of b)
-covered_parts a b h = let p = and_parts _ _ h in (leb-true (header_at b) a p.0, ltb-true a (end_of b) p.1)
+covered_parts : (a : ℕ) (b : Placed) → covers a b ≡ true → (header_address b ≤ a) × (a < block_end b)
+covered_parts a b h = let p = and_parts _ _ h in (leb-true (header_address b) a p.0, ltb-true a (block_end b) p.1)
 
 -- an address of a block that another one does not meet is not of that one
 apart_by : (b d : Placed) (a : ℕ) → covers a b ≡ true → covers a d ≡ true → is_apart b d ≡ false
 apart_by b d a h k =
     let p = covered_parts a b h in
     let q = covered_parts a d k in
-    or_from _ _ (lt-leb (end_of b + 8) d.start (omega (arith, p.0, p.1, q.0, q.1))) (lt-leb (end_of d + 8) b.start (omega (arith, p.0, p.1, q.0, q.1)))
+    or_from _ _ (lt-leb (block_end b + 8) d.start (omega (arith, p.0, p.1, q.0, q.1))) (lt-leb (block_end d + 8) b.start (omega (arith, p.0, p.1, q.0, q.1)))
 
 -- two blocks that no address is of
 apart_of :
@@ -71,7 +71,7 @@ apart_of :
     ((a : ℕ) → a % 8 ≡ 0 → covers a b ≡ true → covers a d ≡ false) → is_apart b d ≡ true
 apart_of b d x y lb ld none = by_test (is_apart b d) refl
   where
-    meets : b.start < end_of d + 8 → d.start < end_of b + 8 → ⊥
+    meets : b.start < block_end d + 8 → d.start < block_end b + 8 → ⊥
     meets h k = by_order (cases_lt b.start d.start)
       where
         both : (a : ℕ) → a % 8 ≡ 0 → covers a b ≡ true → covers a d ≡ true → ⊥
@@ -85,7 +85,7 @@ apart_of b d x y lb ld none = by_test (is_apart b d) refl
     by_test true e = e
     by_test false e =
         let p = or_parts _ _ e in
-        absurd (meets (leb-false (end_of d + 8) b.start p.1) (leb-false (end_of b + 8) d.start p.0))
+        absurd (meets (leb-false (block_end d + 8) b.start p.1) (leb-false (block_end b + 8) d.start p.0))
 
 all_apart :
     (heap : ℕ) (b : Placed) (done : List Placed) → is_in_heap heap b ≡ true → list_all (is_in_heap heap) done ≡ true →

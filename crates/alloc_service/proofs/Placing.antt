@@ -5,27 +5,27 @@ use Rattle.std.specs.Prelude.{◌==◌}
 use Rattle.std.specs.List.{AllByRecursion, list_all}
 use Rattle.std.proofs.lemmas.Bool.{and_parts, cases_eq, ne_eqb}
 use Rattle.image_form.specs.Tables.{Tables}
-use Rattle.rv_machine.specs.Relocation.{is_in_code, is_in_data, is_root, is_start}
+use Rattle.rv_machine.specs.Relocation.{is_in_code, is_in_data, is_root_word, is_start}
 use Rattle.rv_machine.specs.Hart.{Placed}
 use Rattle.rv_machine.specs.Marks.{Marks}
 use Rattle.rv_machine.specs.Moving.{copied, is_scanned, moved_memory, redirected, vacated, rewritten, rewritten_block, rewritten_cells}
-use Rattle.rv_machine.specs.Placement.{bytes_used, header_at, is_in_heap, placed_at}
-use Rattle.rv_machine.specs.Space.{IsKept, HasCells}
-use Rattle.rv_machine.specs.Memory.{Region, put, word, words_at}
-use Rattle.alloc_service.specs.Forward.{IsForward, IsLow, IsPlaced, IsSmall, forward, forwarded, mark_or, poured, redirected_now, root_by, words_moved, words_of}
+use Rattle.rv_machine.specs.Placement.{bytes_used, header_address, is_in_heap, placed_at}
+use Rattle.rv_machine.specs.Space.{IsHeapBlock, HasCells}
+use Rattle.rv_machine.specs.Memory.{Region, put, memory_word, words_at}
+use Rattle.alloc_service.specs.Forward.{IsForward, IsLow, IsPlaced, IsSmall, forward, forwarded, mark_or, poured, redirected_now, root_by, words_moved, words_of_blocks}
 use Rattle.machine_laws.proofs.Apart.{all_of, all-append, all-reverse}
 use Rattle.machine_laws.proofs.Chain.{IsYoung}
 use Rattle.machine_laws.proofs.Rise.{Rise}
 use Rattle.alloc_service.proofs.Words.{both_now}
 use Rattle.machine_laws.proofs.InHeap.{covered_place, ends_below, in_heap, young_place}
 
-pub kept_low : (heap : ℕ) (b : Placed) → heap ≤ 67108864 → IsKept heap b → IsLow b
+pub kept_low : (heap : ℕ) (b : Placed) → heap ≤ 67108864 → IsHeapBlock heap b → IsLow b
 kept_low heap b m k =
     let p = in_heap heap b k.inside in
     let e = ends_below heap b m k.inside in
     record { low = omega (arith, e); high = omega (arith, p.low); some = k.some }
 
-kept_placed : (heap : ℕ) (b : Placed) → heap ≤ 67108864 → IsKept heap b → IsPlaced heap b
+kept_placed : (heap : ℕ) (b : Placed) → heap ≤ 67108864 → IsHeapBlock heap b → IsPlaced heap b
 kept_placed heap b m k =
     let p = in_heap heap b k.inside in
     let e = ends_below heap b m k.inside in
@@ -46,17 +46,17 @@ young_low b y = record { low = omega (arith, y.most, y.high); high = omega (arit
 -- ---- lists
 
 pub all_placed :
-    (heap : ℕ) (old found : List Placed) → heap ≤ 67108864 → AllByRecursion (IsKept heap) old → AllByRecursion IsYoung found →
+    (heap : ℕ) (old found : List Placed) → heap ≤ 67108864 → AllByRecursion (IsHeapBlock heap) old → AllByRecursion IsYoung found →
     AllByRecursion (IsPlaced heap) (old ++ reverse found)
 all_placed heap old found m x y =
-    all-append (IsPlaced heap) old (reverse found) (all_of (IsKept heap) (IsPlaced heap) (λ b k. kept_placed heap b m k) old x)
+    all-append (IsPlaced heap) old (reverse found) (all_of (IsHeapBlock heap) (IsPlaced heap) (λ b k. kept_placed heap b m k) old x)
     (all-reverse (IsPlaced heap) found (all_of IsYoung (IsPlaced heap) (λ b k. young_placed heap b k) found y))
 
 pub all_low :
-    (heap : ℕ) (old found : List Placed) → heap ≤ 67108864 → AllByRecursion (IsKept heap) old → AllByRecursion IsYoung found →
+    (heap : ℕ) (old found : List Placed) → heap ≤ 67108864 → AllByRecursion (IsHeapBlock heap) old → AllByRecursion IsYoung found →
     AllByRecursion IsLow (old ++ reverse found)
 all_low heap old found m x y =
-    all-append IsLow old (reverse found) (all_of (IsKept heap) IsLow (λ b k. kept_low heap b m k) old x)
+    all-append IsLow old (reverse found) (all_of (IsHeapBlock heap) IsLow (λ b k. kept_low heap b m k) old x)
     (all-reverse IsLow found (all_of IsYoung IsLow young_low found y))
 
 pub small_of : (heap : ℕ) (bs : List Placed) → AllByRecursion (IsPlaced heap) bs → AllByRecursion IsSmall bs
@@ -95,11 +95,11 @@ same_function f g h = fun_ext h
 
 -- ---- words
 
-pub words_bound : (bs : List Placed) → 8 * words_of bs ≡ bytes_used bs
+pub words_bound : (bs : List Placed) → 8 * words_of_blocks bs ≡ bytes_used bs
 words_bound [] = refl
 words_bound (b ∷ bs) = omega (arith, words_bound bs)
 
-pub new_words : (bs : List Placed) (ss : List ℕ) → words_of (placed_at bs ss) ≡ words_of bs
+pub new_words : (bs : List Placed) (ss : List ℕ) → words_of_blocks (placed_at bs ss) ≡ words_of_blocks bs
 new_words [] ss = refl
 new_words (b ∷ bs) [] = refl
 new_words (b ∷ bs) (s ∷ ss) = ap (λ n. suc b.words + n) (new_words bs ss)
@@ -117,13 +117,13 @@ length-cells true f xs = length-map f xs
 length-cells false f xs = refl
 
 pub length-block : (f : ℕ → ℕ) (m : List Region) (b : Placed) → length (rewritten_block f m b) ≡ suc b.words
-length-block f m b = ap (λ k. suc k) (length-cells (is_scanned (word m (header_at b))) f (words_at m b.start b.words) ∙ length-words_at m b.start b.words)
+length-block f m b = ap (λ k. suc k) (length-cells (is_scanned (memory_word m (header_address b))) f (words_at m b.start b.words) ∙ length-words_at m b.start b.words)
 
 length-both : (xs ys : List ℕ) → length (xs ++ ys) ≡ length xs + length ys
 length-both [] ys = omega arith
 length-both (x ∷ xs) ys = omega (arith, length-both xs ys)
 
-pub length-moved : (f : ℕ → ℕ) (m : List Region) (bs : List Placed) → length (words_moved f m bs) ≡ words_of bs
+pub length-moved : (f : ℕ → ℕ) (m : List Region) (bs : List Placed) → length (words_moved f m bs) ≡ words_of_blocks bs
 length-moved f m [] = refl
 length-moved f m (b ∷ bs) = length-both (rewritten_block f m b) (words_moved f m bs) ∙ omega (arith, length-block f m b, length-moved f m bs)
 
@@ -184,5 +184,5 @@ marked_start heap (b ∷ bs) (s ∷ ss) w e h =
 
 pub roots_are :
     (heap : ℕ) (image : Tables) (t : Marks) (bs : List Placed) (ss : List ℕ) → IsForward t bs ss → length ss ≡ length bs → list_all (is_in_heap heap) (placed_at bs ss) ≡ true →
-    root_by image t ≡ is_root image bs
+    root_by image t ≡ is_root_word image bs
 roots_are heap image t bs ss f e h = fun_ext (λ w. ap (λ m. (w % 2 == 1) || m || is_in_data image w || is_in_code image w) (ap (λ m. not (m == 0)) (f.each w) ∙ marked_start heap bs ss w e h))

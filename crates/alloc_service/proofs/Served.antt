@@ -4,11 +4,11 @@ use Rattle.std.proofs.Common.{◌≡◌, ℕ, zero, suc, ◌+◌, ◌≤◌, Boo
 use Rattle.std.specs.List.{list_all}
 use Rattle.std.proofs.lemmas.Bool.{cond-true, cond-false, le-leb}
 use Rattle.rv_machine.specs.Allocation.{after_request}
-use Rattle.rv_machine.specs.Relocation.{Serviced, Goes, NoHeap, Refused, and_then, are_roots, emptied, is_root, with_blocks, with_frames}
-use Rattle.rv_machine.specs.Step.{count, counted}
+use Rattle.rv_machine.specs.Relocation.{Serviced, Goes, NoHeap, Refused, serve_then, are_roots, emptied, is_root_word, with_blocks, with_frames}
+use Rattle.rv_machine.specs.Step.{count, with_retired_counted}
 use Rattle.rv_machine.specs.Frames.{Frame, frames, registers_of, slots_of}
 use Rattle.rv_machine.specs.Hart.{Hart, Placed, past_ecall, register}
-use Rattle.rv_machine.specs.Memory.{word}
+use Rattle.rv_machine.specs.Memory.{memory_word}
 use Rattle.rv_machine.specs.Observation.{blocks_at, young_blocks}
 use Rattle.rv_machine.specs.Placement.{bytes_used, new_places}
 use Rattle.rv_machine.specs.declared.cause.Cause.{Cause}
@@ -60,7 +60,7 @@ module _ (plan : List Placed → List ℕ) (h : Hart) (found : List Placed) (fro
 
   roots_same : slice_index h.registers 0 ≡ 0 → (fs : List Frame) → are_roots entered fs ≡ roots_at h.image parts fs
   roots_same z fs =
-      ap (λ (g : ℕ → ℕ). list_all (λ r. is_root h.image (h.blocks ++ reverse found) (g r)) (registers_of fs) && list_all (λ a. is_root h.image (h.blocks ++ reverse found) (word h.memory a)) (slots_of fs))
+      ap (λ (g : ℕ → ℕ). list_all (λ r. is_root_word h.image (h.blocks ++ reverse found) (g r)) (registers_of fs) && list_all (λ a. is_root_word h.image (h.blocks ++ reverse found) (memory_word h.memory a)) (slots_of fs))
       (fun_ext (read_by z))
 
   pub bad_root :
@@ -92,24 +92,24 @@ module _ (plan : List Placed → List ℕ) (h : Hart) (found : List Placed) (fro
 
 -- the young area is emptied and the ECALL retires
 pub requested : (bytes : ℕ) (came : Serviced) (mid : Hart) → with_counts services_counted came ≡ Goes mid
-    → with_counts both_counted (and_then (after_request bytes) came) ≡ Goes (counted (past_ecall (emptied bytes mid)))
-requested bytes (Goes h) mid e = let same : services_counted h ≡ mid = cc in ap (λ (g : Hart). Goes (counted (past_ecall (emptied bytes g)))) same
+    → with_counts both_counted (serve_then (after_request bytes) came) ≡ Goes (with_retired_counted (past_ecall (emptied bytes mid)))
+requested bytes (Goes h) mid e = let same : services_counted h ≡ mid = cc in ap (λ (g : Hart). Goes (with_retired_counted (past_ecall (emptied bytes g)))) same
 requested bytes NoHeap mid e = absurd cc
 requested bytes (Refused cause) mid e = absurd cc
 
 pub emptied_so : (came : Serviced) (mid : Hart) → with_counts services_counted came ≡ Goes mid
-    → with_counts services_counted (and_then (λ g. Goes (emptied 0 g)) came) ≡ Goes (emptied 0 mid)
+    → with_counts services_counted (serve_then (λ g. Goes (emptied 0 g)) came) ≡ Goes (emptied 0 mid)
 emptied_so (Goes h) mid e = let same : services_counted h ≡ mid = cc in ap (λ (g : Hart). Goes (emptied 0 g)) same
 emptied_so NoHeap mid e = absurd cc
 emptied_so (Refused cause) mid e = absurd cc
 
 -- a service that has ended has ended whatever comes after it
-pub no_heap : (counts counts' : Hart → Hart) (next : Hart → Serviced) (came : Serviced) → with_counts counts came ≡ NoHeap → with_counts counts' (and_then next came) ≡ NoHeap
+pub no_heap : (counts counts' : Hart → Hart) (next : Hart → Serviced) (came : Serviced) → with_counts counts came ≡ NoHeap → with_counts counts' (serve_then next came) ≡ NoHeap
 no_heap counts counts' next (Goes h) e = absurd cc
 no_heap counts counts' next NoHeap e = refl
 no_heap counts counts' next (Refused cause) e = absurd cc
 
-pub refused : (counts counts' : Hart → Hart) (next : Hart → Serviced) (came : Serviced) (cause : Cause) → with_counts counts came ≡ Refused cause → with_counts counts' (and_then next came) ≡ Refused cause
+pub refused : (counts counts' : Hart → Hart) (next : Hart → Serviced) (came : Serviced) (cause : Cause) → with_counts counts came ≡ Refused cause → with_counts counts' (serve_then next came) ≡ Refused cause
 refused counts counts' next (Goes h) cause e = absurd cc
 refused counts counts' next NoHeap cause e = absurd cc
 refused counts counts' next (Refused other) cause e = e

@@ -11,10 +11,10 @@ use Rattle.image_form.specs.Tables.{Desc, Tables, desc}
 use Rattle.image_form.specs.declared.image.DescRow.{DescRow}
 use Rattle.image_form.specs.declared.image.Image as declared
 use Rattle.rv_machine.proofs.Found.{found_has}
-use Rattle.rv_machine.specs.Relocation.{root_cells}
+use Rattle.rv_machine.specs.Relocation.{root_addresses}
 use Rattle.bs_words.specs.Fits.{data_start}
 use Rattle.rv_machine.specs.Frames.{Frame, descriptor_at, frame_then, frames_from, is_frame, is_register, is_stack_word, most_frames, registers_named, registers_of, return_slot, slots_named, slots_of}
-use Rattle.rv_machine.specs.Memory.{Region, code_start, word}
+use Rattle.rv_machine.specs.Memory.{Region, code_start, memory_word}
 use Rattle.alloc_service.specs.Forward.{redirected_now, roots_by}
 use Rattle.machine_laws.proofs.Rise.{Rise, none_above, rise_low, rise-append}
 use Rattle.alloc_service.proofs.Words.{redirected-append, kept}
@@ -25,33 +25,33 @@ module _ (descs : List Desc) (base : ℕ) (m : List Region) where
   pub at_stub : (most : ℕ) (first : Bool) (address at : ℕ) → 0 < most → address ≡ code_start → frames_from most descs base m first address at ≡ Some []
   at_stub zero first address at h e = absurd (omega arith)
   at_stub (suc most) first address at h e =
-      ap (λ t. cond t (Some []) (option_and_then (λ (d : Desc). frame_then (is_frame first base at d) at d (frames_from most descs base m false (word m (return_slot at d)) (add_word at d.size))) (descriptor_at descs address)))
+      ap (λ t. cond t (Some []) (option_and_then (λ (d : Desc). frame_then (is_frame first base at d) at d (frames_from most descs base m false (memory_word m (return_slot at d)) (add_word at d.size))) (descriptor_at descs address)))
       (eq-eqb address code_start e)
 
   below_stub :
       (most : ℕ) (first : Bool) (address at : ℕ) → 0 < most → (address ≡ code_start → ⊥) →
       frames_from most descs base m first address at
-      ≡ option_and_then (λ (d : Desc). frame_then (is_frame first base at d) at d (frames_from (most - 1) descs base m false (word m (return_slot at d)) (add_word at d.size))) (descriptor_at descs address)
+      ≡ option_and_then (λ (d : Desc). frame_then (is_frame first base at d) at d (frames_from (most - 1) descs base m false (memory_word m (return_slot at d)) (add_word at d.size))) (descriptor_at descs address)
   below_stub zero first address at h e = absurd (omega arith)
   below_stub (suc most) first address at h e =
       let n : most ≡ suc most - 1 = omega arith in
-      ap (λ t. cond t (Some []) (option_and_then (λ (d : Desc). frame_then (is_frame first base at d) at d (frames_from most descs base m false (word m (return_slot at d)) (add_word at d.size))) (descriptor_at descs address)))
+      ap (λ t. cond t (Some []) (option_and_then (λ (d : Desc). frame_then (is_frame first base at d) at d (frames_from most descs base m false (memory_word m (return_slot at d)) (add_word at d.size))) (descriptor_at descs address)))
       (ne_eqb address code_start e)
-      ∙ ap (λ k. option_and_then (λ (d : Desc). frame_then (is_frame first base at d) at d (frames_from k descs base m false (word m (return_slot at d)) (add_word at d.size))) (descriptor_at descs address)) n
+      ∙ ap (λ k. option_and_then (λ (d : Desc). frame_then (is_frame first base at d) at d (frames_from k descs base m false (memory_word m (return_slot at d)) (add_word at d.size))) (descriptor_at descs address)) n
 
   pub no_desc : (most : ℕ) (first : Bool) (address at : ℕ) → 0 < most → (address ≡ code_start → ⊥) → descriptor_at descs address ≡ None → frames_from most descs base m first address at ≡ None
   no_desc most first address at h e d =
       below_stub most first address at h e
-      ∙ ap (option_and_then (λ (d : Desc). frame_then (is_frame first base at d) at d (frames_from (most - 1) descs base m false (word m (return_slot at d)) (add_word at d.size)))) d
+      ∙ ap (option_and_then (λ (d : Desc). frame_then (is_frame first base at d) at d (frames_from (most - 1) descs base m false (memory_word m (return_slot at d)) (add_word at d.size)))) d
 
   -- the frame there, before the frames above it
   pub one_frame :
       (most : ℕ) (first : Bool) (address at : ℕ) (d : Desc) → 0 < most → (address ≡ code_start → ⊥) → descriptor_at descs address ≡ Some d →
       frames_from most descs base m first address at
-      ≡ frame_then (is_frame first base at d) at d (frames_from (most - 1) descs base m false (word m (return_slot at d)) (add_word at d.size))
+      ≡ frame_then (is_frame first base at d) at d (frames_from (most - 1) descs base m false (memory_word m (return_slot at d)) (add_word at d.size))
   one_frame most first address at d h e s =
       below_stub most first address at h e
-      ∙ ap (option_and_then (λ (d : Desc). frame_then (is_frame first base at d) at d (frames_from (most - 1) descs base m false (word m (return_slot at d)) (add_word at d.size)))) s
+      ∙ ap (option_and_then (λ (d : Desc). frame_then (is_frame first base at d) at d (frames_from (most - 1) descs base m false (memory_word m (return_slot at d)) (add_word at d.size)))) s
 
 -- ---- descriptors of an image
 
@@ -79,16 +79,16 @@ regrouped true true true c = refl
 -- what is left of a survey, once a frame was looked at
 pub surveyed :
     (test : ℕ → Bool) (registers : List ℕ) (m : List Region) (first fine here : Bool) (f : Frame) (o : Option (List Frame)) →
-    here ≡ (cond first (list_all (λ r. test (slice_index registers r)) (registers_named f.desc.entries)) true && list_all (λ a. test (word m a)) (slots_named f.at f.desc.entries)) →
+    here ≡ (cond first (list_all (λ r. test (slice_index registers r)) (registers_named f.desc.entries)) true && list_all (λ a. test (memory_word m a)) (slots_named f.at f.desc.entries)) →
     option_map (λ (fs : List Frame). fine && roots_by test registers m first fs) (option_map (λ (fs : List Frame). f ∷ fs) o)
     ≡ option_map (λ (fs : List Frame). (fine && here) && roots_by test registers m false fs) o
 surveyed test registers m first fine here f None h = refl
 surveyed test registers m first fine here f (Some fs) h =
     let regs = cond first (list_all (λ r. test (slice_index registers r)) (registers_named f.desc.entries)) true in
-    let slots = list_all (λ a. test (word m a)) (slots_named f.at f.desc.entries) in
-    let rest = list_all (λ a. test (word m a)) (slots_of fs) in
+    let slots = list_all (λ a. test (memory_word m a)) (slots_named f.at f.desc.entries) in
+    let rest = list_all (λ a. test (memory_word m a)) (slots_of fs) in
     ap Some
-    (ap (λ b. fine && (regs && b)) (all-append (λ a. test (word m a)) (slots_named f.at f.desc.entries) (slots_of fs))
+    (ap (λ b. fine && (regs && b)) (all-append (λ a. test (memory_word m a)) (slots_named f.at f.desc.entries) (slots_of fs))
     ∙ regrouped fine regs slots rest ∙ ap (λ b. (fine && b) && (true && rest)) (sym h))
 
 -- ---- where the places of a frame lie
@@ -138,10 +138,10 @@ even_slots base at size (e ∷ es) from low a few all next first in_stack reache
     let here : slots_named at (e ∷ es) ≡ add_word at e ∷ slots_named at es =
     cond-false (is_register e) (slots_named at es) (add_word at e ∷ slots_named at es) (not_register e first.0) in
     let parts = and_parts (is_stack_word base (add_word at e)) (list_all (is_stack_word base) (slots_named at es)) (ap (list_all (is_stack_word base)) (sym here) ∙ in_stack) in
-    let word = stack_word base (add_word at e) parts.0 in
-    let end = farther at e size a (omega arith) few word.1 in
+    let memory_word = stack_word base (add_word at e) parts.0 in
+    let end = farther at e size a (omega arith) few memory_word.1 in
     let later = even_slots base at size es (suc e) (suc (add_word at e)) a few all.1 next.1 (next_even e es first.0 next.0) parts.1
-    (λ g le lt in'. let there = farther at e g a (omega arith) (omega arith) word.1 in omega (arith, there)) in
+    (λ g le lt in'. let there = farther at e g a (omega arith) (omega arith) memory_word.1 in omega (arith, there)) in
     subst (Rise low (add_word at size)) (sym here)
     (reaches e first.1 small parts.0, omega (arith, end, small), later)
 
@@ -192,7 +192,7 @@ pub record Left (f : ℕ → ℕ) (descs : List Desc) (base : ℕ) (old now : Li
   pub rest : List Frame
   pub found : frames_from most descs base old first address at ≡ Some rest
   pub redirected : redirected_now f old (slots_of fs) ≡ redirected_now f now (slots_of rest)
-  pub above : (b : ℕ) → IsAbove first at b → word now b ≡ word old b
+  pub above : (b : ℕ) → IsAbove first at b → memory_word now b ≡ memory_word old b
   pub low : BeginsLow first at
 
 pub record Walks (f : ℕ → ℕ) (descs : List Desc) (base : ℕ) (old now : List Region) (from sp most : ℕ) (first : Bool) (address at : ℕ) : Type 0 where
@@ -238,12 +238,12 @@ module _ (f : ℕ → ℕ) (descs : List Desc) (base : ℕ) (old now new : List 
   pub walks_more :
       0 < most → (address ≡ code_start → ⊥) → descriptor_at descs address ≡ Some d → IsDesc version code d → at < 2 ^ 64 →
       new ≡ redirected_now f now (slots_named at d.entries) → Walks f descs base old now from sp most first address at →
-      Walks f descs base old new from sp (most - 1) false (word now (return_slot at d)) (add_word at d.size)
+      Walks f descs base old new from sp (most - 1) false (memory_word now (return_slot at d)) (add_word at d.size)
   walks_more some below is rules a rewritten walks = record { each = λ fs e. step (walks.each fs e) }
     where
-      step : {fs : List Frame} → Left f descs base old now fs most first address at → Left f descs base old new fs (most - 1) false (word now (return_slot at d)) (add_word at d.size)
+      step : {fs : List Frame} → Left f descs base old now fs most first address at → Left f descs base old new fs (most - 1) false (memory_word now (return_slot at d)) (add_word at d.size)
       step {fs} l =
-          let fr = framed (is_frame first base at d) at d (frames_from (most - 1) descs base old false (word old (return_slot at d)) (add_word at d.size)) l.rest
+          let fr = framed (is_frame first base at d) at d (frames_from (most - 1) descs base old false (memory_word old (return_slot at d)) (add_word at d.size)) l.rest
           (sym (one_frame descs base old most first address at d some below is) ∙ l.found) in
           let s = in_stack version code first base at d rules a fr.fits in
           let rise = frame_slots base at d.size d.entries base a s.few rules.entries rules.in_order s.slots (reaches_from base at d.size base s.few (inl (omega arith))) in
@@ -256,7 +256,7 @@ module _ (f : ℕ → ℕ) (descs : List Desc) (base : ℕ) (old now new : List 
                 ∙ redirected-append f now (slots_named at d.entries) (slots_of fr.tail)
                 ∙ ap (λ m. redirected_now f m (slots_of fr.tail)) (sym rewritten);
             above = λ b h.
-                ap (λ m. word m b) rewritten ∙ kept f now (slots_named at d.entries) b (none_above base (add_word at d.size) b (slots_named at d.entries) h rise)
+                ap (λ m. memory_word m b) rewritten ∙ kept f now (slots_named at d.entries) b (none_above base (add_word at d.size) b (slots_named at d.entries) h rise)
                 ∙ l.above b (above_by first at b l.low (λ k. let same = no_wrap at d.size k s.few in omega (arith, same, h)));
             low = s.high;
           }
@@ -310,12 +310,12 @@ module _ (descs : List Desc) (version code base : ℕ) (m : List Region) (rules 
 
   stacked_one :
       (most : ℕ) (first : Bool) (address at : ℕ) (fs : List Frame) (d : Desc) → at < 2 ^ 64 → descriptor_at descs address ≡ Some d →
-      Framed (is_frame first base at d) (record { at = at; desc = d }) (frames_from most descs base m false (word m (return_slot at d)) (add_word at d.size)) fs →
+      Framed (is_frame first base at d) (record { at = at; desc = d }) (frames_from most descs base m false (memory_word m (return_slot at d)) (add_word at d.size)) fs →
       ((address at : ℕ) (fs : List Frame) → at < 2 ^ 64 → frames_from most descs base m false address at ≡ Some fs → Stacked at fs) → Stacked at fs
   stacked_one most first address at fs d a found fr later =
       let r = found_has (IsDesc version code) (λ (d : Desc). code_start + d.after == address) descs d rules found in
       let s = in_stack version code first base at d r a fr.fits in
-      let next = later (word m (return_slot at d)) (add_word at d.size) fr.tail (omega (arith, s.high)) fr.found in
+      let next = later (memory_word m (return_slot at d)) (add_word at d.size) fr.tail (omega (arith, s.high)) fr.found in
       let there : Rise (add_word at d.size) 0x40000000 (slots_of fr.tail) = next.slots (add_word at d.size) (inr (omega arith, s.high)) in
       subst (Stacked at) fr.is (record {
         slots = λ low floor.
@@ -338,8 +338,8 @@ module _ (descs : List Desc) (version code base : ℕ) (m : List Region) (rules 
       by_desc None o n later = let none = no_desc descs base m (suc most) first address at (omega arith) n o in absurd (cc (none, e))
       by_desc (Some d) o n later =
           let k : suc most - 1 ≡ most = omega arith in
-          let one : frame_then (is_frame first base at d) at d (frames_from most descs base m false (word m (return_slot at d)) (add_word at d.size)) ≡ Some fs =
-          ap (λ j. frame_then (is_frame first base at d) at d (frames_from j descs base m false (word m (return_slot at d)) (add_word at d.size))) (sym k)
+          let one : frame_then (is_frame first base at d) at d (frames_from most descs base m false (memory_word m (return_slot at d)) (add_word at d.size)) ≡ Some fs =
+          ap (λ j. frame_then (is_frame first base at d) at d (frames_from j descs base m false (memory_word m (return_slot at d)) (add_word at d.size))) (sym k)
           ∙ sym (one_frame descs base m (suc most) first address at d (omega arith) n o) ∙ e in
           stacked_one most first address at fs d a o (framed (is_frame first base at d) at d _ fs one) later
 
@@ -371,7 +371,7 @@ any_root [] = tt
 any_root (r ∷ rs) = omega arith
 
 -- the root cells rise, below the stack
-pub cells_rise : (image : Tables) → AreTables image → Rise 0x10000000 0x20000000 (root_cells image)
+pub cells_rise : (image : Tables) → AreTables image → Rise 0x10000000 0x20000000 (root_addresses image)
 cells_rise image t =
-    rise_low 0x10000000 (0x10000000 + 0) 0x20000000 (root_cells image) (omega arith)
+    rise_low 0x10000000 (0x10000000 + 0) 0x20000000 (root_addresses image) (omega arith)
     (roots_rise (length image.bytes) image.roots 0 t.bytes.short t.roots.each t.roots.rising (any_root image.roots))

@@ -1,7 +1,7 @@
 -- Words of the memory, after others were written.
 use Rattle.std.proofs.Common.{◌≡◌, ◌≢◌, ℕ, suc, ◌<◌, ◌≤◌, List, [], ◌∷◌, ◌++◌, slice_index, refl, ap, arith, ◌∙◌, sym}
 use Rattle.std.specs.List.{AllByRecursion}
-use Rattle.rv_machine.specs.Memory.{Region, word, write}
+use Rattle.rv_machine.specs.Memory.{Region, memory_word, write}
 use Rattle.rv_machine.specs.Hart.{with_register}
 use Rattle.rv_machine.specs.Moving.{redirected, redirected_registers}
 use Rattle.machine_laws.proofs.Memory.{other_word}
@@ -14,29 +14,29 @@ use Rattle.alloc_service.specs.Forward.{redirected_now, redirected_registers_now
 module _ (f : ℕ → ℕ) where
   pub redirected-append : (m : List Region) (as' bs : List ℕ) → redirected_now f m (as' ++ bs) ≡ redirected_now f (redirected_now f m as') bs
   redirected-append m [] bs = refl
-  redirected-append m (a ∷ as') bs = redirected-append (write m a (f (word m a))) as' bs
+  redirected-append m (a ∷ as') bs = redirected-append (write m a (f (memory_word m a))) as' bs
 
   -- a word that is none of them stays
-  pub kept : (m : List Region) (as' : List ℕ) (b : ℕ) → AllByRecursion (λ a. a ≢ b) as' → word (redirected_now f m as') b ≡ word m b
+  pub kept : (m : List Region) (as' : List ℕ) (b : ℕ) → AllByRecursion (λ a. a ≢ b) as' → memory_word (redirected_now f m as') b ≡ memory_word m b
   kept m [] b n = refl
-  kept m (a ∷ as') b n = kept (write m a (f (word m a))) as' b n.1 ∙ other_word m a b (f (word m a)) n.0
+  kept m (a ∷ as') b n = kept (write m a (f (memory_word m a))) as' b n.1 ∙ other_word m a b (f (memory_word m a)) n.0
 
 -- ---- words read from the old state, and as they are
 
 -- the numbers that rise from a bound on are rewritten alike, where the words there are the old ones
 pub now_is :
     (f : ℕ → ℕ) (old : List Region) (as' : List ℕ) (m : List Region) (low high : ℕ) → Rise low high as' →
-    ((b : ℕ) → low ≤ b → b < high → word m b ≡ word old b) → redirected f old m as' ≡ redirected_now f m as'
+    ((b : ℕ) → low ≤ b → b < high → memory_word m b ≡ memory_word old b) → redirected f old m as' ≡ redirected_now f m as'
 now_is f old [] m low high r same = refl
 now_is f old (a ∷ as') m low high r same =
-    let here : word m a ≡ word old a = same a r.0 r.1 in
-    let v = f (word m a) in
+    let here : memory_word m a ≡ memory_word old a = same a r.0 r.1 in
+    let v = f (memory_word m a) in
     ap (λ w. redirected f old (write m a (f w)) as') (sym here)
     ∙ now_is f old as' (write m a v) (suc a) high r.2 (λ b h k. other_word m a b v (λ e. omega arith) ∙ same b (omega (arith, r.0)) k)
 
 pub then_is : (f : ℕ → ℕ) (old m : List Region) (as' bs : List ℕ) → redirected f old m (as' ++ bs) ≡ redirected f old (redirected f old m as') bs
 then_is f old m [] bs = refl
-then_is f old m (a ∷ as') bs = then_is f old (write m a (f (word old a))) as' bs
+then_is f old m (a ∷ as') bs = then_is f old (write m a (f (memory_word old a))) as' bs
 
 -- two parts that rise, the second below the first
 pub both_now :

@@ -3,10 +3,10 @@ use Rattle.std.specs.Prelude.{◌≡◌, ℕ, ◌/◌, ◌≤◌, Bool, true, fa
 use Rattle.std.specs.List.{list_all}
 use Rattle.std.specs.Vec.{vec_capacity}
 use Rattle.image_form.specs.Tables.{Tables}
-use Rattle.rv_machine.specs.Relocation.{is_root, root_cells}
+use Rattle.rv_machine.specs.Relocation.{is_root_word, root_addresses}
 use Rattle.rv_machine.specs.Frames.{Frame, frames_from, most_frames, registers_of, slots_of}
 use Rattle.rv_machine.specs.Hart.{Placed}
-use Rattle.rv_machine.specs.Memory.{Region, word}
+use Rattle.rv_machine.specs.Memory.{Region, memory_word}
 use Rattle.rv_machine.specs.Moving.{moved_memory, redirected_registers, rewritten}
 use Rattle.rv_machine.specs.Placement.{is_in_heap, new_places, placed_at}
 use Rattle.rv_machine.specs.declared.space.Space.{Space}
@@ -37,20 +37,20 @@ frames_at image caller p =
 
 abbrev pub roots_at : Tables → Parts → List Frame → Bool
 roots_at image p fs =
-    list_all (λ r. is_root image p.blocks (slice_index p.registers r)) (registers_of fs)
-    && list_all (λ a. is_root image p.blocks (word p.memory a)) (slots_of fs)
+    list_all (λ r. is_root_word image p.blocks (slice_index p.registers r)) (registers_of fs)
+    && list_all (λ a. is_root_word image p.blocks (memory_word p.memory a)) (slots_of fs)
 
 -- the parts once the blocks have moved
 abbrev pub moved_to : Tables → List Placed → List Frame → Parts → Parts
 moved_to image news fs p = record {
   registers = redirected_registers (rewritten p.blocks news) p.registers (registers_of fs) p.registers;
-  memory = moved_memory p.blocks news p.memory (slots_of fs ++ root_cells image);
+  memory = moved_memory p.blocks news p.memory (slots_of fs ++ root_addresses image);
   blocks = news;
 }
 
 -- the blocks have moved, where the caller has frames
-abbrev pub Moves : Tables → Caller → List Placed → Parts → Parts → Type 0
-Moves image caller news old new =
+abbrev pub MovesForCaller : Tables → Caller → List Placed → Parts → Parts → Type 0
+MovesForCaller image caller news old new =
     (fs : List Frame) → frames_at image caller old ≡ Some fs → new ≡ moved_to image news fs old
 
 -- what a service comes to from the stack walk on

@@ -5,10 +5,10 @@ use Rattle.image_form.specs.Tables.{Desc, Tables}
 use Rattle.rv_machine.specs.Relocation.{is_in_data, is_in_code}
 use Rattle.rv_machine.specs.Frames.{Frame, frames_from, most_frames, registers_of, slots_of}
 use Rattle.rv_machine.specs.Hart.{Placed, with_register}
-use Rattle.rv_machine.specs.Marks.{Marks, mark_at, place_of}
-use Rattle.rv_machine.specs.Memory.{Region, word, write, put}
+use Rattle.rv_machine.specs.Marks.{Marks, mark_at, mark_index}
+use Rattle.rv_machine.specs.Memory.{Region, memory_word, write, put}
 use Rattle.rv_machine.specs.Moving.{rewritten_block}
-use Rattle.rv_machine.specs.Placement.{header_at, end_of}
+use Rattle.rv_machine.specs.Placement.{header_address, block_end}
 
 -- ---- marks
 
@@ -38,14 +38,14 @@ root_by image table w = (w % 2 == 1) || not (mark_at table w == 0) || is_in_data
 abbrev pub roots_by : (ℕ → Bool) → List ℕ → List Region → Bool → List Frame → Bool
 roots_by test registers m first fs =
     cond first (list_all (λ r. test (slice_index registers r)) (registers_of fs)) true
-    && list_all (λ a. test (word m a)) (slots_of fs)
+    && list_all (λ a. test (memory_word m a)) (slots_of fs)
 
 -- ---- words that move
 
 -- the words at these addresses are rewritten, each as it is when its turn comes
 abbrev pub redirected_now : (ℕ → ℕ) → List Region → List ℕ → List Region
 redirected_now f m [] = m
-redirected_now f m (a ∷ as') = redirected_now f (write m a (f (word m a))) as'
+redirected_now f m (a ∷ as') = redirected_now f (write m a (f (memory_word m a))) as'
 
 -- the places that the frames from a return address and a stack pointer on name are rewritten
 pub record Redirects (f : ℕ → ℕ) (descs : List Desc) (base : ℕ) (old new : List Region) (address sp : ℕ) : Type 0 where
@@ -62,22 +62,22 @@ redirected_registers_now f registers (r ∷ rs) =
 -- the words, as many as each block has with its header, poured to the blocks' places one after the other
 abbrev pub poured : List Region → List ℕ → List Placed → List Region
 poured m words [] = m
-poured m words (b ∷ bs) = poured (put m (header_at b) (take (suc b.words) words)) (drop (suc b.words) words) bs
+poured m words (b ∷ bs) = poured (put m (header_address b) (take (suc b.words) words)) (drop (suc b.words) words) bs
 
 -- the words of all blocks, as they are copied
 abbrev pub words_moved : (ℕ → ℕ) → List Region → List Placed → List ℕ
 words_moved f m blocks = flat_map (rewritten_block f m) blocks
 
 -- so many words of all blocks
-abbrev pub words_of : List Placed → ℕ
-words_of [] = 0
-words_of (b ∷ bs) = suc b.words + words_of bs
+abbrev pub words_of_blocks : List Placed → ℕ
+words_of_blocks [] = 0
+words_of_blocks (b ∷ bs) = suc b.words + words_of_blocks bs
 
 -- ---- claims
 
 -- an address lies in a block, header and all
 abbrev pub covers : ℕ → Placed → Bool
-covers a b = nat_le (header_at b) a && nat_lt a (end_of b)
+covers a b = nat_le (header_address b) a && nat_lt a (block_end b)
 
 abbrev pub is_covered : List Placed → ℕ → Bool
 is_covered blocks a = list_any (covers a) blocks
@@ -95,7 +95,7 @@ pub record IsSmall (b : Placed) : Type 0 where
 
 -- a block lies in the heap or in the young area, so that the table has a place for its start
 pub record IsPlaced (heap : ℕ) (b : Placed) : Type 0 where
-  pub place : IsSome (place_of heap b.start)
+  pub place : IsSome (mark_index heap b.start)
   pub small : IsSmall b
 
 -- a block whose addresses are far below 2 ^ 64

@@ -1,6 +1,6 @@
 -- What a plan asks for, and what a service reports.
 use Rattle.std.specs.Prelude.{◌≡◌, ℕ, List, []}
-use Rattle.rv_machine.specs.Relocation.{Serviced, Goes, NoHeap, Refused, and_then}
+use Rattle.rv_machine.specs.Relocation.{Serviced, Goes, NoHeap, Refused, serve_then}
 use Rattle.rv_machine.specs.Step.{count}
 use Rattle.rv_machine.specs.Hart.{Hart, Placed}
 use Rattle.rv_machine.specs.Placement.{drawn_plan}
@@ -24,7 +24,7 @@ both_counted h = record h { retired = count h.retired; services = count h.servic
 
 -- what came of a service, with its counts so
 abbrev pub with_counts : (Hart → Hart) → Serviced → Serviced
-with_counts counts came = and_then (λ h. Goes (counts h)) came
+with_counts counts came = serve_then (λ h. Goes (counts h)) came
 
 -- the report is what came of the service, and where that goes on, this is the machine then
 abbrev pub Serves : ServiceEnd → Serviced → Hart → Type 0
@@ -33,7 +33,7 @@ Serves reported.HeapOut came new = came ≡ NoHeap
 Serves (reported.Stopped cause) came new = came ≡ Refused cause
 
 -- a service that does not go on leaves the machine as it was
-abbrev pub Keeps : ServiceEnd → Hart → Hart → Type 0
-Keeps reported.Goes old new = Unit {0}
-Keeps reported.HeapOut old new = new ≡ old
-Keeps (reported.Stopped cause) old new = new ≡ old
+abbrev pub StaysUnlessServed : ServiceEnd → Hart → Hart → Type 0
+StaysUnlessServed reported.Goes old new = Unit {0}
+StaysUnlessServed reported.HeapOut old new = new ≡ old
+StaysUnlessServed (reported.Stopped cause) old new = new ≡ old

@@ -6,14 +6,14 @@ use Rattle.alloc_service.specs.declared.young.Taken.{Taken}
 use Rattle.alloc_service.specs.declared.young.Taken.TheVariants.{Entered, Broken, TooMany}
 
 -- whether there are whole blocks, and which
-abbrev pub Reads : Bool → Option (List Placed) → List Placed → Type 0
-Reads true young found = young ≡ Some found
-Reads false young found = young ≡ None
+abbrev pub ReadsYoung : Bool → Option (List Placed) → List Placed → Type 0
+ReadsYoung true young found = young ≡ Some found
+ReadsYoung false young found = young ≡ None
 
 -- the young blocks are taken into the table where they are whole and fit; else the table stays
-abbrev pub Takes : Taken → Option (List Placed) → ℕ → List Placed → List Placed → Type 0
-Takes Entered young heap old new =
+abbrev pub TakesYoung : Taken → Option (List Placed) → ℕ → List Placed → List Placed → Type 0
+TakesYoung Entered young heap old new =
     (found : List Placed) × (young ≡ Some found) × (new ≡ old ++ reverse found) × (bytes_used new ≤ heap)
-Takes Broken young heap old new = (young ≡ None) × (new ≡ old)
-Takes TooMany young heap old new =
+TakesYoung Broken young heap old new = (young ≡ None) × (new ≡ old)
+TakesYoung TooMany young heap old new =
     (found : List Placed) × (young ≡ Some found) × (heap < bytes_used (old ++ reverse found)) × (new ≡ old)

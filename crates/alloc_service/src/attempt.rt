@@ -8,8 +8,8 @@ ghost use Rattle.image_form.specs.Image.{IsImage};
 ghost use Rattle.image_form.specs.Tables.{desc, tables};
 ghost use Rattle.rv_machine.specs.Placement.{bytes_used, new_places, placed_at};
 ghost use Rattle.rv_machine.specs.Places.{most_room};
-ghost use Rattle.rv_machine.specs.Space.{IsKept, IsSpace};
-ghost use Rattle.alloc_service.specs.Attempt.{IsPrepared, Moves, Tries, parts, planned};
+ghost use Rattle.rv_machine.specs.Space.{IsHeapBlock, IsSpace};
+ghost use Rattle.alloc_service.specs.Attempt.{IsPrepared, MovesForCaller, Tries, parts, planned};
 ghost use Rattle.alloc_service.specs.Forward.{IsLow, IsPlaced, RedirectsFirst, forward};
 ghost use Rattle.alloc_service.specs.Plan.{plan_of};
 
@@ -97,7 +97,7 @@ pub fn attempt(
     ensures space { IsSpace caller.heap space.new }
     ensures table { caller.heap / 16 ≤ vec_capacity blocks.new }
     ensures zero { slice_index registers.new 0 ≡ 0 }
-    ensures kept { result ≡ Stack.Fine → AllByRecursion (IsKept caller.heap) blocks.new.items }
+    ensures kept { result ≡ Stack.Fine → AllByRecursion (IsHeapBlock caller.heap) blocks.new.items }
     ensures bytes { bytes_used blocks.new.items ≤ caller.heap }
 {
     let Caller {
@@ -142,7 +142,7 @@ fn move_all(
     requires placed { AllByRecursion (IsPlaced caller.heap) blocks.old.items }
     requires far { AllByRecursion IsLow blocks.old.items }
     requires fits { bytes_used blocks.old.items ≤ caller.heap }
-    ensures moved { Moves (tables image.now) caller
+    ensures moved { MovesForCaller (tables image.now) caller
         (placed_at blocks.old.items space.old.starts.items)
         (parts registers.old memory.old blocks.old.items)
         (parts registers.new memory.new blocks.new.items) }

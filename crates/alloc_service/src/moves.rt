@@ -5,14 +5,14 @@ ghost use Rattle.std.specs.Vec.{vec_len, vec_capacity};
 ghost use Rattle.bs_words.specs.Contents.{contents};
 ghost use Rattle.image_form.specs.Image.{IsImage};
 ghost use Rattle.image_form.specs.Tables.{desc, tables};
-ghost use Rattle.rv_machine.specs.Relocation.{root_cells};
+ghost use Rattle.rv_machine.specs.Relocation.{root_addresses};
 ghost use Rattle.rv_machine.specs.Frames.{is_register, registers_named, slots_named};
 ghost use Rattle.rv_machine.specs.Hart.{with_register};
-ghost use Rattle.rv_machine.specs.Memory.{code_start, put, words_at, write, word};
+ghost use Rattle.rv_machine.specs.Memory.{code_start, put, words_at, write, memory_word};
 ghost use Rattle.rv_machine.specs.Moving.{rewritten_block, rewritten_cells, vacated};
 ghost use Rattle.rv_machine.specs.Placement.{placed_at};
 ghost use Rattle.rv_machine.specs.Places.{stack_end, filler};
-ghost use Rattle.alloc_service.specs.Forward.{IsLow, Redirects, forward, poured, redirected_now, redirected_registers_now, words_moved, words_of};
+ghost use Rattle.alloc_service.specs.Forward.{IsLow, Redirects, forward, poured, redirected_now, redirected_registers_now, words_moved, words_of_blocks};
 
 use crate::forward::forward;
 use crate::stack::{STACK_END, descriptor_of};
@@ -26,7 +26,7 @@ use rv_machine::{BlockPlace, CODE_START, Memory, Table};
 /// Adds the words of all blocks, rewritten as they are to be copied.
 pub fn gather(memory: &Memory, table: &Table, blocks: &[BlockPlace], words: &mut Vec<u64>)
     requires small { AllByRecursion IsLow blocks.now }
-    requires room { vec_len words.old + words_of blocks.now ≤ vec_capacity words.old }
+    requires room { vec_len words.old + words_of_blocks blocks.now ≤ vec_capacity words.old }
     ensures gathered { words.new.items
         ≡ words.old.items ++ words_moved (forward table.now) memory.now blocks.now }
     ensures capacity { vec_capacity words.old ≤ vec_capacity words.new }
@@ -111,7 +111,7 @@ fn fill(memory: &mut Memory, from: u64, count: u64)
 /// Pours the words to the new places, as many to each as the block has with its header.
 pub fn pour(memory: &mut Memory, words: &[u64], blocks: &[BlockPlace])
     requires small { AllByRecursion IsLow blocks.now }
-    requires enough { length words.now ≡ words_of blocks.now }
+    requires enough { length words.now ≡ words_of_blocks blocks.now }
     ensures { memory.new ≡ poured memory.old words.now blocks.now }
 {
     let mut rest = words;
@@ -148,7 +148,7 @@ pub fn place(blocks: &mut Vec<BlockPlace>, starts: &[u64])
 // ---- what points to them
 
 fn redirect(memory: &mut Memory, table: &Table, address: u64)
-    ensures { memory.new ≡ write memory.old address (forward table.now (word memory.old address)) }
+    ensures { memory.new ≡ write memory.old address (forward table.now (memory_word memory.old address)) }
 {
     let word = forward(table, memory.word(address));
     memory.put(address, word);
@@ -157,7 +157,7 @@ fn redirect(memory: &mut Memory, table: &Table, address: u64)
 /// Rewrites the root cells.
 pub fn redirect_roots(memory: &mut Memory, table: &Table, image: &Image)
     ensures { memory.new
-        ≡ redirected_now (forward table.now) memory.old (root_cells (tables image.now)) }
+        ≡ redirected_now (forward table.now) memory.old (root_addresses (tables image.now)) }
 {
     for offset in image.roots.as_slice() {
         redirect(memory, table, DATA_START + u64::from(*offset));

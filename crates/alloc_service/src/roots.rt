@@ -6,7 +6,7 @@ ghost use Rattle.image_form.specs.Image.{IsImage};
 ghost use Rattle.image_form.specs.Tables.{desc, tables};
 ghost use Rattle.rv_machine.specs.Relocation.{is_in_code, is_in_data};
 ghost use Rattle.rv_machine.specs.Frames.{frames_from, most_frames, registers_named, slots_named};
-ghost use Rattle.rv_machine.specs.Memory.{word};
+ghost use Rattle.rv_machine.specs.Memory.{memory_word};
 ghost use Rattle.alloc_service.specs.Forward.{root_by, roots_by};
 ghost use Rattle.alloc_service.specs.Surveyed.{stack_of};
 
@@ -90,7 +90,7 @@ fn are_roots(
         ≡ (cond first
         (list_all (λ r. root_by (tables image.now) table.now (slice_index registers.now r))
         (registers_named (contents row.now.entries))) true
-        && list_all (λ a. root_by (tables image.now) table.now (word memory.now a))
+        && list_all (λ a. root_by (tables image.now) table.now (memory_word memory.now a))
         (slots_named at (contents row.now.entries))) }
 {
     let entries = row.entries.as_slice();
@@ -123,7 +123,7 @@ fn held(registers: &[u64; 32], r: u32) -> u64
 fn are_slot_roots(image: &Image, table: &Table, memory: &Memory, at: u64, entries: &[u32]) -> bool
     requires { IsImage image.now }
     ensures { result
-        ≡ list_all (λ a. root_by (tables image.now) table.now (word memory.now a))
+        ≡ list_all (λ a. root_by (tables image.now) table.now (memory_word memory.now a))
         (slots_named at entries.now) }
 {
     for entry in entries {

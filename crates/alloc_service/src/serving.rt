@@ -1,10 +1,10 @@
 //! The services that move the blocks.
 ghost use Rattle.std.specs.Prelude.{◌≡◌, ◌≤◌, ◌<◌, ◌-◌, ◌^◌};
-ghost use Rattle.rv_machine.specs.Allocation.{allocated, is_request};
+ghost use Rattle.rv_machine.specs.Allocation.{allocation_served, is_request};
 ghost use Rattle.rv_machine.specs.FrameCalls.{collected};
 ghost use Rattle.rv_machine.specs.Observation.{blocks_at};
 ghost use Rattle.rv_machine.specs.Relocation.{emptied, with_blocks};
-ghost use Rattle.alloc_service.specs.Plan.{Keeps, Serves, both_counted, plan_of, services_counted, with_counts};
+ghost use Rattle.alloc_service.specs.Plan.{StaysUnlessServed, Serves, both_counted, plan_of, services_counted, with_counts};
 
 use crate::attempt::{Caller, attempt};
 use crate::plan::Plan;
@@ -24,12 +24,12 @@ use rv_machine::{Cause, Machine};
 ///
 /// A machine that is stopped, or has no heap, is left as it was. A count of the machine stays at the end
 /// of its type.
-#[tactic(auto, unfolding(rv_machine::specs::Allocation::allocated))]
+#[tactic(auto, unfolding(rv_machine::specs::Allocation::allocation_served))]
 pub fn allocate(machine: &mut Machine<'_>, plan: Plan<'_>) -> ServiceEnd
     requires near { machine.old.pc < 2 ^ 32 }
     ensures exact { Serves result
-        (with_counts both_counted (allocated (plan_of plan.entry) machine.old)) machine.new }
-    ensures kept { Keeps result machine.old machine.new }
+        (with_counts both_counted (allocation_served (plan_of plan.entry) machine.old)) machine.new }
+    ensures kept { StaysUnlessServed result machine.old machine.new }
 {
     let bytes = machine.registers[Register::T0 as usize];
     if !is_request(bytes) {
@@ -56,7 +56,7 @@ pub fn collect(machine: &mut Machine<'_>, plan: Plan<'_>) -> ServiceEnd
     requires near { machine.old.pc < 2 ^ 32 }
     ensures exact { Serves result
         (with_counts services_counted (collected (plan_of plan.entry) machine.old)) machine.new }
-    ensures kept { Keeps result machine.old machine.new }
+    ensures kept { StaysUnlessServed result machine.old machine.new }
     ensures place { machine.new.pc ≡ machine.old.pc }
 {
     let from = machine.register(Register::S10 as u8);
@@ -85,7 +85,7 @@ fn relocate(machine: &mut Machine<'_>, plan: Plan<'_>, from: u64) -> ServiceEnd
     requires near { machine.old.pc < 2 ^ 32 }
     ensures exact { Serves result (with_counts services_counted
         (with_blocks (plan_of plan.entry) machine.old (blocks_at machine.old from))) machine.new }
-    ensures kept { Keeps result machine.old machine.new }
+    ensures kept { StaysUnlessServed result machine.old machine.new }
     ensures place { machine.new.pc ≡ machine.old.pc }
 {
     let count = machine.blocks.len();

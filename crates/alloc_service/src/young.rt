@@ -5,7 +5,7 @@ ghost use Rattle.std.specs.List.{AllByRecursion};
 ghost use Rattle.rv_machine.specs.Observation.{young_blocks};
 ghost use Rattle.rv_machine.specs.Placement.{bytes_used};
 ghost use Rattle.rv_machine.specs.Places.{most_room};
-ghost use Rattle.alloc_service.specs.Young.{Reads, Takes};
+ghost use Rattle.alloc_service.specs.Young.{ReadsYoung, TakesYoung};
 ghost use Rattle.rv_machine.specs.Space.{HasCells};
 
 use rv_machine::start::{YOUNG_START, YOUNG_TOP};
@@ -37,7 +37,7 @@ pub fn take_young(
     requires table { heap / 16 ≤ vec_capacity blocks.old }
     requires fits { bytes_used blocks.old.items ≤ heap }
     requires some { AllByRecursion HasCells blocks.old.items }
-    ensures taken { Takes result
+    ensures taken { TakesYoung result
         (young_blocks memory.now from) heap blocks.old.items blocks.new.items }
     ensures empty { young.new.items ≡ [] }
     ensures room { 4097 ≤ vec_capacity young.new }
@@ -60,7 +60,7 @@ pub fn take_young(
 fn read_young(memory: &Memory, from: u64, young: &mut Vec<BlockPlace>) -> bool
     requires empty { young.old.items ≡ [] }
     requires room { 4097 ≤ vec_capacity young.old }
-    ensures exact { Reads result (young_blocks memory.now from) young.new.items }
+    ensures exact { ReadsYoung result (young_blocks memory.now from) young.new.items }
     ensures room { 4097 ≤ vec_capacity young.new }
 {
     if from % 8 != 0 || from < YOUNG_START || from > YOUNG_TOP {

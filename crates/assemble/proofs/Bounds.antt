@@ -5,7 +5,7 @@ use Rattle.std.specs.List.{AllByRecursion}
 use Rattle.std.specs.Option.{IfSome}
 use Rattle.std.proofs.lemmas.List.Sums.{sum_by-cons, prefix_len-le-length}
 use Rattle.function_places.specs.Places.{forms_in, size_of}
-use Rattle.assemble.specs.Source.{IsSource, tree_of, entries_of, laid_of}
+use Rattle.assemble.specs.Source.{IsSource, tree_of, source_entries, laid_of}
 use Rattle.assemble.specs.declared.source.Source.{Source}
 use Rattle.function_places.proofs.Bounds.{all_most}
 use Rattle.bs_words.specs.External.{External}
@@ -20,9 +20,9 @@ use Rattle.image_rules.proofs.Limits.{are_short}
 use Rattle.image_rules.proofs.Placed.{Lie, items_lie, end_of_lists-above}
 use Rattle.image_rules.proofs.Whole.{all_length, length_of_data}
 use Rattle.layout_rules.specs.declared.form.Form.{Form}
-use Rattle.layout_rules.specs.Externals.{number_of}
-use Rattle.layout_rules.specs.Forms.{words_of, total_words, is_label, label_from, place_or_entry, place_of}
-use Rattle.layout_rules.specs.Laid.{entries_from, code_from, address_of_value, AreAllForms}
+use Rattle.layout_rules.specs.Externals.{external_number}
+use Rattle.layout_rules.specs.Forms.{piece_words, total_words, is_label_piece, label_from, place_or_entry, label_word_offset}
+use Rattle.layout_rules.specs.Laid.{function_entries_from, code_from, address_of_value, AreAllForms}
 use Rattle.layout_rules.specs.TooLarge.{first_too_large}
 use Rattle.layout_rules.proofs.Functions.{forms_length}
 use Rattle.layout_rules.proofs.Rules.{all_words}
@@ -38,7 +38,7 @@ each_most (q ∷ ps) (suc i) p h is = omega (arith, sum_by-cons size_of q ps, ea
 
 -- ---- entries
 
-pub entry_most : (at : ℕ) (ps : List Pieces) (forms : List (List Form)) (i : ℕ) → get_or (entries_from at ps forms) i 0 ≤ at + all_words ps forms
+pub entry_most : (at : ℕ) (ps : List Pieces) (forms : List (List Form)) (i : ℕ) → get_or (function_entries_from at ps forms) i 0 ≤ at + all_words ps forms
 entry_most at [] forms i = omega arith
 entry_most at (p ∷ ps) [] i = omega arith
 entry_most at (p ∷ ps) (f ∷ forms) zero = omega arith
@@ -55,7 +55,7 @@ pub zip_same : (ps : List Pieces) (forms : List (List Form)) (i : ℕ) (p : Piec
 zip_same [] forms i p f are h is of = absurd (omega (arith, h))
 zip_same (q ∷ ps) [] i p f are h is of = absurd are
 zip_same (q ∷ ps) (g ∷ forms) zero p f are h is of =
-    ap length of ∙ (forms_length (place_of q.code g) 0 q.code g are.0.suffice ∙ ap (λ (x : Pieces). length x.code) (sym is))
+    ap length of ∙ (forms_length (label_word_offset q.code g) 0 q.code g are.0.suffice ∙ ap (λ (x : Pieces). length x.code) (sym is))
 zip_same (q ∷ ps) (g ∷ forms) (suc i) p f are h is of = zip_same ps forms i p f are.1 (omega (arith, h)) is of
 
 -- ---- what is known of a source
@@ -74,9 +74,9 @@ entry_within s source i =
 
 pub end_short : (s : Source) → IsSource s → first_too_large (laid_of s) ≡ None → 4 * s.places.now.end ≤ code_limit
 end_short s source fits =
-    let code = code_from (tree_of s) (entries_of s) stub_words s.pieces.now (forms_in s.places.now) in
+    let code = code_from (tree_of s) (source_entries s) stub_words s.pieces.now (forms_in s.places.now) in
     let short = (are_short (laid_of s) fits).code in
-    omega (arith, short, length-append stub code, all_length (tree_of s) (entries_of s) stub_words s.pieces.now (forms_in s.places.now), end_is s source)
+    omega (arith, short, length-append stub code, all_length (tree_of s) (source_entries s) stub_words s.pieces.now (forms_in s.places.now), end_is s source)
 
 -- ---- symbols
 
@@ -131,20 +131,20 @@ address_below end entries limit (Some (Function f)) low each h k = omega (arith,
 address_below end entries limit (Some (Block serial offset)) low each h k = omega arith
 
 pub symbol_below : (s : Source) → IsSource s → first_too_large (laid_of s) ≡ None → (name : List ℕ) →
-    address_of_value (entries_of s) (value_of_symbol (tree_of s) name) < 2 ^ 32
+    address_of_value (source_entries s) (value_of_symbol (tree_of s) name) < 2 ^ 32
 symbol_below s source fits name =
     let file = tree_of s in
     let short = (are_short (laid_of s) fits).bytes in
     let start = end_of_lists-above (end_behind data_start built_in_list) (data_among file.items) in
     let first : end_behind data_start built_in_list ≡ data_start + 8 = refl in
-    let high : data_end file < 2 ^ 32 = omega (arith, short, length_of_data file (entries_of s), start, first) in
-    let code = code_from file (entries_of s) stub_words s.pieces.now (forms_in s.places.now) in
-    let each : (i : ℕ) → get_or (entries_of s) i 0 ≤ s.places.now.end = λ i. omega (arith, entry_most stub_words s.pieces.now (forms_in s.places.now) i, end_is s source) in
-    address_below (data_end file) (entries_of s) s.places.now.end (value_of_symbol file name) (symbol_low file name) each high (end_short s source fits)
+    let high : data_end file < 2 ^ 32 = omega (arith, short, length_of_data file (source_entries s), start, first) in
+    let code = code_from file (source_entries s) stub_words s.pieces.now (forms_in s.places.now) in
+    let each : (i : ℕ) → get_or (source_entries s) i 0 ≤ s.places.now.end = λ i. omega (arith, entry_most stub_words s.pieces.now (forms_in s.places.now) i, end_is s source) in
+    address_below (data_end file) (source_entries s) s.places.now.end (value_of_symbol file name) (symbol_low file name) each high (end_short s source fits)
 
 -- ---- external calls
 
-pub number_below : (rows : List External) (e : External) → number_of rows e ≤ length rows
+pub number_below : (rows : List External) (e : External) → external_number rows e ≤ length rows
 number_below rows e = prefix_len-le-length _ rows
 
 -- ---- labels
@@ -152,12 +152,12 @@ number_below rows e = prefix_len-le-length _ rows
 label_within : (l at : ℕ) (ps : List Piece) (fs : List Form) → place_or_entry (label_from l at ps fs) ≤ at + total_words ps fs
 label_within l at [] fs = omega arith
 label_within l at (p ∷ ps) [] = omega arith
-label_within l at (p ∷ ps) (f ∷ fs) = by (is_label l p) (label_within l (at + words_of p f) ps fs)
+label_within l at (p ∷ ps) (f ∷ fs) = by (is_label_piece l p) (label_within l (at + piece_words p f) ps fs)
   where
-    by : (here : Bool) → place_or_entry (label_from l (at + words_of p f) ps fs) ≤ at + words_of p f + total_words ps fs →
-        place_or_entry (cond here (Some at) (label_from l (at + words_of p f) ps fs)) ≤ at + (words_of p f + total_words ps fs)
+    by : (here : Bool) → place_or_entry (label_from l (at + piece_words p f) ps fs) ≤ at + piece_words p f + total_words ps fs →
+        place_or_entry (cond here (Some at) (label_from l (at + piece_words p f) ps fs)) ≤ at + (piece_words p f + total_words ps fs)
     by true later = omega arith
     by false later = omega (arith, later)
 
-pub place_within : (ps : List Piece) (fs : List Form) (l : ℕ) → place_of ps fs l ≤ total_words ps fs
+pub place_within : (ps : List Piece) (fs : List Form) (l : ℕ) → label_word_offset ps fs l ≤ total_words ps fs
 place_within ps fs l = let h = label_within l 0 ps fs in omega (arith, h)

@@ -4,7 +4,7 @@ use Rattle.std.proofs.Math.Dec.{ltb}
 use Rattle.std.proofs.lemmas.Bool.{ltb-true}
 use Rattle.std.proofs.lemmas.List.{take_all}
 use Rattle.std.proofs.lemmas.List.Folds.{flat_map-map}
-use Rattle.assemble.specs.Source.{IsSource, entries_of, laid_of}
+use Rattle.assemble.specs.Source.{IsSource, source_entries, laid_of}
 use Rattle.assemble.specs.declared.source.Source.{Source}
 use Rattle.bs_words.specs.Contents.{contents}
 use Rattle.bs_words.specs.Fits.{data_start}
@@ -24,10 +24,10 @@ got xs i x within at = by xs i (ltb-true i (length xs) (sym within)) at
     by (y ∷ ys) (suc k) h e = by ys k (omega (arith, h)) e
 
 pub bytes_made : (s : Source) → IsSource s → (items : List DataCells) (i : ℕ) (bytes : List ℕ) → items ≡ contents s.data.now.lists → length items ≤ i →
-    bytes ≡ flat_map (λ (list : DataCells). flat_map (cell_bytes (entries_of s)) (contents list.cells)) (take i items) →
+    bytes ≡ flat_map (λ (list : DataCells). flat_map (cell_bytes (source_entries s)) (contents list.cells)) (take i items) →
     take s.data.now.bytes bytes ≡ (laid_of s).bytes
 bytes_made s source items i bytes is h made =
-    let own = λ (l : StaticList). flat_map (cell_bytes (entries_of s)) l.cells in
+    let own = λ (l : StaticList). flat_map (cell_bytes (source_entries s)) l.cells in
     let all : bytes ≡ flat_map (λ (x : DataCells). own (cells_view x)) (contents s.data.now.lists) =
     made ∙ ap (flat_map (λ (x : DataCells). own (cells_view x))) (take_all i items h ∙ is) in
     ap₂ take source.placed.bytes (all ∙ (sym (flat_map-map own cells_view (contents s.data.now.lists)) ∙ ap (flat_map own) source.placed.lists))

@@ -6,7 +6,7 @@ use Rattle.std.proofs.lemmas.List.{length-map}
 use Rattle.function_places.specs.Places.{forms_in}
 use Rattle.assemble.specs.Sizes.{item_size, symbol_size, call_size}
 use Rattle.function_places.specs.Sizes.{pieces_size}
-use Rattle.assemble.specs.Source.{IsSource, tree_of, entries_of, laid_of}
+use Rattle.assemble.specs.Source.{IsSource, tree_of, source_entries, laid_of}
 use Rattle.assemble.specs.declared.source.Source.{Source}
 use Rattle.assemble.proofs.Bounds.{end_is}
 use Rattle.assemble.proofs.Totals.{table_length, row_size, row_length, rows_size, items_are, functions_most, sym_size, sym_length, symbols_are, symbols_most, ext_size, ext_length, calls_are, exts_most, desc_size, desc_length, descs_are, pieces_most}
@@ -60,7 +60,7 @@ sized s source calls same =
     let rows = rows_from stub_words (functions file) ps forms in
     let items_same = items_are items in
     let rows_same = rows_size stub_words (functions file) ps forms source.can.each_one source.places.forms in
-    let code = code_from file (entries_of s) stub_words ps forms in
+    let code = code_from file (source_entries s) stub_words ps forms in
     let syms_same = ap (λ (ss : List DataSymbolTree). sum_by sym_size (map sym_of ss)) source.placed.symbols in
     let symbols_few : length symbols < 2 ^ 32 = omega (arith, length-map symbols symbol_view, ap length source.placed.symbols, source.can.of_file.few_symbols) in
     let named = subst (λ (ss : List DataSymbolTree). AllByRecursion (λ (x : DataSymbolTree). IsSymbol x.name) ss) (sym source.placed.symbols) source.can.of_file.symbols in
@@ -72,8 +72,8 @@ sized s source calls same =
     record {
       funcs_few = omega (arith, items_same, functions_most (functions file) source.can.of_file.rows, source.can.of_file.few_functions);
       funcs = omega (arith, items_same, rows_same, table_length func_bytes row_size row_length rows);
-      code = omega (arith, length-append stub code, all_length file (entries_of s) stub_words ps forms, end_is s source);
-      bytes = source.placed.bytes ∙ sym (length_of_data file (entries_of s));
+      code = omega (arith, length-append stub code, all_length file (source_entries s) stub_words ps forms, end_is s source);
+      bytes = source.placed.bytes ∙ sym (length_of_data file (source_entries s));
       syms_few = omega (arith, symbols_most symbols named, symbols_few);
       syms = omega (arith, symbols_are symbols, syms_same, table_length sym_bytes sym_size sym_length (map sym_of (symbols_of file)));
       roots_few = omega (arith, cells_few data_start (data_end file) (root_cells file) (roots_in_data file), root_count, source.placed.bytes);

@@ -24,8 +24,8 @@ use Rattle.image_form.specs.declared.image.ExtRow.{ExtRow}
 use Rattle.image_form.proofs.Lengths.{length-le32, name_length, params_length}
 use Rattle.layout_rules.specs.declared.form.Form.{Form}
 use Rattle.layout_rules.specs.Conditions.{IsRowLaid}
-use Rattle.layout_rules.specs.Forms.{words_of, total_words, place_of}
-use Rattle.layout_rules.specs.Laid.{row_at, rows_from, sym_of, desc_at, descs_in, descs_from, AreAllForms}
+use Rattle.layout_rules.specs.Forms.{piece_words, total_words, label_word_offset}
+use Rattle.layout_rules.specs.Laid.{row_at, rows_from, sym_of, descriptor_laid_at, descs_in, descs_from, AreAllForms}
 use Rattle.layout_rules.proofs.Functions.{forms_length}
 use Rattle.rv_layout.specs.Descs.{desc_in}
 use Rattle.rv_layout.proofs.Steps.{descs_step}
@@ -173,13 +173,13 @@ one_desc at (Call name) = refl
 one_desc at (TailCall name) = refl
 one_desc at (SymbolAddress r name) = refl
 one_desc at (ExternalNumber r row) = refl
-one_desc at (Descriptor d) = omega (arith, sum_by-cons desc_size (desc_at at d) [])
+one_desc at (Descriptor d) = omega (arith, sum_by-cons desc_size (descriptor_laid_at at d) [])
 
 descs_size : (at : ℕ) (ps : List Piece) (fs : List Form) → length fs ≡ length ps → sum_by desc_size (descs_in at ps fs) ≡ sum_by piece_size ps
 descs_size at [] fs same = refl
 descs_size at (p ∷ ps) [] same = absurd (omega (arith, same))
 descs_size at (p ∷ ps) (f ∷ fs) same =
-    let next = at + words_of p f in
+    let next = at + piece_words p f in
     omega (
       arith,
       ap (sum_by desc_size) (descs_step at p f ps fs),
@@ -197,7 +197,7 @@ descs_are at (p ∷ ps) (f ∷ forms) are =
     omega (
       arith,
       sum_by-append desc_size (descs_in at p.code f) (descs_from next ps forms),
-      descs_size at p.code f (forms_length (place_of p.code f) 0 p.code f are.0.suffice),
+      descs_size at p.code f (forms_length (label_word_offset p.code f) 0 p.code f are.0.suffice),
       sum_by-cons pieces_size p ps,
       descs_are next ps forms are.1,
     )

@@ -2,7 +2,7 @@
 use Rattle.std.proofs.Common.{◌≡◌, ℕ, zero, suc, ◌+◌, ◌*◌, ◌^◌, ◌<◌, ◌≤◌, List, [], ◌∷◌, ◌++◌, length, map, get_or, drop, None, refl, sym, ap, ap₂, ◌∙◌, subst, append_assoc, arith}
 use Rattle.std.proofs.lemmas.List.{length-map}
 use Rattle.function_places.specs.Places.{forms_in, size_of, IsLaid}
-use Rattle.assemble.specs.Source.{IsSource, tree_of, entries_of, laid_of, names_by}
+use Rattle.assemble.specs.Source.{IsSource, tree_of, source_entries, laid_of, addresses_named_by}
 use Rattle.function_places.specs.declared.places.Laid.{Laid}
 use Rattle.assemble.specs.declared.source.Source.{Source}
 use Rattle.assemble.proofs.Bounds.{each_most, zip_length, zip_same, end_is, end_short}
@@ -18,15 +18,15 @@ use Rattle.cmm_types.specs.Typing.{AreItemsAnnotated}
 use Rattle.image_form.specs.Image.{code_limit, stub_words}
 use Rattle.image_form.specs.Tables.{Func}
 use Rattle.layout_rules.specs.declared.form.Form.{Form}
-use Rattle.layout_rules.specs.Conditions.{IsFunctionLaid, LeadsTo, AllLead}
+use Rattle.layout_rules.specs.Conditions.{IsFunctionLaid, HasAlignedTarget, AllLead}
 use Rattle.layout_rules.specs.Forms.{total_words, place_or_entry}
-use Rattle.layout_rules.specs.Laid.{entries_from, address_of_place, function_words, row_at, rows_from, names_at}
+use Rattle.layout_rules.specs.Laid.{function_entries_from, address_of_place, function_words, row_at, rows_from, addresses_named_at}
 use Rattle.layout_rules.specs.TooLarge.{first_too_large}
-use Rattle.layout_rules.specs.Words.{Named, target_of, words_to}
+use Rattle.layout_rules.specs.Words.{NameAddresses, target_of, words_to}
 use Rattle.layout_rules.proofs.Rules.{all_words}
 use Rattle.layout_rules.proofs.Standing.{words_by_targets}
-use Rattle.mach_ir.specs.Acts.{row_of}
-use Rattle.rv_layout.specs.Tables.{places_of, IsTableOf}
+use Rattle.mach_ir.specs.Acts.{external_row}
+use Rattle.rv_layout.specs.Tables.{words_of_labels, IsLabelTable}
 use Rattle.rv_layout.specs.declared.labels.Labels.{Labels}
 use Rattle.rv_pieces.specs.declared.piece.Piece.{Piece}
 use Rattle.rv_pieces.specs.declared.piece.Piece.TheVariants.{Known, Label, Branch, Jump, Row, LabelAddress, Call, TailCall, SymbolAddress, ExternalNumber, Descriptor}
@@ -93,7 +93,7 @@ rows_more s i p q f fs own ks entry entry' rows rows' all at e d g k so_far =
 -- ---- the entry of each function
 
 entry_there : (at : ℕ) (ps : List Pieces) (forms : List (List Form)) (i : ℕ) → i < length ps → length forms ≡ length ps →
-    get_or (entries_from at ps forms) i 0 + all_words (drop i ps) (drop i forms) ≡ at + all_words ps forms
+    get_or (function_entries_from at ps forms) i 0 + all_words (drop i ps) (drop i forms) ≡ at + all_words ps forms
 entry_there at [] forms i h same = absurd (omega (arith, h))
 entry_there at (p ∷ ps) [] i h same = absurd (omega (arith, same))
 entry_there at (p ∷ ps) (f ∷ forms) zero h same = refl
@@ -101,7 +101,7 @@ entry_there at (p ∷ ps) (f ∷ forms) (suc i) h same =
     let later = entry_there (at + total_words p.code f) ps forms i (omega (arith, h)) (omega (arith, same)) in
     omega (arith, later)
 
-entries_many : (at : ℕ) (ps : List Pieces) (forms : List (List Form)) → length forms ≡ length ps → length (entries_from at ps forms) ≡ length ps
+entries_many : (at : ℕ) (ps : List Pieces) (forms : List (List Form)) → length forms ≡ length ps → length (function_entries_from at ps forms) ≡ length ps
 entries_many at [] forms same = refl
 entries_many at (p ∷ ps) [] same = absurd (omega (arith, same))
 entries_many at (p ∷ ps) (f ∷ forms) same = ap suc (entries_many (at + total_words p.code f) ps forms (omega (arith, same)))
@@ -122,7 +122,7 @@ function_there s source fits i p own h is of =
 
 -- ---- the words of one function
 
-target_same : (n m : Named) → ((l : ℕ) → n.label l ≡ m.label l) → ((name : List ℕ) → n.symbol name ≡ m.symbol name) → ((e : _) → n.external e ≡ m.external e) →
+target_same : (n m : NameAddresses) → ((l : ℕ) → n.label l ≡ m.label l) → ((name : List ℕ) → n.symbol name ≡ m.symbol name) → ((e : _) → n.external e ≡ m.external e) →
     (p : Piece) → target_of n p ≡ target_of m p
 target_same n m e f g (Known i) = refl
 target_same n m e f g (Label l) = refl
@@ -133,25 +133,25 @@ target_same n m e f g (LabelAddress r l) = e l
 target_same n m e f g (Call name) = f name
 target_same n m e f g (TailCall name) = f name
 target_same n m e f g (SymbolAddress r name) = f name
-target_same n m e f g (ExternalNumber r row) = g (row_of row)
+target_same n m e f g (ExternalNumber r row) = g (external_row row)
 target_same n m e f g (Descriptor d) = refl
 
-targets_same : (n m : Named) → ((p : Piece) → target_of n p ≡ target_of m p) → (ps : List Piece) → map (target_of n) ps ≡ map (target_of m) ps
+targets_same : (n m : NameAddresses) → ((p : Piece) → target_of n p ≡ target_of m p) → (ps : List Piece) → map (target_of n) ps ≡ map (target_of m) ps
 targets_same n m e [] = refl
 targets_same n m e (p ∷ ps) = ap₂ (λ (t : ℕ) (ts : List ℕ). t ∷ ts) (e p) (targets_same n m e ps)
 
 pub words_placed : (s : Source) (entry at : ℕ) (targets : List ℕ) (labels : Labels) (code' code : List Piece) (fs : List Form) → at ≡ address_of_place entry →
-    targets ≡ map (target_of (names_by s entry (places_of labels))) code' → code' ≡ code → IsTableOf code' fs labels →
-    words_to at targets code' fs ≡ function_words (tree_of s) (entries_of s) entry code fs
+    targets ≡ map (target_of (addresses_named_by s entry (words_of_labels labels))) code' → code' ≡ code → IsLabelTable code' fs labels →
+    words_to at targets code' fs ≡ function_words (tree_of s) (source_entries s) entry code fs
 words_placed s entry at targets labels code' code fs e f g table =
-    let n = names_by s entry (places_of labels) in
-    let m = names_at (tree_of s) (entries_of s) entry code' fs in
+    let n = addresses_named_by s entry (words_of_labels labels) in
+    let m = addresses_named_at (tree_of s) (source_entries s) entry code' fs in
     let place : (l : ℕ) → n.label l ≡ m.label l = λ l. ap (λ (o : _). address_of_place (entry + place_or_entry o)) (table.each l) in
     let same = target_same n m place (λ name. refl) (λ row. refl) in
     ap₂ (λ (a : ℕ) (ts : List ℕ). words_to a ts code' fs) e (f ∙ targets_same n m same code')
-    ∙ (words_by_targets m (address_of_place entry) code' fs ∙ ap (λ (c : List Piece). function_words (tree_of s) (entries_of s) entry c fs) g)
+    ∙ (words_by_targets m (address_of_place entry) code' fs ∙ ap (λ (c : List Piece). function_words (tree_of s) (source_entries s) entry c fs) g)
 
-leads_by : (s : Source) (entry : ℕ) (places : ℕ → ℕ) (p : Piece) → LeadsTo (target_of (names_by s entry places) p) p
+leads_by : (s : Source) (entry : ℕ) (places : ℕ → ℕ) (p : Piece) → HasAlignedTarget (target_of (addresses_named_by s entry places) p) p
 leads_by s entry places (Known i) = tt
 leads_by s entry places (Label l) = tt
 leads_by s entry places (Branch c a b l) = omega arith
@@ -164,7 +164,7 @@ leads_by s entry places (SymbolAddress r name) = tt
 leads_by s entry places (ExternalNumber r row) = tt
 leads_by s entry places (Descriptor d) = tt
 
-pub all_lead : (s : Source) (entry : ℕ) (places : ℕ → ℕ) (ps : List Piece) → AllLead (map (target_of (names_by s entry places)) ps) ps
+pub all_lead : (s : Source) (entry : ℕ) (places : ℕ → ℕ) (ps : List Piece) → AllLead (map (target_of (addresses_named_by s entry places)) ps) ps
 all_lead s entry places [] = tt
 all_lead s entry places (p ∷ ps) = (leads_by s entry places p, all_lead s entry places ps)
 

@@ -11,16 +11,16 @@ use Rattle.cmm_types.specs.Typing.{AreItemsAnnotated}
 use Rattle.image_form.specs.Image.{stub_words}
 use Rattle.image_form.specs.Tables.{Tables}
 use Rattle.layout_rules.specs.Conditions.{CanBeLaid}
-use Rattle.layout_rules.specs.Externals.{externals, number_of}
-use Rattle.layout_rules.specs.Laid.{address_of_place, address_of_value, entries_from, laid_out}
-use Rattle.layout_rules.specs.Words.{Named}
+use Rattle.layout_rules.specs.Externals.{externals, external_number}
+use Rattle.layout_rules.specs.Laid.{address_of_place, address_of_value, function_entries_from, laid_out}
+use Rattle.layout_rules.specs.Words.{NameAddresses}
 use Rattle.cmm_data.specs.Placement.{value_of_symbol}
 
 abbrev pub tree_of : Source → FileTree
 tree_of s = file_view s.file.now
 
-abbrev pub entries_of : Source → List ℕ
-entries_of s = entries_from stub_words s.pieces.now (forms_in s.places.now)
+abbrev pub source_entries : Source → List ℕ
+source_entries s = function_entries_from stub_words s.pieces.now (forms_in s.places.now)
 
 -- the image
 abbrev pub laid_of : Source → Tables
@@ -36,9 +36,9 @@ pub record IsSource (s : Source) : Type 0 where
   pub places : ArePlaces s.pieces.now s.places.now
 
 -- what the pieces of a function name, whose entry is at this word and whose labels have these places
-abbrev pub names_by : Source → (entry : ℕ) → (places : ℕ → ℕ) → Named
-names_by s entry places = record {
+abbrev pub addresses_named_by : Source → (entry : ℕ) → (places : ℕ → ℕ) → NameAddresses
+addresses_named_by s entry places = record {
   label = λ l. address_of_place (entry + places l);
-  symbol = λ name. address_of_value (entries_of s) (value_of_symbol (tree_of s) name);
-  external = number_of (externals (tree_of s));
+  symbol = λ name. address_of_value (source_entries s) (value_of_symbol (tree_of s) name);
+  external = external_number (externals (tree_of s));
 }

@@ -2,7 +2,7 @@
 ghost use Rattle.std.specs.Prelude.{◌≡◌, ◌+◌, ◌<◌, ◌≤◌, ◌^◌, ◌++◌, None, length, map, IfOk, OnOk};
 ghost use Rattle.std.specs.List.{flat_map};
 ghost use Rattle.assemble.specs.Code.{IsCodeAt};
-ghost use Rattle.assemble.specs.Source.{IsSource, laid_of, tree_of, entries_of};
+ghost use Rattle.assemble.specs.Source.{IsSource, laid_of, tree_of, source_entries};
 ghost use Rattle.fork_join.specs.Calls.{AreGiven};
 ghost use Rattle.function_places.specs.Places.{size_of};
 ghost use Rattle.image_form.specs.Image.{stub};
@@ -50,7 +50,7 @@ impl<'a, 'b> Source<'a, 'b> {
             self.now.places.now.end }
         ensures { OnOk result (words.new.items
             ≡ words.old.items ++ function_words (tree_of self.now)
-            (entries_of self.now) entry function.now.code forms.now) }
+            (source_entries self.now) entry function.now.code forms.now) }
     {
         let code = function.code.as_slice();
         let labels = Labels::of(alloc, code, forms, label_bound(code))?;

@@ -1,7 +1,7 @@
 //! Static data: its bytes, its symbols and its root cells.
 ghost use Rattle.std.specs.Prelude.{◌≡◌, ◌++◌, map, IfOk, OnOk};
 ghost use Rattle.std.specs.List.{flat_map};
-ghost use Rattle.assemble.specs.Source.{IsSource, laid_of, entries_of};
+ghost use Rattle.assemble.specs.Source.{IsSource, laid_of, source_entries};
 ghost use Rattle.bs_words.specs.Contents.{contents};
 ghost use Rattle.cmm_data.specs.Map.{symbol_view};
 ghost use Rattle.image_form.specs.Tables.{sym};
@@ -27,7 +27,7 @@ impl<'a, 'b> Source<'a, 'b> {
     fn put_cells(&self, bytes: &mut Vec<u8>, cells: &[Value]) -> Result<(), AllocError>
         requires { IsSource self.now }
         ensures { OnOk result (bytes.new.items ≡ bytes.old.items
-            ++ flat_map (cell_bytes (entries_of self.now)) cells.now) }
+            ++ flat_map (cell_bytes (source_entries self.now)) cells.now) }
     {
         for cell in cells {
             bytes.extend_from_slice(&self.address_of_value(*cell).to_le_bytes())?;

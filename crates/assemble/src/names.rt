@@ -1,13 +1,13 @@
 //! What the pieces of a function name.
 ghost use Rattle.std.specs.Prelude.{◌≡◌, ◌+◌, ◌*◌, ◌<◌, ◌≤◌, ℕ, None, map, IfOk};
-ghost use Rattle.assemble.specs.Source.{IsSource, laid_of, names_by, tree_of, entries_of};
+ghost use Rattle.assemble.specs.Source.{IsSource, laid_of, addresses_named_by, tree_of, source_entries};
 ghost use Rattle.cmm_data.specs.Placement.{value_of_symbol};
-ghost use Rattle.layout_rules.specs.Externals.{number_of, externals};
+ghost use Rattle.layout_rules.specs.Externals.{external_number, externals};
 ghost use Rattle.layout_rules.specs.Laid.{address_of_value, address_of_place};
 ghost use Rattle.layout_rules.specs.TooLarge.{first_too_large};
 ghost use Rattle.layout_rules.specs.Words.{target_of};
-ghost use Rattle.mach_ir.specs.Acts.{row_of};
-ghost use Rattle.rv_layout.specs.Tables.{places_of};
+ghost use Rattle.mach_ir.specs.Acts.{external_row};
+ghost use Rattle.rv_layout.specs.Tables.{words_of_labels};
 
 use crate::source::{Source, place_address};
 use bs_words::Name;
@@ -22,7 +22,7 @@ impl<'a, 'b> Source<'a, 'b> {
         requires source { IsSource self.now }
         requires fits { first_too_large (laid_of self.now) ≡ None }
         ensures { result
-            ≡ address_of_value (entries_of self.now) (value_of_symbol (tree_of self.now) name.now) }
+            ≡ address_of_value (source_entries self.now) (value_of_symbol (tree_of self.now) name.now) }
     {
         match self.symbols.value_of(name.as_bytes()) {
             Some(value) => self.address_of_value(value) as u32,
@@ -34,7 +34,7 @@ impl<'a, 'b> Source<'a, 'b> {
     fn number_of_call(&self, alloc: Global, row: &External) -> Result<u32, AllocError>
         requires { IsSource self.now }
         ensures { IfOk result (λ number.
-            number ≡ number_of (externals (tree_of self.now)) (row_of row.now)) }
+            number ≡ external_number (externals (tree_of self.now)) (external_row row.now)) }
     {
         let number = self.calls.number_of(alloc, row)?;
         Ok(number as u32)
@@ -44,8 +44,8 @@ impl<'a, 'b> Source<'a, 'b> {
     fn address_of_label(&self, labels: &Labels, entry: u64, label: Label) -> u32
         requires source { IsSource self.now }
         requires fits { first_too_large (laid_of self.now) ≡ None }
-        requires low { entry + places_of labels.now label ≤ self.now.places.now.end }
-        ensures { result ≡ address_of_place (entry + places_of labels.now label) }
+        requires low { entry + words_of_labels labels.now label ≤ self.now.places.now.end }
+        ensures { result ≡ address_of_place (entry + words_of_labels labels.now label) }
     {
         place_address(entry + labels.place(label)) as u32
     }
@@ -60,9 +60,9 @@ impl<'a, 'b> Source<'a, 'b> {
     ) -> Result<u32, AllocError>
         requires source { IsSource self.now }
         requires fits { first_too_large (laid_of self.now) ≡ None }
-        requires low { (label : ℕ) → entry + places_of labels.now label ≤ self.now.places.now.end }
+        requires low { (label : ℕ) → entry + words_of_labels labels.now label ≤ self.now.places.now.end }
         ensures { IfOk result (λ target.
-            target ≡ target_of (names_by self.now entry (places_of labels.now)) piece.now) }
+            target ≡ target_of (addresses_named_by self.now entry (words_of_labels labels.now)) piece.now) }
     {
         match piece {
             Piece::Known(_) => Ok(0),
@@ -96,9 +96,9 @@ impl<'a, 'b> Source<'a, 'b> {
     ) -> Result<Vec<u32>, AllocError>
         requires source { IsSource self.now }
         requires fits { first_too_large (laid_of self.now) ≡ None }
-        requires low { (label : ℕ) → entry + places_of labels.now label ≤ self.now.places.now.end }
-        ensures { IfOk result (λ targets. targets.items ≡ map (target_of (names_by self.now entry
-            (places_of labels.now))) code.now) }
+        requires low { (label : ℕ) → entry + words_of_labels labels.now label ≤ self.now.places.now.end }
+        ensures { IfOk result (λ targets. targets.items ≡ map (target_of (addresses_named_by self.now entry
+            (words_of_labels labels.now))) code.now) }
     {
         let mut targets = Vec::new(alloc);
         for piece in code {

@@ -1,6 +1,6 @@
 //! What an image is made of.
 ghost use Rattle.std.specs.Prelude.{◌≡◌, ◌<◌, ◌^◌, Some};
-ghost use Rattle.assemble.specs.Source.{IsSource, entries_of};
+ghost use Rattle.assemble.specs.Source.{IsSource, source_entries};
 ghost use Rattle.layout_rules.specs.Laid.{address_of_value, address_of_place};
 
 use bs_words::Value;
@@ -40,7 +40,7 @@ impl<'a, 'b> Source<'a, 'b> {
     /// The word that a value stands for. No static data and no symbol is a block.
     pub fn address_of_value(&self, value: Value) -> u64
         requires { IsSource self.now }
-        ensures { result ≡ address_of_value (entries_of self.now) (Some value) }
+        ensures { result ≡ address_of_value (source_entries self.now) (Some value) }
     {
         match value {
             Value::Word(address) => address,

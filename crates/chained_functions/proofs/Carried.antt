@@ -18,7 +18,7 @@ use Rattle.mach_ir.specs.declared.mach.MachOp.TheVariants as mach
 use Rattle.mach_ir.specs.declared.mach.Instr.{Instr}
 use Rattle.mach_ir.specs.declared.mach.Mach.{Mach}
 use Rattle.lin_ir.specs.Formed as formed_lin
-use Rattle.lin_ir.specs.Formed.{labels_in, label_of, goes_to, bare}
+use Rattle.lin_ir.specs.Formed.{labels_in, label_of, goes_to, bare_flow}
 use Rattle.lin_ir.specs.Keeps.{IsNamedIn}
 use Rattle.lin_ir.specs.Meaning.{has_label, after_label}
 use Rattle.lin_ir.specs.Walks.{Reached, at_entry, by_step, by_raise, targets}
@@ -38,7 +38,7 @@ use Rattle.linear_rules.proofs.Meeting.{comes}
 use Rattle.linear_rules.proofs.Places.{place_tries}
 use Rattle.linear_rules.proofs.Standing.{is_at}
 use Rattle.linear_rules.proofs.Walked.{Tail, tail_all, tail_next, tail_in, tail_stands, reached_tail}
-use Rattle.tidy_rules.specs.Leaving.{LabelsBetween, none_between, label_between, IsUseless, unreached, unread, skipped, without, with_code, is_landing}
+use Rattle.tidy_rules.specs.Leaving.{LabelsBetween, none_between, label_between, IsUseless, unreached, unread, skipped, without_lines, with_code, is_landing}
 use Rattle.tidy_rules.specs.Redirecting.{redirect, Tidies, as_it_is, then_leaves, then_redirects, then_turns}
 use Rattle.tidy_rules.specs.Regular.{IsRegular}
 use Rattle.tidy_rules.proofs.Leaving.{Comes, there, before, comes_tail, comes_line, self_goes, useless_landing, in_code}
@@ -59,7 +59,7 @@ abbrev AllTries : ℕ → List Instr → Type 0
 AllTries k [] = Unit {0}
 AllTries k (i ∷ is) = (length (tries_at (i ∷ is)) ≤ k) × AllTries k is
 
-all_tries : (k : ℕ) (code : List Instr) → ((i : Instr) (next : List Instr) → mach_walks.Stands i next code → length (tries_at (i ∷ next)) ≤ k) → AllTries k code
+all_tries : (k : ℕ) (code : List Instr) → ((i : Instr) (next : List Instr) → mach_walks.StandsAsInstr i next code → length (tries_at (i ∷ next)) ≤ k) → AllTries k code
 all_tries k [] h = tt
 all_tries k (i ∷ is) h = (h i is mach_walks.here, all_tries k is (λ j next s. h j next (mach_walks.below s)))
 
@@ -129,7 +129,7 @@ tidied_named Named regular as_it_is n = n
 tidied_named Named regular (then_leaves {q = q} t l) n =
     tidied_named Named regular t
     (let x = subst (IsNamedIn Named) l.is n in
-    record { line = x.line; among = contains_of (in_code q l.goes l.each x.line q.code (in_of x.line (without l.goes q.code) x.among)); op = x.op; is = x.is; named = x.named })
+    record { line = x.line; among = contains_of (in_code q l.goes l.each x.line q.code (in_of x.line (without_lines l.goes q.code) x.among)); op = x.op; is = x.is; named = x.named })
 tidied_named Named regular (then_redirects {q = q} t l) n =
     tidied_named Named regular t
     (let x = subst (IsNamedIn Named) l.is n in
@@ -226,17 +226,17 @@ none_closed c = elim c [ ]
 pub lowered_unended : (p : Mach) → IsRegular (lowered p) → EndsInReturn p.code → IsUnended (lowered p)
 lowered_unended p regular e tries r = none_closed (reached_closed (lowered p) regular (lowered_closed (slot_number p) e) r)
 
-module _ (m : Lin) (goes : ℕ → Bool) (each : (i : Line) (next : List Line) → walks.Stands i next m.code → goes (length next) ≡ true → IsUseless m i next) (unended : IsUnended m) where
+module _ (m : Lin) (goes : ℕ → Bool) (each : (i : Line) (next : List Line) → walks.StandsAsLine i next m.code → goes (length next) ≡ true → IsUseless m i next) (unended : IsUnended m) where
   abbrev K : List Line → List Line
-  K = without goes
+  K = without_lines goes
 
   -- labels stay, so where all lines after go there is none
   no_labels : {a b : List Line} → LabelsBetween a b → Tail a m.code → K a ≡ [] → a ≡ b
   no_labels none_between w e = refl
   no_labels (label_between {l = l} {next = next} p) w e = by (goes (length next)) refl e
     where
-      by : {A : Type 0} (b : Bool) → goes (length next) ≡ b → cond b (K next) (bare (flow.Label l) ∷ K next) ≡ [] → A
-      by true s e = absurd (true≢false (useless_landing (each (bare (flow.Label l)) next (tail_stands w) s)))
+      by : {A : Type 0} (b : Bool) → goes (length next) ≡ b → cond b (K next) (bare_flow (flow.Label l) ∷ K next) ≡ [] → A
+      by true s e = absurd (true≢false (useless_landing (each (bare_flow (flow.Label l)) next (tail_stands w) s)))
       by false s e = absurd (none_left _ (K next) e)
 
   ended : (is : List Line) (tries : List ℕ) → Comes m is tries → K is ≡ [] → ⊥
@@ -250,7 +250,7 @@ module _ (m : Lin) (goes : ℕ → Bool) (each : (i : Line) (next : List Line) �
           let r : Reached m (i ∷ next) tries = comes_line c (useless_landing {m = m} {next = next} (unread z dead)) in
           ih (there (subst (Reached m next) (g.tries tries) (by_step r (walks.goes On g.on)))) e
       gone (skipped {l = k} same between) e ih =
-          let r : Reached m (bare (flow.Jump k) ∷ next) tries = subst (λ x. Reached m (x ∷ next) tries) same (comes_line c (ap (λ (i : Line). is_landing i.op) same)) in
+          let r : Reached m (bare_flow (flow.Jump k) ∷ next) tries = subst (λ x. Reached m (x ∷ next) tries) same (comes_line c (ap (λ (i : Line). is_landing i.op) same)) in
           ih (there (subst (λ code. Reached m code tries) (sym (no_labels between (tail_next (comes_tail c)) e)) (by_step r (walks.goes (At k) this)))) e
 
       by : (b : Bool) → goes (length next) ≡ b → cond b (K next) (i ∷ K next) ≡ [] → (Comes m next tries → K next ≡ [] → ⊥) → ⊥

@@ -16,7 +16,7 @@ use Rattle.mach_ir.specs.declared.mach.MachOp.{MachOp}
 use Rattle.mach_ir.specs.declared.mach.MachOp.TheVariants as mach
 use Rattle.mach_ir.specs.declared.mach.Instr.{Instr}
 use Rattle.mach_ir.specs.declared.mach.Mach.{Mach}
-use Rattle.lin_ir.specs.Descriptors.{IsWithin, frame_bytes}
+use Rattle.lin_ir.specs.Descriptors.{FitsDescriptors, frame_bytes}
 use Rattle.lin_ir.specs.Keeps.{IsNamedIn}
 use Rattle.lin_ir.specs.Walks.{Traps, by_walk, unreached}
 use Rattle.lin_ir.specs.declared.descr.Descr.{Descr}
@@ -25,7 +25,7 @@ use Rattle.lin_ir.specs.declared.lin.LinOp.TheVariants as lin
 use Rattle.lin_ir.specs.declared.lin.Line.{Line}
 use Rattle.lin_ir.specs.declared.lin.Lin.{Lin}
 use Rattle.lin_ir.proofs.Keeping.{keeps_then}
-use Rattle.pass_rules.specs.Measures.{exits}
+use Rattle.pass_rules.specs.Measures.{exit_count}
 use Rattle.pass_rules.specs.Carried.{OffsetFits}
 use Rattle.linear_rules.specs.Lowered.{slot_number, lowered}
 use Rattle.linear_rules.specs.Sizes.{tries_ended}
@@ -55,13 +55,13 @@ use Rattle.chained_functions.proofs.Carried.{lowered_shallow, tidied_shallow, ti
 -- ---- how many lines
 
 -- an exit ends at most so many tries
-pub ended_few : (k : ℕ) (code : List Instr) → ((i : Instr) (next : List Instr) → mach_walks.Stands i next code → (l n : ℕ) → i.op ≡ mach.Mark (mark.Exit l n) → n ≤ k) → tries_ended code ≤ exits code * k
+pub ended_few : (k : ℕ) (code : List Instr) → ((i : Instr) (next : List Instr) → mach_walks.StandsAsInstr i next code → (l n : ℕ) → i.op ≡ mach.Mark (mark.Exit l n) → n ≤ k) → tries_ended code ≤ exit_count code * k
 ended_few k [] h = omega arith
 ended_few k (i ∷ is) h = by i.op i.args i.results (λ l n e. h i is mach_walks.here l n e) (ended_few k is (λ j next s l n e. h j next (mach_walks.below s) l n e))
   where
-    by : (f : MachOp) (args results : List Reg) → ((l n : ℕ) → f ≡ mach.Mark (mark.Exit l n) → n ≤ k) → tries_ended is ≤ exits is * k → tries_ended (instr f args results ∷ is) ≤ exits (instr f args results ∷ is) * k
+    by : (f : MachOp) (args results : List Reg) → ((l n : ℕ) → f ≡ mach.Mark (mark.Exit l n) → n ≤ k) → tries_ended is ≤ exit_count is * k → tries_ended (instr f args results ∷ is) ≤ exit_count (instr f args results ∷ is) * k
     by (mach.Op f) args results own ih = omega (arith, ih)
-    by (mach.Mark (mark.Exit l n)) args results own ih = let le = own l n refl in let e = suc-mul (exits is) k in omega (arith, ih, le, e)
+    by (mach.Mark (mark.Exit l n)) args results own ih = let le = own l n refl in let e = suc-mul (exit_count is) k in omega (arith, ih, le, e)
     by (mach.Mark (mark.If t l)) args results own ih = omega (arith, ih)
     by (mach.Mark (mark.Else l end)) args results own ih = omega (arith, ih)
     by (mach.Mark (mark.Switch ls)) args results own ih = omega (arith, ih)
@@ -119,7 +119,7 @@ module _ {defined : List ℕ → Option DefinedSymbol} {tree : FunctionTree} (ac
 
   lines_few : length m.code < 4294967296
   lines_few =
-      let own : (i : Instr) (next : List Instr) → mach_walks.Stands i next q.code → (l n : ℕ) → i.op ≡ mach.Mark (mark.Exit l n) → n ≤ tries tree =
+      let own : (i : Instr) (next : List Instr) → mach_walks.StandsAsInstr i next q.code → (l n : ℕ) → i.op ≡ mach.Mark (mark.Exit l n) → n ≤ tries tree =
       λ i next s l n e. let ended = (is.formed).nested.at_exit i next s l n e in let le = is.tries i next s in omega (arith, ended, le) in
       let ended = ended_few (tries tree) q.code own in
       let tokens = few_tokens tree accepted.checked.limits_kept in
@@ -127,13 +127,13 @@ module _ {defined : List ℕ → Option DefinedSymbol} {tree : FunctionTree} (ac
       let rarely = selected_exits tree in
       let same = is.exits in
       let nest = few_nest tree.body in
-      let product = few_product (exits q.code) (tries tree) (omega (arith, same, rarely, cover, tokens)) (omega (arith, nest, cover, tokens)) in
+      let product = few_product (exit_count q.code) (tries tree) (omega (arith, same, rarely, cover, tokens)) (omega (arith, nest, cover, tokens)) in
       let lines = linear.lines in
       let instrs = is.instrs in
       omega (arith, lines, ended, product, instrs, tokens)
 
   -- What descriptors ask of a Linear function, whose frame and traps fit.
-  pub within : frame_bytes m + 16 * tries tree ≤ 1048576 → IsWithin m
+  pub within : frame_bytes m + 16 * tries tree ≤ 1048576 → FitsDescriptors m
   within fit =
       record {
         lines = lines_few;

@@ -10,13 +10,13 @@ use Rattle.linear_rules.specs.Sizes.{tries_ended, HasLineRoom}
 use Rattle.linear_rules.proofs.Slots.{slots_low}
 use Rattle.mach_ir.specs.Keeps.{is_slot}
 use Rattle.mach_ir.specs.Walks as mach_walks
-use Rattle.mach_ir.specs.Placed.{IsPlaced, in_colour, in_slot}
+use Rattle.mach_ir.specs.Placed.{HasColourOrSlot, in_colour, in_slot}
 use Rattle.mach_ir.specs.declared.mach.Instr.{Instr}
 use Rattle.mach_ir.specs.declared.mach.Mach.{Mach}
 use Rattle.mach_ir.specs.declared.mach.Mark.TheVariants as mark
 use Rattle.mach_ir.specs.declared.mach.MachOp.TheVariants as mach
 use Rattle.mach_ir.specs.declared.reg.Reg.{Reg}
-use Rattle.pass_rules.specs.Measures.{exits}
+use Rattle.pass_rules.specs.Measures.{exit_count}
 use Rattle.selection_promise.specs.Selects.{IsAccepted}
 use Rattle.selection_promise.proofs.Promised.{promised, few_tokens}
 use Rattle.placed_functions.specs.Placed.{IsPlacedFor}
@@ -50,7 +50,7 @@ few_ended n k sum =
 module _ {defined : List ℕ → Option DefinedSymbol} {tree : FunctionTree} (accepted : IsAccepted defined tree) {q : Mach} (is : IsPlacedFor tree q) where
   ended : tries_ended q.code ≤ 603000000
   ended =
-      let own : (i : Instr) (next : List Instr) → mach_walks.Stands i next q.code → (l n : ℕ) → i.op ≡ mach.Mark (mark.Exit l n) → n ≤ tries tree =
+      let own : (i : Instr) (next : List Instr) → mach_walks.StandsAsInstr i next q.code → (l n : ℕ) → i.op ≡ mach.Mark (mark.Exit l n) → n ≤ tries tree =
       λ i next s l n e. let ended = (is.formed).nested.at_exit i next s l n e in let le = is.tries i next s in omega (arith, ended, le) in
       let all = ended_few (tries tree) q.code own in
       let tokens = few_tokens tree accepted.checked.limits_kept in
@@ -58,7 +58,7 @@ module _ {defined : List ℕ → Option DefinedSymbol} {tree : FunctionTree} (ac
       let rarely = selected_exits tree in
       let same = is.exits in
       let nest = few_nest tree.body in
-      let product = few_ended (exits q.code) (tries tree) (omega (arith, same, rarely, nest, cover, tokens)) in
+      let product = few_ended (exit_count q.code) (tries tree) (omega (arith, same, rarely, nest, cover, tokens)) in
       omega (arith, all, product)
 
   -- a slot is that of an origin of selected code
@@ -70,7 +70,7 @@ module _ {defined : List ℕ → Option DefinedSymbol} {tree : FunctionTree} (ac
       let at : r.origin ≡ k = of_place ((is.placed).places r among) in
       subst (λ n. n < 23 * tree.tokens) (o.same ∙ at) low
     where
-      of_place : IsPlaced r → r.origin ≡ k
+      of_place : HasColourOrSlot r → r.origin ≡ k
       of_place (in_colour n c e) = absurd (no_slot (sym e ∙ stands))
         where
           no_slot : {n : ℕ} → loc.Machine n ≡ loc.Slot k → ⊥

@@ -18,5 +18,5 @@ abbrev pub turns : Machine → ℕ
 turns m = 5 * m.world.left + length m.frames.items
 
 -- at most so many turns more are to come than the machine had before, without what was due then
-abbrev pub Falls : ℕ → Machine → Machine → Now → Type 0
-Falls more old new next = turns new + due next ≤ turns old + more
+abbrev pub TurnsFall : ℕ → Machine → Machine → Now → Type 0
+TurnsFall more old new next = turns new + due next ≤ turns old + more

@@ -3,7 +3,7 @@ ghost use Rattle.std.specs.Prelude.{◌≡◌, IfOk};
 ghost use Rattle.cmm_meaning.specs.Evaluation as evaluation;
 ghost use Rattle.eval_frames.specs.Filled.{bindings_from};
 ghost use Rattle.cmm_eval.specs.Stands.{stands_in, goes_on_in};
-ghost use Rattle.cmm_eval.specs.Turns.{Falls};
+ghost use Rattle.cmm_eval.specs.Turns.{TurnsFall};
 
 use crate::machine::Machine;
 use cmm_tree::{Binding, Form};
@@ -21,7 +21,7 @@ impl<'a> Machine<'a> {
         ensures meaning { IfOk result (λ now. (s : evaluation.Surroundings) →
             stands_in s self.new now ≡ goes_on_in s self.old (λ h w.
             bindings_from s bindings.entry.now h w)) }
-        ensures falls { IfOk result (λ now. Falls 3 self.old self.new now) }
+        ensures falls { IfOk result (λ now. TurnsFall 3 self.old self.new now) }
     {
         match bindings.split_first() {
             None => Ok(Now::Gives(None)),

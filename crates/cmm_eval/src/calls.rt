@@ -10,7 +10,7 @@ ghost use Rattle.eval_frames.specs.Passing.{ComesBack, TakesPlace};
 ghost use Rattle.eval_frames.specs.Views.{here_view, layout_view, call_view};
 ghost use Rattle.eval_frames.specs.Around.{IsAround, around_view, activated_held};
 ghost use Rattle.cmm_eval.specs.Stands.{stands, goes_on, stands_in, goes_on_in};
-ghost use Rattle.cmm_eval.specs.Turns.{Falls, turns};
+ghost use Rattle.cmm_eval.specs.Turns.{TurnsFall, turns};
 
 use crate::machine::Machine;
 use bs_words::{Call, Kind, Name, Ret, Value};
@@ -47,7 +47,7 @@ impl<'a> Machine<'a> {
             goes_on around.now self.old
             (λ h w. operated_by (around_view around.now) form.entry.now tail callee
             (reverse values.items) h w)) }
-        ensures falls { IfOk result (λ now. Falls 3 self.old self.new now) }
+        ensures falls { IfOk result (λ now. TurnsFall 3 self.old self.new now) }
     {
         match form {
             Form::Alloc { header, .. } => {
@@ -111,7 +111,7 @@ impl<'a> Machine<'a> {
             stands_in s self.new now ≡ goes_on_in s self.old (λ h w.
             proper (allocated w.memory header cells.items) w (λ memory.
             Gives (Some (next_block w.memory)) h (record w { memory = memory })))) }
-        ensures falls { IfOk result (λ now. Falls 3 self.old self.new now) }
+        ensures falls { IfOk result (λ now. TurnsFall 3 self.old self.new now) }
     {
         match self.world.memory.allocate(header, cells)? {
             Ok(pointer) => Ok(Now::Gives(Some(pointer))),
@@ -133,7 +133,7 @@ impl<'a> Machine<'a> {
         ensures meaning { IfOk result (λ now. stands around.now self.new now ≡
             goes_on around.now self.old
             (λ h w. applied (around_view around.now) callee arguments.items written tail h w)) }
-        ensures falls { IfOk result (λ now. Falls 3 self.old self.new now) }
+        ensures falls { IfOk result (λ now. TurnsFall 3 self.old self.new now) }
     {
         let Value::Function(number) = callee else {
             return Ok(not_proper(Kind::BadCall));
@@ -167,7 +167,7 @@ impl<'a> Machine<'a> {
             stands_in s self.new now ≡ goes_on_in s self.old (λ h w.
             returned written h (activated_held s callee.entry.frame
             (Some callee.entry.function.now) arguments.now (stack_below tail h) w))) }
-        ensures falls { IfOk result (λ now. Falls 3 self.old self.new now) }
+        ensures falls { IfOk result (λ now. TurnsFall 3 self.old self.new now) }
     {
         let below = self.here.stack_below(tail)?;
         let taken = below.checked_add(callee.frame).ok_or(AllocError)?;
@@ -247,7 +247,7 @@ impl<'a> Machine<'a> {
             (λ h w. returned written h (answered_as frame
             (around_view around.now).end written (call_seen
             (layout_view around.now.layout.now) name.entry.now arguments.now) w.answers w))) }
-        ensures falls { IfOk result (λ now. Falls 3 self.old self.new now) }
+        ensures falls { IfOk result (λ now. TurnsFall 3 self.old self.new now) }
     {
         let call = Call {
             name: Name::from_vec(Vec::from_slice(around.alloc, name.as_bytes())?),
@@ -265,7 +265,7 @@ impl<'a> Machine<'a> {
         ensures meaning { IfOk result (λ now. (s : evaluation.Surroundings) → (end : ℕ) →
             stands_in s self.new now ≡ goes_on_in s self.old (λ h w.
             returned written h (answered_as false end written (call_view call) w.answers w))) }
-        ensures falls { IfOk result (λ now. Falls 3 self.old self.new now) }
+        ensures falls { IfOk result (λ now. TurnsFall 3 self.old self.new now) }
     {
         match written {
             Ret::Unit => {
@@ -288,7 +288,7 @@ impl<'a> Machine<'a> {
         ensures meaning { IfOk result (λ now. (s : evaluation.Surroundings) →
             stands_in s self.new now ≡ goes_on_in s self.old (λ h w.
             returned written h (answered_as true end written (call_view call) w.answers w))) }
-        ensures falls { IfOk result (λ now. Falls 3 self.old self.new now) }
+        ensures falls { IfOk result (λ now. TurnsFall 3 self.old self.new now) }
     {
         let Some((first, rest)) = self.world.answers.split_first() else {
             return Ok(Now::Stops(Stop::NoAnswer(call)));

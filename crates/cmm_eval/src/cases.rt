@@ -6,7 +6,7 @@ ghost use Rattle.cmm_meaning.specs.Evaluation.{Exits, Raises};
 ghost use Rattle.eval_frames.specs.Filled.{fills};
 ghost use Rattle.eval_frames.specs.Around.{IsAround, around_view};
 ghost use Rattle.cmm_eval.specs.Stands.{stands, goes_on, stands_in, goes_on_in};
-ghost use Rattle.cmm_eval.specs.Turns.{Falls};
+ghost use Rattle.cmm_eval.specs.Turns.{TurnsFall};
 
 use crate::machine::Machine;
 use bs_words::{Kind, Ty, Value};
@@ -32,7 +32,7 @@ impl<'a> Machine<'a> {
             goes_on around.now self.old
             (λ h w. fills (around_view around.now) frame.entry (Exits
             (label_view label.entry.now) values.items h w))) }
-        ensures falls { IfOk result (λ now. Falls 3 self.old self.new now) }
+        ensures falls { IfOk result (λ now. TurnsFall 3 self.old self.new now) }
     {
         let Frame { form, tail, step } = frame;
         match step {
@@ -93,7 +93,7 @@ impl<'a> Machine<'a> {
         ensures meaning { IfOk result (λ now. (s : evaluation.Surroundings) →
             stands_in s self.new now ≡ goes_on_in s self.old (λ h w.
             fills s frame.entry (Raises value h w))) }
-        ensures falls { IfOk result (λ now. Falls 3 self.old self.new now) }
+        ensures falls { IfOk result (λ now. TurnsFall 3 self.old self.new now) }
     {
         let Frame { form, tail, step } = frame;
         match step {

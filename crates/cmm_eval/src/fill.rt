@@ -6,7 +6,7 @@ ghost use Rattle.eval_frames.specs.declared.frame.Step.{Step};
 ghost use Rattle.eval_frames.specs.Filled.{WantsValue, does, fills, taken_by, joined_by, body_of, first_bound};
 ghost use Rattle.eval_frames.specs.Around.{IsAround, around_view};
 ghost use Rattle.cmm_eval.specs.Stands.{stands, goes_on, stands_in, goes_on_in};
-ghost use Rattle.cmm_eval.specs.Turns.{Falls};
+ghost use Rattle.cmm_eval.specs.Turns.{TurnsFall};
 
 use crate::machine::Machine;
 use bs_words::{Kind, Value};
@@ -33,7 +33,7 @@ impl<'a> Machine<'a> {
         ensures meaning { IfOk result (λ now. stands around.now self.new now ≡
             goes_on around.now self.old
             (λ h w. fills (around_view around.now) frame.entry (Gives value h w))) }
-        ensures falls { IfOk result (λ now. Falls 3 self.old self.new now) }
+        ensures falls { IfOk result (λ now. TurnsFall 3 self.old self.new now) }
     {
         let Frame { form, tail, step } = frame;
         match step {
@@ -72,7 +72,7 @@ impl<'a> Machine<'a> {
         ensures meaning { IfOk result (λ now. stands around.now self.new now ≡
             goes_on around.now self.old
             (λ h w. fills (around_view around.now) frame.entry (Gives (Some value) h w))) }
-        ensures falls { IfOk result (λ now. Falls 3 self.old self.new now) }
+        ensures falls { IfOk result (λ now. TurnsFall 3 self.old self.new now) }
     {
         let Frame { form, tail, step } = frame;
         match step {
@@ -125,7 +125,7 @@ impl<'a> Machine<'a> {
         ensures meaning { IfOk result (λ now. stands around.now self.new now ≡
             goes_on around.now self.old
             (λ h w. taken_by (around_view around.now) form.entry.now tail value h w)) }
-        ensures falls { IfOk result (λ now. Falls 3 self.old self.new now) }
+        ensures falls { IfOk result (λ now. TurnsFall 3 self.old self.new now) }
     {
         match form {
             Form::Assign { name, .. } => {
@@ -197,7 +197,7 @@ impl<'a> Machine<'a> {
         ensures meaning { IfOk result (λ now. (s : evaluation.Surroundings) →
             stands_in s self.new now ≡ goes_on_in s self.old (λ h w.
             does s (Step.First left_first) form.entry.now tail (Gives (Some first) h w))) }
-        ensures falls { IfOk result (λ now. Falls 3 self.old self.new now) }
+        ensures falls { IfOk result (λ now. TurnsFall 3 self.old self.new now) }
     {
         if group_of(form) != Group::Two {
             return Ok(not_proper(Kind::BadValue));
@@ -213,7 +213,7 @@ impl<'a> Machine<'a> {
         ensures meaning { IfOk result (λ now. (s : evaluation.Surroundings) →
             stands_in s self.new now ≡ goes_on_in s self.old (λ h w.
             joined_by s form.entry.now left right h w)) }
-        ensures falls { IfOk result (λ now. Falls 3 self.old self.new now) }
+        ensures falls { IfOk result (λ now. TurnsFall 3 self.old self.new now) }
     {
         match form {
             Form::Operator(op, _, _) => Ok(given(apply(*op, &self.world.memory, left, right))),
@@ -257,7 +257,7 @@ impl<'a> Machine<'a> {
         ensures meaning { IfOk result (λ now. stands around.now self.new now ≡
             goes_on around.now self.old
             (λ h w. first_bound (around_view around.now) bindings.entry.now value h w)) }
-        ensures falls { IfOk result (λ now. Falls 3 self.old self.new now) }
+        ensures falls { IfOk result (λ now. TurnsFall 3 self.old self.new now) }
     {
         match bindings.split_first() {
             None => Ok(not_proper(Kind::BadValue)),
@@ -281,7 +281,7 @@ impl<'a> Machine<'a> {
         ensures meaning { IfOk result (λ now. (s : evaluation.Surroundings) →
             stands_in s self.new now ≡ goes_on_in s self.old (λ h w.
             body_of s form.entry.now tail level tries h w)) }
-        ensures falls { IfOk result (λ now. Falls 3 self.old self.new now) }
+        ensures falls { IfOk result (λ now. TurnsFall 3 self.old self.new now) }
     {
         match form {
             Form::Let(_, body) => {

@@ -7,7 +7,7 @@ ghost use Rattle.eval_frames.specs.Held.{inside};
 ghost use Rattle.eval_frames.specs.Filled.{standing};
 ghost use Rattle.eval_frames.specs.Around.{IsAround, around_view};
 ghost use Rattle.cmm_eval.specs.Stands.{stands, goes_on};
-ghost use Rattle.cmm_eval.specs.Turns.{Falls};
+ghost use Rattle.cmm_eval.specs.Turns.{TurnsFall};
 
 use crate::machine::Machine;
 use bs_words::Value;
@@ -66,7 +66,7 @@ impl<'a> Machine<'a> {
         ensures meaning { IfOk result (λ now. stands around.now self.new now ≡
             goes_on around.now self.old
             (λ h w. inside (around_view around.now) form.entry.now tail h w)) }
-        ensures falls { IfOk result (λ now. Falls 3 self.old self.new now) }
+        ensures falls { IfOk result (λ now. TurnsFall 3 self.old self.new now) }
     {
         let expr = operand_of(form);
         self.push(form, tail, Step::Operand)?;
@@ -85,7 +85,7 @@ impl<'a> Machine<'a> {
         ensures meaning { IfOk result (λ now. stands around.now self.new now ≡
             goes_on around.now self.old
             (λ h w. inside (around_view around.now) form.entry.now tail h w)) }
-        ensures falls { IfOk result (λ now. Falls 3 self.old self.new now) }
+        ensures falls { IfOk result (λ now. TurnsFall 3 self.old self.new now) }
     {
         let (left, right) = both_operands(form);
         let left_first = is_left_first(&self.here, left, right);

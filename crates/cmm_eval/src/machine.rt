@@ -6,7 +6,7 @@ ghost use Rattle.eval_frames.specs.Held.{inside};
 ghost use Rattle.eval_frames.specs.Filled.{HasEnded, expression, standing, fills};
 ghost use Rattle.eval_frames.specs.Around.{IsAround, around_view};
 ghost use Rattle.cmm_eval.specs.Stands.{stands, goes_on};
-ghost use Rattle.cmm_eval.specs.Turns.{Falls, turns};
+ghost use Rattle.cmm_eval.specs.Turns.{TurnsFall, turns};
 
 use bs_words::Kind;
 use cmm_tree::{Expr, Form};
@@ -71,7 +71,7 @@ impl<'a> Machine<'a> {
         ensures meaning { IfOk result (λ now. stands around.now self.new now ≡
             goes_on around.now self.old
             (λ h w. expression (around_view around.now) expr.entry.now tail h w)) }
-        ensures falls { IfOk result (λ now. Falls 0 self.old self.new now) }
+        ensures falls { IfOk result (λ now. TurnsFall 0 self.old self.new now) }
     {
         if group_of(&expr.form) == Group::Float {
             return Ok(not_proper(Kind::BadValue));
@@ -117,7 +117,7 @@ impl<'a> Machine<'a> {
         ensures meaning { IfOk result (λ now. stands around.now self.new now ≡
             goes_on around.now self.old
             (λ h w. inside (around_view around.now) form.entry.now tail h w)) }
-        ensures falls { IfOk result (λ now. Falls 4 self.old self.new now) }
+        ensures falls { IfOk result (λ now. TurnsFall 4 self.old self.new now) }
     {
         match group_of(form) {
             Group::Float => Ok(not_proper(Kind::BadValue)),
@@ -149,7 +149,7 @@ impl<'a> Machine<'a> {
             goes_on around.now self.old
             (λ h w. fills (around_view around.now) frame.entry (standing
             (around_view around.now) ended.entry h w))) }
-        ensures falls { IfOk result (λ now. Falls 3 self.old self.new now) }
+        ensures falls { IfOk result (λ now. TurnsFall 3 self.old self.new now) }
     {
         match ended {
             Now::Gives(value) => self.fill(around, frame, value),

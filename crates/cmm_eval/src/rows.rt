@@ -7,7 +7,7 @@ ghost use Rattle.eval_frames.specs.Held.{inside};
 ghost use Rattle.eval_frames.specs.declared.group.Group.{Group};
 ghost use Rattle.eval_frames.specs.Around.{IsAround, around_view};
 ghost use Rattle.cmm_eval.specs.Stands.{stands, goes_on, stands_in, goes_on_in};
-ghost use Rattle.cmm_eval.specs.Turns.{Falls};
+ghost use Rattle.cmm_eval.specs.Turns.{TurnsFall};
 ghost use Rattle.cmm_meaning.specs.Evaluation as evaluation;
 
 use crate::machine::Machine;
@@ -26,7 +26,7 @@ impl<'a> Machine<'a> {
         ensures meaning { IfOk result (λ now. (s : evaluation.Surroundings) →
             stands_in s self.new now ≡ goes_on_in s self.old (λ h w.
             inside s form.entry.now tail h w)) }
-        ensures falls { IfOk result (λ now. Falls 3 self.old self.new now) }
+        ensures falls { IfOk result (λ now. TurnsFall 3 self.old self.new now) }
     {
         match form {
             Form::Seq(elements) => self.elements(form, tail, elements.as_slice()),
@@ -64,7 +64,7 @@ impl<'a> Machine<'a> {
         ensures meaning { IfOk result (λ now. (s : evaluation.Surroundings) →
             stands_in s self.new now ≡ goes_on_in s self.old (λ h w.
             elements_from s elements.entry.now tail h w)) }
-        ensures falls { IfOk result (λ now. Falls 3 self.old self.new now) }
+        ensures falls { IfOk result (λ now. TurnsFall 3 self.old self.new now) }
     {
         match elements.split_first() {
             None => Ok(Now::Gives(None)),
@@ -85,7 +85,7 @@ impl<'a> Machine<'a> {
         ensures meaning { IfOk result (λ now. (s : evaluation.Surroundings) →
             stands_in s self.new now ≡ goes_on_in s self.old (λ h w.
             inside s form.entry.now tail h w)) }
-        ensures falls { IfOk result (λ now. Falls 4 self.old self.new now) }
+        ensures falls { IfOk result (λ now. TurnsFall 4 self.old self.new now) }
     {
         let level = self.here.names.len();
         let tries = self.here.tries;
@@ -141,7 +141,7 @@ impl<'a> Machine<'a> {
             stands_in s self.new now ≡ goes_on_in s self.old (λ h w.
             expression s body.entry.now false (within_try h) (deepened (taken
             (within_try h)) w))) }
-        ensures falls { IfOk result (λ now. Falls 3 self.old self.new now) }
+        ensures falls { IfOk result (λ now. TurnsFall 3 self.old self.new now) }
     {
         let bytes = self.here.taken()?.checked_add(16).ok_or(AllocError)?;
         self.here.tries += 1;
@@ -167,7 +167,7 @@ impl<'a> Machine<'a> {
             goes_on around.now self.old
             (λ h w. waits_for (around_view around.now) form.entry.now tail
             (reverse operands.entry.now) (reverse values.items) h w)) }
-        ensures falls { IfOk result (λ now. Falls 3 self.old self.new now) }
+        ensures falls { IfOk result (λ now. TurnsFall 3 self.old self.new now) }
     {
         let mut left = operands.len();
         while left > 0 {
@@ -197,7 +197,7 @@ impl<'a> Machine<'a> {
             goes_on around.now self.old
             (λ h w. after_waiting (around_view around.now) form.entry.now tail waited.items h
             w)) }
-        ensures falls { IfOk result (λ now. Falls 3 self.old self.new now) }
+        ensures falls { IfOk result (λ now. TurnsFall 3 self.old self.new now) }
     {
         match prompt_callee(&self.here, form) {
             Some(expr) => {
@@ -228,7 +228,7 @@ impl<'a> Machine<'a> {
         ensures meaning { IfOk result (λ now. stands around.now self.new now ≡
             goes_on around.now self.old
             (λ h w. row_fills (around_view around.now) form.entry.now tail callee row.entry h w)) }
-        ensures falls { IfOk result (λ now. Falls 3 self.old self.new now) }
+        ensures falls { IfOk result (λ now. TurnsFall 3 self.old self.new now) }
     {
         let Row {
             operands,

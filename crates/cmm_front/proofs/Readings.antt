@@ -11,7 +11,7 @@ use Rattle.cmm_tree.specs.Tree.{ItemTree, FileTree}
 use Rattle.cmm_grammar.specs.Spelling.{nesting}
 use Rattle.cmm_data.specs.Faults.{data_fault_of}
 use Rattle.bs_fault.specs.Limits.{longest_text}
-use Rattle.cmm_reader.specs.Text.{file_faults, ReadsAs}
+use Rattle.cmm_reader.specs.Text.{read_file_faults, ReadsAs}
 use Rattle.cmm_reader.specs.Telling.{Tells, IsReading, too_long, by_tokens}
 use Rattle.cmm_reader.proofs.One.{one-reading}
 use Rattle.cmm_reader.proofs.Telling.{said_reading}
@@ -38,7 +38,7 @@ pub record IsRead (text : List ℕ) (file : FileTree) : Type 0 where
   pub rest : List TokenTree
   pub cut : Splits 0 text tokens None
   pub items : items_at nesting tokens ≡ Read file.items rest
-  pub faultless : Faultless (file_faults (first_range tokens) file)
+  pub faultless : Faultless (read_file_faults (first_range tokens) file)
 
 read_by : (text : List ℕ) (tokens : List TokenTree) (lexing : Option Fault) (file : FileTree) (o : Outcome (List ItemTree))
     → length text ≤ longest_text

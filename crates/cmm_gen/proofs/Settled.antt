@@ -9,7 +9,7 @@ use Rattle.cmm_types.specs.Light.{is_light_address}
 use Rattle.cmm_types.specs.Types.{Scoped, unless_float, type_of, is_address}
 use Rattle.cmm_types.proofs.Containing.{contains_none, contains_cases}
 use Rattle.walk_tables.specs.Walks
-use Rattle.walk_tables.specs.Walks.{Event, Binds, Uses, Passes, Slotted, names, slot_of, Task, Does, Evaluates, Enters, OneOf, MayRaise, Raises, Handles, operand, takes, waiting, filled, all_operands, used_at, tasks_of, entering, handling, behind_raise, Walk, walk_tasks}
+use Rattle.walk_tables.specs.Walks.{Event, Binds, Uses, Passes, Slotted, names, slot_of, Task, Does, Evaluates, Enters, OneOf, MayRaise, Raises, Handles, operand, operand_uses, waiting, filled_slots, all_operands, used_at, tasks_of, entering, handling, behind_raise, Walk, walk_tasks}
 use Rattle.cmm_tree.specs.Measures.{count_of}
 use Rattle.walk_tables.specs.AddrLive.{IsLive}
 use Rattle.cmm_gen.specs.Drawn.{Drawn, DrawnFunction}
@@ -75,7 +75,7 @@ joined _ us (more t ts p ps) q = more t (ts ++ us) p (joined ts us ps q)
 one : (t : Task) → IsSettled t → AreTasks (t ∷ [])
 one t p = more t [] p none
 
-taken : (at slot n : ℕ) → AreTasks (takes at slot n)
+taken : (at slot n : ℕ) → AreTasks (operand_uses at slot n)
 taken at slot zero = none
 taken at slot (suc n) = more _ _ (does _ (uses slot at)) (taken at (suc slot) n)
 
@@ -95,7 +95,7 @@ are_waiting scope free slot (More e rest) (AreSettled.more _ _ _ p word ps) =
     (are_waiting scope free (suc slot) rest ps)
     (first_of (is_light_address (names scope) e) [] (operand scope free slot e) none (an_operand scope free slot e p word))
 
-are_filled : (scope : List Slotted) (free slot : ℕ) (es : Expressions) → AreSettled (names scope) es → AreTasks (filled scope free slot es)
+are_filled : (scope : List Slotted) (free slot : ℕ) (es : Expressions) → AreSettled (names scope) es → AreTasks (filled_slots scope free slot es)
 are_filled scope free slot NoMore p = none
 are_filled scope free slot (More e rest) (AreSettled.more _ _ _ p word ps) =
     joined _ _

@@ -14,18 +14,18 @@ abbrev pub generator : ℕ → Lcg
 generator seed = pcg32_of_seed (pcg32_seed 16 seed)
 
 -- the next word
-abbrev pub word : Draw ℕ
-word g = pcg32 g
+abbrev pub draw_word : Draw ℕ
+draw_word g = pcg32 g
 
-abbrev pub number : Draw Drawn
-number g = let w = word g in (Number (w.0 % 201), w.1)
+abbrev pub draw_number : Draw Drawn
+draw_number g = let w = draw_word g in (Number (w.0 % 201), w.1)
 
 abbrev pub variable : Draw Drawn
-variable g = let w = word g in (Variable (w.0 % 2 == 0), w.1)
+variable g = let w = draw_word g in (Variable (w.0 % 2 == 0), w.1)
 
 -- two of these, and what they are put together to
-abbrev pub two : Draw Drawn → (Drawn → Drawn → Drawn) → Draw Drawn
-two part made g = let a = part g in let b = part a.1 in (made a.0 b.0, b.1)
+abbrev pub draw_two : Draw Drawn → (Drawn → Drawn → Drawn) → Draw Drawn
+draw_two part made g = let a = part g in let b = part a.1 in (made a.0 b.0, b.1)
 
 abbrev pub four : Draw Drawn → (Drawn → Drawn → Drawn → Drawn → Drawn) → Draw Drawn
 four part made g =
@@ -36,21 +36,21 @@ four part made g =
     (made a.0 b.0 c.0 d.0, d.1)
 
 -- number r of the forms, whose parts are drawn so
-abbrev pub form : ℕ → Draw Drawn → Draw Drawn
-form r part g =
-    cond (r == 0) (number g)
+abbrev pub draw_form : ℕ → Draw Drawn → Draw Drawn
+draw_form r part g =
+    cond (r == 0) (draw_number g)
     (cond (r == 1) (variable g)
-    (cond (r == 2) (two part Sum g)
-    (cond (r == 3) (two part Difference g)
-    (cond (r == 4) (two part Product g)
+    (cond (r == 2) (draw_two part Sum g)
+    (cond (r == 3) (draw_two part Difference g)
+    (cond (r == 4) (draw_two part Product g)
     (cond (r == 5) (four part Choice g)
-    (cond (r == 6) (two part Cell g) (four part Attempt g)))))))
+    (cond (r == 6) (draw_two part Cell g) (four part Attempt g)))))))
 
 -- an expression of this depth: at depth 0 it is one of the first two forms, and else one of all eight, whose
 -- parts have a depth less
-unfoldable pub expression : ℕ → Draw Drawn
-expression zero g = let r = word g in form (r.0 % 2) number r.1
-expression (suc d) g = let r = word g in form (r.0 % 8) (expression d) r.1
+unfoldable pub draw_expression : ℕ → Draw Drawn
+draw_expression zero g = let r = draw_word g in draw_form (r.0 % 2) draw_number r.1
+draw_expression (suc d) g = let r = draw_word g in draw_form (r.0 % 8) (draw_expression d) r.1
 
 -- the depth of the expressions in functions
 abbrev pub deepest : ℕ
@@ -58,9 +58,9 @@ deepest = 3
 
 unfoldable pub function : Draw DrawnFunction
 function g =
-    let p = expression deepest g in
-    let q = expression deepest p.1 in
-    let b = expression deepest q.1 in
+    let p = draw_expression deepest g in
+    let q = draw_expression deepest p.1 in
+    let b = draw_expression deepest q.1 in
     (record { p = p.0; q = q.0; b = b.0 }, b.1)
 
 -- so many functions

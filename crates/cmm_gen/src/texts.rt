@@ -4,7 +4,7 @@ ghost use Rattle.std.specs.Prelude.{◌≡◌, ◌<◌, ◌≤◌, ◌++◌, cod
 ghost use Rattle.bs_words.specs.Contents.{contents};
 ghost use Rattle.cmm_gen.specs.Drawn.{Choice, Attempt, drawn_text, body_text, function_text, text_of};
 ghost use Rattle.cmm_gen.specs.Generated.{IsProperText};
-ghost use Rattle.cmm_gen.specs.Drawing.{number, variable, four, expression, deepest, function, generator, drawn};
+ghost use Rattle.cmm_gen.specs.Drawing.{draw_number, variable, four, draw_expression, deepest, function, generator, drawn};
 
 use bs_words::List;
 use rand_core::SeedableRng;
@@ -18,8 +18,8 @@ const DEPTH: u32 = 3;
 /// Writes a number from -100 to 100: a word mod 201, less 100.
 fn write_number(text: &mut String, words: &mut Lcg64Xsh32) -> Result<(), AllocError>
     ensures text { OnOk result (text.new.bytes.items
-        ≡ text.old.bytes.items ++ drawn_text (number words.old).0) }
-    ensures words { words.new ≡ (number words.old).1 }
+        ≡ text.old.bytes.items ++ drawn_text (draw_number words.old).0) }
+    ensures words { words.new ≡ (draw_number words.old).1 }
 {
     let draw = words.next_word() % 201;
     if draw < 100 {
@@ -53,10 +53,10 @@ fn write_two(
     closing: &str,
 ) -> Result<(), AllocError>
     ensures text { OnOk result (text.new.bytes.items ≡ text.old.bytes.items
-        ++ (opening.now ++ drawn_text (expression depth words.old).0
-        ++ codes " " ++ drawn_text (expression depth (expression depth words.old).1).0
+        ++ (opening.now ++ drawn_text (draw_expression depth words.old).0
+        ++ codes " " ++ drawn_text (draw_expression depth (draw_expression depth words.old).1).0
         ++ closing.now)) }
-    ensures words { OnOk result (words.new ≡ (expression depth (expression depth words.old).1).1) }
+    ensures words { OnOk result (words.new ≡ (draw_expression depth (draw_expression depth words.old).1).1) }
 {
     text.push_str(opening)?;
     write_expression(text, words, depth)?;
@@ -69,8 +69,8 @@ fn write_two(
 #[cycle(expression)]
 fn write_choice(text: &mut String, words: &mut Lcg64Xsh32, depth: u32) -> Result<(), AllocError>
     ensures text { OnOk result (text.new.bytes.items ≡ text.old.bytes.items
-        ++ drawn_text (four (expression depth) Choice words.old).0) }
-    ensures words { OnOk result (words.new ≡ (four (expression depth) Choice words.old).1) }
+        ++ drawn_text (four (draw_expression depth) Choice words.old).0) }
+    ensures words { OnOk result (words.new ≡ (four (draw_expression depth) Choice words.old).1) }
 {
     write_two(text, words, depth, "(if (< ", ") ")?;
     write_two(text, words, depth, "", ")")
@@ -80,8 +80,8 @@ fn write_choice(text: &mut String, words: &mut Lcg64Xsh32, depth: u32) -> Result
 #[cycle(expression)]
 fn write_attempt(text: &mut String, words: &mut Lcg64Xsh32, depth: u32) -> Result<(), AllocError>
     ensures text { OnOk result (text.new.bytes.items ≡ text.old.bytes.items
-        ++ drawn_text (four (expression depth) Attempt words.old).0) }
-    ensures words { OnOk result (words.new ≡ (four (expression depth) Attempt words.old).1) }
+        ++ drawn_text (four (draw_expression depth) Attempt words.old).0) }
+    ensures words { OnOk result (words.new ≡ (four (draw_expression depth) Attempt words.old).1) }
 {
     write_two(text, words, depth, "(try (if (< ", ") (raise 1) ")?;
     write_expression(text, words, depth)?;
@@ -95,8 +95,8 @@ fn write_attempt(text: &mut String, words: &mut Lcg64Xsh32, depth: u32) -> Resul
 #[cycle(expression)]
 fn write_expression(text: &mut String, words: &mut Lcg64Xsh32, depth: u32) -> Result<(), AllocError>
     ensures text { OnOk result (text.new.bytes.items ≡ text.old.bytes.items
-        ++ drawn_text (expression depth words.old).0) }
-    ensures words { OnOk result (words.new ≡ (expression depth words.old).1) }
+        ++ drawn_text (draw_expression depth words.old).0) }
+    ensures words { OnOk result (words.new ≡ (draw_expression depth words.old).1) }
 {
     if depth == 0 {
         return if words.next_word() % 2 == 0 {
@@ -124,8 +124,8 @@ fn write_expression(text: &mut String, words: &mut Lcg64Xsh32, depth: u32) -> Re
 /// function before it gives for `p` and `q`.
 fn write_body(text: &mut String, words: &mut Lcg64Xsh32, number: u32) -> Result<(), AllocError>
     ensures text { OnOk result (text.new.bytes.items ≡ text.old.bytes.items
-        ++ body_text number (expression deepest words.old).0) }
-    ensures words { OnOk result (words.new ≡ (expression deepest words.old).1) }
+        ++ body_text number (draw_expression deepest words.old).0) }
+    ensures words { OnOk result (words.new ≡ (draw_expression deepest words.old).1) }
 {
     if number == 0 {
         return write_expression(text, words, DEPTH);

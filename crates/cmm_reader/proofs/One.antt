@@ -12,7 +12,7 @@ use Rattle.cmm_data.specs.Faults.{data_fault_of, first_fault, or_later, fault_on
 use Rattle.cmm_limits.proofs.Plain.{Plain, AllPlain, plain-both, plain-of, limits-plain, one-leftmost}
 use Rattle.cmm_grammar.specs.Reading.{Outcome, Read, Stops, items_at}
 use Rattle.cmm_grammar.specs.Spelling.{nesting}
-use Rattle.cmm_reader.specs.Text.{file_faults, ReadsAs}
+use Rattle.cmm_reader.specs.Text.{read_file_faults, ReadsAs}
 use Rattle.cmm_reader.specs.Telling.{TellsFile, TellsItems, Tells, IsReading, too_long, by_tokens}
 use Rattle.cmm_reader.proofs.Telling.{said_reading}
 
@@ -49,7 +49,7 @@ data-plain (i ∷ items) f e = by_first (fault_on i) refl (data-plain items f) e
     by_first None h more k = more k
     by_first (Some g) h more k = data-plain-on i f (h ∙ k)
 
-faults-plain : (tokens : List TokenTree) (file : FileTree) → AllPlain (file_faults (first_range tokens) file)
+faults-plain : (tokens : List TokenTree) (file : FileTree) → AllPlain (read_file_faults (first_range tokens) file)
 faults-plain tokens file =
     plain-both _ _ (limits-plain file)
     (plain-both _ _ (plain-of (first_range tokens) (range-plain tokens)) (plain-of (data_fault_of file) (data-plain (placed_items file))))
@@ -61,7 +61,7 @@ file-same : (tokens : List TokenTree) (file : FileTree) (r s : Result FileTree F
 file-same tokens file (Ok x) (Ok y) h k = ap Ok (h.0 ∙ sym k.0)
 file-same tokens file (Ok x) (Err f) h k = absurd (h.1 f k.is_fault)
 file-same tokens file (Err f) (Ok y) h k = absurd (k.1 f h.is_fault)
-file-same tokens file (Err f) (Err g) h k = ap Err (one-leftmost (file_faults (first_range tokens) file) f g (faults-plain tokens file) h k)
+file-same tokens file (Err f) (Err g) h k = ap Err (one-leftmost (read_file_faults (first_range tokens) file) f g (faults-plain tokens file) h k)
 
 items-same : (tokens : List TokenTree) (lexing : Option Fault) (items : List ItemTree) (r s : Result FileTree Fault)
     → TellsItems tokens lexing items r

@@ -23,7 +23,7 @@ use Rattle.cmm_nodes.specs.declared.stop.Stop.{Stop}
 use Rattle.cmm_nodes.specs.declared.stop.Stop.TheVariants as stop
 use Rattle.cmm_parts.specs.Results.{trees, Fails}
 use Rattle.cmm_grammar.specs.Spelling.{nesting}
-use Rattle.cmm_reader.specs.Text.{file_faults}
+use Rattle.cmm_reader.specs.Text.{read_file_faults}
 use Rattle.bs_fault.specs.Limits.{longest_text}
 use Rattle.cmm_reader.specs.Telling.{place_with, token_place, stop_fault, Tells, IsReading, too_long, by_tokens, IsStopOf, IsStopped, IsFinished}
 
@@ -72,11 +72,11 @@ pub read-finished : (text : List ℕ) (tokens : List TokenTree) (range : Option 
     → MatchResult result (λ file. IsReading text (Ok (file_view file))) (IsStopOf text)
 read-finished text tokens range items (Ok file) short cut e r h =
     let P : Outcome (List ItemTree) → Type 0 = λ o. Tells (length text) tokens None o (Ok (file_view file)) in
-    let Q : Option Fault → Type 0 = λ v. (file_view file ≡ record { items = items }) × Faultless (file_faults v (record { items = items })) in
+    let Q : Option Fault → Type 0 = λ v. (file_view file ≡ record { items = items }) × Faultless (read_file_faults v (record { items = items })) in
     by_tokens tokens None (Ok (file_view file)) short cut (subst P (sym e) (subst Q r h))
 read-finished text tokens range items (Err (error.Fault told)) short cut e r h =
     let P : Outcome (List ItemTree) → Type 0 = λ o. Tells (length text) tokens None o (Err told) in
-    let Q : Option Fault → Type 0 = λ v. IsFirst (file_faults v (record { items = items })) told in
+    let Q : Option Fault → Type 0 = λ v. IsFirst (read_file_faults v (record { items = items })) told in
     by_tokens tokens None (Err told) short cut (subst P (sym e) (subst Q r h))
 read-finished text tokens range items (Err error.OutOfMemory) short cut e r h = absurd h
 

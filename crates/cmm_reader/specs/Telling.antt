@@ -17,7 +17,7 @@ use Rattle.cmm_tree.specs.Tree.{ItemTree, FileTree}
 use Rattle.bs_fault.specs.Reported.{IsFirst, Faultless}
 use Rattle.cmm_grammar.specs.Reading.{Outcome, Read, Stops, Why, Stuck, Deep, items_at}
 use Rattle.cmm_grammar.specs.Spelling.{nesting}
-use Rattle.cmm_reader.specs.Text.{file_faults}
+use Rattle.cmm_reader.specs.Text.{read_file_faults}
 use Rattle.bs_fault.specs.Limits.{longest_text}
 
 -- What is reported where reading stops: at a token, that no text goes on with it, or that it opens a
@@ -36,8 +36,8 @@ place_with left tokens =
 
 -- What is reported of a file that was read: the file, or the leftmost of its faults.
 abbrev pub TellsFile : Option Fault → FileTree → Result FileTree Fault → Type 0
-TellsFile range file (Ok read) = (read ≡ file) × Faultless (file_faults range file)
-TellsFile range file (Err reported) = IsFirst (file_faults range file) reported
+TellsFile range file (Ok read) = (read ≡ file) × Faultless (read_file_faults range file)
+TellsFile range file (Err reported) = IsFirst (read_file_faults range file) reported
 
 -- What is reported of the items of all tokens. What the lexer found after the tokens comes first.
 abbrev pub TellsItems : List TokenTree → Option Fault → List ItemTree → Result FileTree Fault
@@ -85,6 +85,6 @@ IsStopped size tokens lexing stop.OutOfMemory e = e ≡ error.OutOfMemory
 
 -- a file, or the fault that is reported of it
 abbrev pub IsFinished : Option Fault → FileTree → Result File FrontError → Type 0
-IsFinished range file (Ok f) = (file_view f ≡ file) × Faultless (file_faults range file)
-IsFinished range file (Err (error.Fault reported)) = IsFirst (file_faults range file) reported
+IsFinished range file (Ok f) = (file_view f ≡ file) × Faultless (read_file_faults range file)
+IsFinished range file (Err (error.Fault reported)) = IsFirst (read_file_faults range file) reported
 IsFinished range file (Err error.OutOfMemory) = ⊥

@@ -16,8 +16,8 @@ use Rattle.cmm_grammar.specs.Faults as places
 
 -- the faults of a file that was read of tokens: integers out of range, of which the first one counts,
 -- limits on sizes, and its static data
-abbrev pub file_faults : Option Fault → FileTree → Faults
-file_faults range file =
+abbrev pub read_file_faults : Option Fault → FileTree → Faults
+read_file_faults range file =
     Both (limit_faults file) (Both (one_of range) (one_of (data_fault_of file)))
 
 -- What reading a text gives. A text is cut into tokens, up to its end or to what is wrong there.
@@ -55,14 +55,14 @@ pub data ReadsAs (text : List ℕ) : Result FileTree Fault → Type 0 where
       → length text ≤ longest_text
       → Splits 0 text tokens None
       → AreItems nesting items tokens
-      → IsFirst (file_faults (first_range tokens) (record { items = items })) reported
+      → IsFirst (read_file_faults (first_range tokens) (record { items = items })) reported
       → ReadsAs text (Err reported)
   -- or it has none
   file : (tokens : List TokenTree) (items : List ItemTree)
       → length text ≤ longest_text
       → Splits 0 text tokens None
       → AreItems nesting items tokens
-      → Faultless (file_faults (first_range tokens) (record { items = items }))
+      → Faultless (read_file_faults (first_range tokens) (record { items = items }))
       → ReadsAs text (Ok (record { items = items }))
 
 -- an error reports what reading gives, unless memory ran out

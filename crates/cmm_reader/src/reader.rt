@@ -4,7 +4,7 @@ ghost use Rattle.cmm_tree.specs.View.{file_view};
 ghost use Rattle.bs_fault.specs.Reported.{IsReported};
 ghost use Rattle.cmm_grammar.specs.Covered.{IsMeasured};
 ghost use Rattle.cmm_grammar.specs.Reading.{Stuck};
-ghost use Rattle.cmm_reader.specs.Text.{file_faults, ReadsAs, IsRefused};
+ghost use Rattle.cmm_reader.specs.Text.{read_file_faults, ReadsAs, IsRefused};
 ghost use Rattle.cmm_reader.specs.Telling.{IsReading, IsStopOf, IsStopped, IsFinished, stop_fault};
 
 use crate::items::items;
@@ -22,7 +22,7 @@ const NESTING: u32 = 250;
 
 /// The fault that is reported of a file that was read, if there is one.
 fn file_fault(file: &File, range: Option<Fault>) -> Option<Fault>
-    ensures { IsReported (file_faults range (file_view file.now)) result }
+    ensures { IsReported (read_file_faults range (file_view file.now)) result }
 {
     let found = noted_optional(range, limit_fault(file));
     noted_optional(data_fault(file), found)

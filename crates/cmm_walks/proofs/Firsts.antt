@@ -6,7 +6,7 @@ use Rattle.std.proofs.lemmas.List.{take_all}
 use Rattle.std.proofs.lemmas.List.Elements.{All-head, All-tail, All-weaker, All-more, All-same}
 use Rattle.walk_tables.specs.AddrLive.{Before}
 use Rattle.walk_tables.specs.Table.{step_at, LeadsToBinding, slot_below, AreNodes, AreLinked}
-use Rattle.cmm_walks.specs.First.{IsWithin, with_part, IsLeast, IsLeastTold, place_within, binds_address, IsFirst}
+use Rattle.cmm_walks.specs.First.{IsWithin, with_part, IsLeast, IsLeastTold, place_within, binds_address, IsFirstLive}
 use Rattle.walk_tables.specs.declared.node.Step.{Step}
 use Rattle.walk_tables.specs.declared.node.Step.TheVariants as step
 use Rattle.walk_tables.specs.declared.node.Node as node
@@ -116,7 +116,7 @@ pub first_found : (nodes : List node.Node) (entry greatest used point bound : �
     → IsLeast nodes entry (record { bound = greatest; point = greatest; used = greatest }) part.Used used
     → IsLeast nodes entry (record { bound = greatest; point = greatest; used = used }) part.Point point
     → IsLeast nodes entry (record { bound = greatest; point = point; used = used }) part.Bound bound
-    → IsFirst nodes entry (record { bound = bound; point = point; used = used })
+    → IsFirstLive nodes entry (record { bound = bound; point = point; used = used })
 first_found nodes entry greatest used point bound all lu lp lb =
     let w = lb.within in
     let least_used : (b p u : ℕ) → LeadsToBinding nodes b p u entry → used ≤ u = λ b p u l.
@@ -151,7 +151,7 @@ pub first_of : (nodes : List node.Node) (entry greatest used point bound : ℕ) 
     → IsLeast nodes entry (record { bound = greatest; point = greatest; used = greatest }) part.Used used
     → IsLeast nodes entry of_use part.Point point
     → IsLeast nodes entry of_point part.Bound bound
-    → IsFirst nodes entry told
+    → IsFirstLive nodes entry told
 first_of nodes entry greatest used point bound of_use of_point told all e1 e2 e3 lu lp lb =
     let U : limits.Limits = record { bound = greatest; point = greatest; used = used } in
     let P : limits.Limits = record { bound = greatest; point = point; used = used } in
@@ -160,7 +160,7 @@ first_of nodes entry greatest used point bound of_use of_point told all e1 e2 e3
     let b_is : told ≡ B = e3 ∙ ap (λ x. with_part x part.Bound bound) p_is in
     let F : limits.Limits → Type 0 = λ x. IsLeast nodes entry x part.Point point in
     let G : limits.Limits → Type 0 = λ x. IsLeast nodes entry x part.Bound bound in
-    let H : limits.Limits → Type 0 = λ x. IsFirst nodes entry x in
+    let H : limits.Limits → Type 0 = λ x. IsFirstLive nodes entry x in
     subst H (sym b_is) (first_found nodes entry greatest used point bound all lu (subst F e1 lp) (subst G p_is lb))
 
 pub no_address_told : (nodes : List node.Node) (entry : ℕ) (some : Bool) → some ≡ list_any (λ (n : node.Node). binds_address n.step) nodes → some ≡ false → (b p u : ℕ) → LeadsToBinding nodes b p u entry → ⊥

@@ -13,7 +13,7 @@ use Rattle.walk_tables.specs.Walks as event
 use Rattle.walk_tables.specs.AddrLive.{Unbound}
 use Rattle.walk_tables.specs.Table.{shown, step_at, next_at, Trail, here, goes}
 use Rattle.cmm_walks.specs.Groups.{members, AreBefore}
-use Rattle.cmm_walks.specs.Labels.{unlabelled, label_at, binds_slot, Leads, LeadsToSeed, IsUnlabelled, IsKept, Lowered, IsSpreading, Falls, weight, LowersBefore, Settles, FirstLabels}
+use Rattle.cmm_walks.specs.Labels.{unlabelled, label_at, binds_slot, Leads, LeadsToSeed, IsUnlabelled, HasLabelledQueue, Lowered, IsSpreading, LabelsFall, weight, LowersBefore, Settles, FirstLabels}
 use Rattle.walk_tables.specs.declared.node.Step.{Step}
 use Rattle.walk_tables.specs.declared.node.Step.TheVariants as step
 use Rattle.walk_tables.specs.declared.node.Node as node
@@ -109,7 +109,7 @@ lowered_from nodes slot seeds old new place label within l are comes p less =
 
 pub lowered_fell : (nodes : List node.Node) (slot : ℕ) (old new : Labels) (place label : ℕ) → place < length old.of.items → Lowered old new place label
     → ((seeds : List Seed) → ((p : ℕ) → label_at old.of.items p < unlabelled → LeadsToSeed nodes slot seeds p (label_at old.of.items p)) → label < unlabelled → LeadsToSeed nodes slot seeds place label)
-    → Falls nodes slot old new
+    → LabelsFall nodes slot old new
 lowered_fell nodes slot old new place label within l comes = record {
   falls = lowered_falls old new place label within l;
   from = λ seeds are. lowered_from nodes slot seeds old new place label within l are (comes seeds are);
@@ -119,8 +119,8 @@ lowered_len : (old new : Labels) (place label : ℕ) → Lowered old new place l
 lowered_len old new place label (inl (less, of, queue, done)) = ap length of ∙ length-set old.of.items place label
 lowered_len old new place label (inr (most, same)) = ap (λ (l : Labels). length l.of.items) same
 
-lowered_kept : (old new : Labels) (place label : ℕ) → place < length old.of.items → Lowered old new place label → IsKept old → IsKept new
-lowered_kept old new place label within (inr (most, same)) k = subst IsKept (sym same) k
+lowered_kept : (old new : Labels) (place label : ℕ) → place < length old.of.items → Lowered old new place label → HasLabelledQueue old → HasLabelledQueue new
+lowered_kept old new place label within (inr (most, same)) k = subst HasLabelledQueue (sym same) k
 lowered_kept old new place label within (inl (less, of, queue, done)) k =
     let l : Lowered old new place label = inl (less, of, queue, done) in
     let len : length new.of.items ≡ length old.of.items = lowered_len old new place label l in
@@ -174,10 +174,10 @@ lowered_weight old new place label within (inr (most, same)) = let e : weight ne
 
 -- ---- falling
 
-pub fell_none : (nodes : List node.Node) (slot : ℕ) (l : Labels) → Falls nodes slot l l
+pub fell_none : (nodes : List node.Node) (slot : ℕ) (l : Labels) → LabelsFall nodes slot l l
 fell_none nodes slot l = record { falls = λ p. omega arith; from = λ seeds are p less. are p less }
 
-pub fell_then : (nodes : List node.Node) (slot : ℕ) (a b c : Labels) → Falls nodes slot a b → Falls nodes slot b c → Falls nodes slot a c
+pub fell_then : (nodes : List node.Node) (slot : ℕ) (a b c : Labels) → LabelsFall nodes slot a b → LabelsFall nodes slot b c → LabelsFall nodes slot a c
 fell_then nodes slot a b c f g = record {
   falls = λ p. omega (arith, f.falls p, g.falls p);
   from = λ seeds are p less. g.from seeds (f.from seeds are) p less;
@@ -187,7 +187,7 @@ fell_then nodes slot a b c f g = record {
 
 pub record Passing (nodes : List node.Node) (slot place : ℕ) (old now : Labels) (tried : List ℕ) : Type 0 where
   pub spreading : IsSpreading nodes slot now
-  pub fell : Falls nodes slot old now
+  pub fell : LabelsFall nodes slot old now
   pub done : now.done ≡ old.done
   pub more : List ℕ
   pub queue : now.queue.items ≡ old.queue.items ++ more
@@ -294,7 +294,7 @@ passing_all nodes before slot place old now i are done p = record {
 
 pub record Settling (nodes : List node.Node) (slot : ℕ) (old now : Labels) : Type 0 where
   pub spreading : IsSpreading nodes slot now
-  pub fell : Falls nodes slot old now
+  pub fell : LabelsFall nodes slot old now
 
 pub settling_none : (nodes : List node.Node) (slot : ℕ) (l : Labels) → IsSpreading nodes slot l → Settling nodes slot l l
 settling_none nodes slot l s = record { spreading = s; fell = fell_none nodes slot l }
@@ -459,7 +459,7 @@ pub record Clearing (old now : Labels) (i : ℕ) : Type 0 where
 least_of : (n : ℕ) → n ≤ unlabelled → (n < unlabelled → ⊥) → n ≡ unlabelled
 least_of n m h = grind arith
 
-pub clearing_none : (l : Labels) → IsKept l → Clearing l l 0
+pub clearing_none : (l : Labels) → HasLabelledQueue l → Clearing l l 0
 clearing_none l k = record { len = refl; most = k.most; left = k.kept; queue = refl }
 
 pub clearing_more : (old now new : Labels) (i place : ℕ) → i < length old.queue.items → place ≡ get_or old.queue.items i 0 → place < length now.of.items
@@ -532,7 +532,7 @@ tried_more nodes before slot place label old now new items i st b are same below
     (passing_more nodes slot place old now new items i (get_or items i 0) below refl (tried_next nodes before place items i are same below) (free_from slot (step_at nodes (get_or items i 0)) binds)
     (subst L is l) (subst P (sym same) p))
 
-pub cleared_step : (old now new : Labels) (i place : ℕ) → i < length old.queue.items → place ≡ get_or now.queue.items i place → IsKept old
+pub cleared_step : (old now new : Labels) (i place : ℕ) → i < length old.queue.items → place ≡ get_or now.queue.items i place → HasLabelledQueue old
     → new.of.items ≡ set now.of.items place unlabelled → new.queue ≡ now.queue → Clearing old now i → Clearing old new (i + 1)
 cleared_step old now new i place below read kept of queue k =
     let q : now.queue.items ≡ old.queue.items = ap (λ (v : Vec ℕ Global). v.items) k.queue in

@@ -53,7 +53,7 @@ binds_address_to slot (step.Uses own at) = false
 binds_address_to slot (step.Passes at) = false
 
 -- an address is live with these three places, and each other comes after it
-pub record IsFirst (nodes : List node.Node) (entry : ℕ) (l : limits.Limits) : Type 0 where
+pub record IsFirstLive (nodes : List node.Node) (entry : ℕ) (l : limits.Limits) : Type 0 where
   pub leads : LeadsToBinding nodes l.bound l.point l.used entry
   pub least : (b p u : ℕ) → LeadsToBinding nodes b p u entry → Before l.bound l.point l.used b p u
 
@@ -116,4 +116,4 @@ IsLeastTold nodes entry goal (Some limit) = IsLeast nodes entry goal.limits goal
 -- the first address that is live, or that there is none
 abbrev pub IsFirstTold : List node.Node → ℕ → Option limits.Limits → Type 0
 IsFirstTold nodes entry None = (b p u : ℕ) → LeadsToBinding nodes b p u entry → ⊥
-IsFirstTold nodes entry (Some l) = IsFirst nodes entry l
+IsFirstTold nodes entry (Some l) = IsFirstLive nodes entry l

@@ -48,7 +48,7 @@ pub record IsUnlabelled (count : ℕ) (l : Labels) : Type 0 where
   pub done : l.done ≡ 0
 
 -- the queue has each node that is labelled, and no number past the nodes
-pub record IsKept (l : Labels) : Type 0 where
+pub record HasLabelledQueue (l : Labels) : Type 0 where
   pub most : (p : ℕ) → label_at l.of.items p ≤ unlabelled
   pub within : All (λ p. p < length l.of.items) l.queue.items
   pub kept : (p : ℕ) → label_at l.of.items p < unlabelled → Contains l.queue.items p
@@ -66,13 +66,13 @@ Lowered old new place label =
 -- still to be passed on.
 pub record IsSpreading (nodes : List node.Node) (slot : ℕ) (l : Labels) : Type 0 where
   pub len : length l.of.items ≡ length nodes
-  pub kept : IsKept l
+  pub kept : HasLabelledQueue l
   pub done : l.done ≤ length l.queue.items
   pub passed : (q p : ℕ) → Contains (next_at nodes q) p → Unbound slot (shown (step_at nodes q))
       → Contains (drop l.done l.queue.items) p ⊎ (label_at l.of.items q ≤ label_at l.of.items p)
 
 -- labels only fell, and those that are new come from seeds if the old ones do
-pub record Falls (nodes : List node.Node) (slot : ℕ) (old new : Labels) : Type 0 where
+pub record LabelsFall (nodes : List node.Node) (slot : ℕ) (old new : Labels) : Type 0 where
   pub falls : (p : ℕ) → label_at new.of.items p ≤ label_at old.of.items p
   pub from : (seeds : List Seed)
       → ((p : ℕ) → label_at old.of.items p < unlabelled → LeadsToSeed nodes slot seeds p
@@ -87,7 +87,7 @@ weight l = sum l.of.items + length l.queue.items
 -- the label of a node was passed on
 pub record LowersBefore (nodes : List node.Node) (slot place : ℕ) (old new : Labels) : Type 0 where
   pub spreading : IsSpreading nodes slot new
-  pub fell : Falls nodes slot old new
+  pub fell : LabelsFall nodes slot old new
   pub done : new.done ≡ old.done
   pub more : List ℕ
   pub queue : new.queue.items ≡ old.queue.items ++ more
@@ -98,14 +98,14 @@ pub record LowersBefore (nodes : List node.Node) (slot place : ℕ) (old new : L
 -- all labels were passed on
 pub record Settles (nodes : List node.Node) (slot : ℕ) (old new : Labels) : Type 0 where
   pub spreading : IsSpreading nodes slot new
-  pub fell : Falls nodes slot old new
+  pub fell : LabelsFall nodes slot old new
   pub done : length new.queue.items ≤ new.done
 
 -- each node has the least label of the seeds that it leads to
 pub record FirstLabels (nodes : List node.Node) (slot : ℕ) (seeds : List Seed)
     (l : Labels) : Type 0 where
   pub len : length l.of.items ≡ length nodes
-  pub kept : IsKept l
+  pub kept : HasLabelledQueue l
   pub from : (p : ℕ)
       → label_at l.of.items p < unlabelled
       → LeadsToSeed nodes slot seeds p (label_at l.of.items p)

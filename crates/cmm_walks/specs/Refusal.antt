@@ -33,11 +33,11 @@ abbrev pub ToldAmong : List FunctionTree → Option Limits → Type 0
 ToldAmong fs None = (g : FunctionTree) → Contains fs g → (b p u : ℕ) → IsLiveIn g b p u → ⊥
 ToldAmong fs (Some l) = IsFirstAmong fs l
 
-abbrev pub IsReported : FileTree → Fault → Type 0
-IsReported file (AddrLive bound point used) = IsToldLive file bound point used
-IsReported file _ = ⊥
+abbrev pub IsLiveReported : FileTree → Fault → Type 0
+IsLiveReported file (AddrLive bound point used) = IsToldLive file bound point used
+IsLiveReported file _ = ⊥
 
 -- the address that is reported of the file, or want of memory
 abbrev pub IsRefusal : FileTree → FrontError → Type 0
-IsRefusal file (error.Fault fault) = IsReported file fault
+IsRefusal file (error.Fault fault) = IsLiveReported file fault
 IsRefusal file error.OutOfMemory = Unit {0}

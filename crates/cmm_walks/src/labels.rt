@@ -3,7 +3,7 @@ ghost use Rattle.std.specs.Prelude.{◌≡◌, ◌<◌, length, IfOk};
 ghost use Rattle.std.specs.List.{All};
 ghost use Rattle.cmm_walks.specs.Groups.{AreBefore};
 ghost use Rattle.walk_tables.specs.Table.{step_at};
-ghost use Rattle.cmm_walks.specs.Labels.{label_at, binds_slot, IsUnlabelled, Lowered, IsKept, IsSpreading, LowersBefore, Settles, FirstLabels, known_label};
+ghost use Rattle.cmm_walks.specs.Labels.{label_at, binds_slot, IsUnlabelled, Lowered, HasLabelledQueue, IsSpreading, LowersBefore, Settles, FirstLabels, known_label};
 
 use crate::groups::{Group, members};
 use std::alloc::{AllocError, Global};
@@ -172,7 +172,7 @@ impl Labels {
 
     /// Takes all labels off.
     pub fn clear(&mut self)
-        requires { IsKept self.old }
+        requires { HasLabelledQueue self.old }
         ensures { IsUnlabelled (length self.old.of.items) self.new }
     {
         for i in 0..self.queue.len() {

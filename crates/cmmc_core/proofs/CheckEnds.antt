@@ -8,8 +8,8 @@ use Rattle.command_line.specs.Command.{CheckTree}
 use Rattle.text_commands.proofs.Called.{named_none, call_unfit}
 use Rattle.text_commands.specs.Arguments.{NamesNone, HasUnfit}
 use Rattle.text_commands.specs.Check.{IsCheckOf, HasNoEntry, IsUnfitFor, IsTooLargeToCheck}
-use Rattle.commands.specs.Compile.{Reads}
-use Rattle.cmmc_core.specs.Complete.{Is, IsCalled, CheckComplete}
+use Rattle.commands.specs.Compile.{ReadsText}
+use Rattle.cmmc_core.specs.Complete.{Is, AsksForCall, CheckComplete}
 use Rattle.commands.specs.Effects.{Side}
 use Rattle.commands.specs.Ends.{fault, no_entry, unfit, too_large}
 use Rattle.cmmc_core.proofs.CommandEnd.{CheckEnd, answered, unanswered, OrNoMemory}
@@ -30,7 +30,7 @@ module _ (source out : Side) (text : List ℕ) (known : source.before ≡ Some t
   large_of large t h = (h.file, h.is_file)
 
   -- a text with a fault has no file
-  faulty : (P : List ℕ → Type 0) (f : Fault) → HasFault text f → (of : (t : List ℕ) → P t → (file : FileTree) × IsFileOf t file) → Reads P source → ⊥
+  faulty : (P : List ℕ → Type 0) (f : Fault) → HasFault text f → (of : (t : List ℕ) → P t → (file : FileTree) × IsFileOf t file) → ReadsText P source → ⊥
   faulty P f has of r = let o = of r.text r.holds in no_file source text known P f has r o.0 o.1
 
   fault_end : (status : ℕ) → OrNoMemory status (CheckEnd check source out status) → (f : Fault) → HasFault text f → Is 3 status
@@ -66,14 +66,14 @@ module _ (source out : Side) (text : List ℕ) (known : source.before ≡ Some t
       absurd (call_unfit check h.0.file h.0.entry h.0.args h.0.answers h.0.call h.1)
 
   -- a file of which a function is called has one of that name, and the words suit it
-  unnamed : (file : FileTree) → IsFileOf text file → IsCalled check file → Reads (HasNoEntry check) source → ⊥
+  unnamed : (file : FileTree) → IsFileOf text file → AsksForCall check file → ReadsText (HasNoEntry check) source → ⊥
   unnamed file is_file c r =
-      let h = read_same source text known _ (IsCalled check) file is_file c unnamed_of r in
+      let h = read_same source text known _ (AsksForCall check) file is_file c unnamed_of r in
       named_none check h.0.file h.1.entry h.1.args h.1.answers h.1.call h.0.none
 
-  misfits : (file : FileTree) → IsFileOf text file → IsCalled check file → Reads (IsUnfitFor check) source → ⊥
+  misfits : (file : FileTree) → IsFileOf text file → AsksForCall check file → ReadsText (IsUnfitFor check) source → ⊥
   misfits file is_file c r =
-      let h = read_same source text known _ (IsCalled check) file is_file c unfit_of r in
+      let h = read_same source text known _ (AsksForCall check) file is_file c unfit_of r in
       call_unfit check h.0.file h.1.entry h.1.args h.1.answers h.1.call h.0.unfit
 
   fits_of : (lines : List ℕ) (t : List ℕ) → IsCheckOf check t lines → (file : FileTree) × (IsFileOf t file × Fits file)
@@ -82,7 +82,7 @@ module _ (source out : Side) (text : List ℕ) (known : source.before ≡ Some t
   passed_of : (large : Large) (t : List ℕ) → IsTooLargeToCheck check t large → (file : FileTree) × (IsFileOf t file × IsPassed file)
   passed_of large t h = (h.file, (h.is_file, record { large = large; passes = (h.image, (h.made.made, h.passes)); not_roomy = h.not_roomy }))
 
-  image_end : (status : ℕ) → OrNoMemory status (CheckEnd check source out status) → ImageEnd text (IsCalled check) (IsCalled check) out status
+  image_end : (status : ℕ) → OrNoMemory status (CheckEnd check source out status) → ImageEnd text (AsksForCall check) (AsksForCall check) out status
   image_end status (inl z) = no_memory z
   image_end status (inr (answered lines z r)) = output z (λ file is_file c. file_has source text known _ Fits file is_file (fits_of lines) r)
   image_end status (inr (unanswered line (fault g r))) = unasked (λ file is_file c. no_fault source text known file g is_file r)
@@ -96,5 +96,5 @@ module _ (source out : Side) (text : List ℕ) (known : source.before ≡ Some t
     fault = fault_end status e;
     no_entry = entry_end status e;
     unfit = unfit_end status e;
-    image = image-complete text (IsCalled check) (IsCalled check) (λ file c. c) out status (image_end status e);
+    image = image-complete text (AsksForCall check) (AsksForCall check) (λ file c. c) out status (image_end status e);
   }

@@ -6,16 +6,16 @@ use Rattle.bs_fault.specs.declared.large.Large.{Large}
 use Rattle.cmm_front.specs.FileOf.{HasFault}
 use Rattle.command_line.proofs.Unique.{command-unique, command-formed}
 use Rattle.command_line.specs.Command.{IsCommand, CommandTree, CompileCommand, RunCommand, CheckCommand, ListCommand, SoakCommand, RunTree, CheckTree}
-use Rattle.command_line.specs.Words.{WellFormed}
+use Rattle.command_line.specs.Words.{AreCommandWords}
 use Rattle.image_form.specs.Tables.{Tables}
 use Rattle.stages.specs.declared.stage.Stage.{Stage}
 use Rattle.text_commands.specs.Check.{IsCheckOf}
 use Rattle.text_commands.specs.Compile.{IsImageOf, IsTooLarge}
 use Rattle.text_commands.specs.Listing.{IsListingOf}
-use Rattle.commands.specs.Compile.{Reads}
+use Rattle.commands.specs.Compile.{ReadsText}
 use Rattle.cmmc_core.specs.Complete.{HasNotRisen, Is, HasOutput}
 use Rattle.commands.specs.Effects.{Effects, Side, Rose}
-use Rattle.commands.specs.Ends.{Output, spelling, outcome, checked, listed, soaked, HasInput, Cause, CheckCause, ListCause, no_command, no_value, read_fault, fault, too_large, no_image, no_entry, unfit, unchecked, unlisted, unsoaked, no_memory, Ends, written, refused, out_fault, err_fault}
+use Rattle.commands.specs.Ends.{Output, spelling, outcome, checked, listed, soaked, HasInput, Cause, CheckCause, ListCause, no_command, no_value, read_fault, fault, too_large, no_image, no_entry, unfit, unchecked, unlisted, unsoaked, no_memory, CommandEnds, written, refused, out_fault, err_fault}
 use Rattle.commands.specs.Run.{IsOutcomeOf, ReadsNoImage, NamesNoEntry, GivesUnfit}
 use Rattle.commands.specs.Soak.{soak_text, IsSoakOf}
 
@@ -35,7 +35,7 @@ pub data Told (words : List (List ℕ)) (source out : Side) (status : ℕ) : Typ
   output : (bytes : List ℕ) → IsWritten out status → Output words source bytes → Told words source out status
   cause : (line : List ℕ) → Cause words source status line → Told words source out status
 
-pub told : (words : List (List ℕ)) (e : Effects) (status : ℕ) → Ends words e status → HasNotRisen e.err → Told words e.source e.out status
+pub told : (words : List (List ℕ)) (e : Effects) (status : ℕ) → CommandEnds words e status → HasNotRisen e.err → Told words e.source e.out status
 told words e status (written bytes o got kept) calm = output bytes (inl refl) o
 told words e status (refused s line why kept got) calm = cause line why
 told words e status (out_fault bytes o part kept) calm = output bytes (inr (part.rose, refl)) o
@@ -44,9 +44,9 @@ told words e status (err_fault s line why kept part) calm = absurd (calm part.ro
 -- ---- the commands, one by one, but for want of memory
 
 pub data CompileEnd (source out : Side) (status : ℕ) : Type 0 where
-  made : (image : Tables) → IsWritten out status → Reads (λ text. IsImageOf text image) source → CompileEnd source out status
-  faulty : (f : Fault) → status ≡ 3 → Reads (λ text. HasFault text f) source → CompileEnd source out status
-  passing : (large : Large) → status ≡ 8 → Reads (λ text. IsTooLarge text large) source → CompileEnd source out status
+  made : (image : Tables) → IsWritten out status → ReadsText (λ text. IsImageOf text image) source → CompileEnd source out status
+  faulty : (f : Fault) → status ≡ 3 → ReadsText (λ text. HasFault text f) source → CompileEnd source out status
+  passing : (large : Large) → status ≡ 8 → ReadsText (λ text. IsTooLarge text large) source → CompileEnd source out status
 
 pub data RunEnd (run : RunTree) (source out : Side) (status : ℕ) : Type 0 where
   ran : (text : List ℕ) → IsWritten out status → IsOutcomeOf run source text → RunEnd run source out status
@@ -55,11 +55,11 @@ pub data RunEnd (run : RunTree) (source out : Side) (status : ℕ) : Type 0 wher
   unsuited : status ≡ 2 → GivesUnfit run source → RunEnd run source out status
 
 pub data CheckEnd (check : CheckTree) (source out : Side) (status : ℕ) : Type 0 where
-  answered : (lines : List ℕ) → IsWritten out status → Reads (λ text. IsCheckOf check text lines) source → CheckEnd check source out status
+  answered : (lines : List ℕ) → IsWritten out status → ReadsText (λ text. IsCheckOf check text lines) source → CheckEnd check source out status
   unanswered : (line : List ℕ) → CheckCause check source status line → CheckEnd check source out status
 
 pub data ListEnd (stage : Stage) (source out : Side) (status : ℕ) : Type 0 where
-  shown : (bytes : List ℕ) → IsWritten out status → Reads (λ text. IsListingOf stage text bytes) source → ListEnd stage source out status
+  shown : (bytes : List ℕ) → IsWritten out status → ReadsText (λ text. IsListingOf stage text bytes) source → ListEnd stage source out status
   unshown : (line : List ℕ) → ListCause stage source status line → ListEnd stage source out status
 
 pub data SoakEnd (seed functions : ℕ) (out : Side) (status : ℕ) : Type 0 where
@@ -128,5 +128,5 @@ module _ (words : List (List ℕ)) (source out : Side) where
   no_value_end status (cause line no_memory) not = inr refl
 
   -- words of another form are no command
-  pub no_command_end : (status : ℕ) → Told words source out status → (WellFormed words → ⊥) → Is 2 status
+  pub no_command_end : (status : ℕ) → Told words source out status → (AreCommandWords words → ⊥) → Is 2 status
   no_command_end status told not = no_value_end status told (λ tree i. not (command-formed words tree i))

@@ -4,7 +4,7 @@ use Rattle.command_line.proofs.Unique.{command_within}
 use Rattle.command_line.specs.Command.{IsCommand, CommandTree, CompileCommand, RunCommand, CheckCommand, ListCommand, SoakCommand}
 use Rattle.cmmc_core.specs.Complete.{HasNotRisen, Complete}
 use Rattle.commands.specs.Effects.{Effects}
-use Rattle.commands.specs.Ends.{HasInput, Ends}
+use Rattle.commands.specs.Ends.{HasInput, CommandEnds}
 use Rattle.cmmc_core.proofs.CommandEnd.{CommandEnd, OrNoMemory, told, command_end, no_command_end, no_value_end}
 use Rattle.cmmc_core.proofs.CompileEnds.{compile-complete}
 use Rattle.cmmc_core.proofs.RunEnds.{run-complete}
@@ -12,7 +12,7 @@ use Rattle.cmmc_core.proofs.CheckEnds.{check-complete}
 use Rattle.cmmc_core.proofs.ListEnds.{list-complete}
 use Rattle.cmmc_core.proofs.SoakEnds.{soak-complete}
 
-module _ (words : List (List ℕ)) (e : Effects) (status : ℕ) (ends : Ends words e status) where
+module _ (words : List (List ℕ)) (e : Effects) (status : ℕ) (ends : CommandEnds words e status) where
   end_of : (tree : CommandTree) → IsCommand words tree → (HasInput tree → HasNotRisen e.source) → HasNotRisen e.err
       → OrNoMemory status (CommandEnd tree e.source e.out status)
   end_of tree is calm reported = command_end words e.source e.out tree is calm status (told words e status ends reported)

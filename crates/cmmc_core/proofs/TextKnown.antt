@@ -12,10 +12,10 @@ use Rattle.correctness.specs.Bounds.{IsRoomy}
 use Rattle.image_form.specs.Tables.{Tables}
 use Rattle.layout_rules.specs.TooLarge.{first_too_large}
 use Rattle.choices.specs.Defaults.{defaults}
-use Rattle.made_functions.specs.Files.{IsMadeFor}
+use Rattle.made_functions.specs.Files.{AreTablesMadeFor}
 use Rattle.file_promise.proofs.Bytes.{bytes_of}
 use Rattle.file_promise.proofs.Once.{made_for_once}
-use Rattle.commands.specs.Compile.{Reads}
+use Rattle.commands.specs.Compile.{ReadsText}
 use Rattle.commands.specs.Effects.{Side, IsRead}
 use Rattle.commands.proofs.Reading.{all, too_long, IsRead-known}
 
@@ -23,11 +23,11 @@ use Rattle.commands.proofs.Reading.{all, too_long, IsRead-known}
 
 -- the image that is made for the file fits
 abbrev pub Fits : FileTree → Type 0
-Fits file = (image : Tables) × (IsMadeFor defaults file image × (first_too_large image ≡ None))
+Fits file = (image : Tables) × (AreTablesMadeFor defaults file image × (first_too_large image ≡ None))
 
 -- or this section of it is the first to pass its limit
 abbrev pub Passes : Large → FileTree → Type 0
-Passes large file = (image : Tables) × (IsMadeFor defaults file image × (first_too_large image ≡ Some large))
+Passes large file = (image : Tables) × (AreTablesMadeFor defaults file image × (first_too_large image ≡ Some large))
 
 pub some_none : {A : Type 0} (o : Option A) (x : A) → o ≡ Some x → o ≡ None → ⊥
 some_none o x s n = let e : Some x ≡ None = sym s ∙ n in cc
@@ -58,32 +58,32 @@ module _ (source : Side) (limit : ℕ) (text : List ℕ) (known : source.before 
 
 module _ (source : Side) (text : List ℕ) (known : source.before ≡ Some text) where
   -- where the text has a file, it was read
-  pub of_file : (P : List ℕ → Type 0) (file : FileTree) → IsFileOf text file → Reads P source → AreBytes text × P text
+  pub of_file : (P : List ℕ → Type 0) (file : FileTree) → IsFileOf text file → ReadsText P source → AreBytes text × P text
   of_file P file f r =
       let short = (is_read text file f.read).short in
       elim (IsRead-known longest_text source text r.text known r.read) [ all same ↦ (subst AreBytes (sym same) (bytes_of r.text r.are_bytes), subst P (sym same) r.holds) | too_long long cut ↦ absurd (omega (arith, long, short)) ]
 
   -- and where what was read has a file, it is the text's
-  of_read_file : (P : List ℕ → Type 0) (r : Reads P source) (file : FileTree) → IsFileOf r.text file → AreBytes text × IsFileOf text file
+  of_read_file : (P : List ℕ → Type 0) (r : ReadsText P source) (file : FileTree) → IsFileOf r.text file → AreBytes text × IsFileOf text file
   of_read_file P r file f =
       let short = (is_read r.text file f.read).short in
       let same_text : List ℕ → Type 0 = λ t. IsFileOf t file in
       elim (IsRead-known longest_text source text r.text known r.read) [ all same ↦ (subst AreBytes (sym same) (bytes_of r.text r.are_bytes), subst same_text (sym same) f) | too_long long cut ↦ absurd (omega (arith, cut, short)) ]
 
   -- a text with a file has no fault
-  pub no_fault : (file : FileTree) (told : Fault) → IsFileOf text file → Reads (λ t. HasFault t told) source → ⊥
+  pub no_fault : (file : FileTree) (told : Fault) → IsFileOf text file → ReadsText (λ t. HasFault t told) source → ⊥
   no_fault file f has r =
       let h = of_file (λ t. HasFault t f) file has r in
       file_or_fault text file f h.0 has h.1
 
-  pub no_file : (P : List ℕ → Type 0) (f : Fault) → HasFault text f → (r : Reads P source) (file : FileTree) → IsFileOf r.text file → ⊥
+  pub no_file : (P : List ℕ → Type 0) (f : Fault) → HasFault text f → (r : ReadsText P source) (file : FileTree) → IsFileOf r.text file → ⊥
   no_file P f has r file h =
       let k = of_read_file P r file h in
       file_or_fault text file f k.0 k.1 has
 
   -- what the file of what was read has, the text's has
   pub file_has : (P : List ℕ → Type 0) (Q : FileTree → Type 0) (file : FileTree) → IsFileOf text file
-      → (of : (t : List ℕ) → P t → (other : FileTree) × (IsFileOf t other × Q other)) → Reads P source → Q file
+      → (of : (t : List ℕ) → P t → (other : FileTree) × (IsFileOf t other × Q other)) → ReadsText P source → Q file
   file_has P Q file is_file of r =
       let h = of_file P file is_file r in
       let o = of text h.1 in
@@ -91,7 +91,7 @@ module _ (source : Side) (text : List ℕ) (known : source.before ≡ Some text)
 
   -- the file of what was read is that of the text, and has what that has
   pub read_same : (P : List ℕ → Type 0) (Q : FileTree → Type 0) (file : FileTree) → IsFileOf text file → Q file
-      → (of : (t : List ℕ) → P t → (other : FileTree) × IsFileOf t other) → Reads P source → (p : P text) × Q (of text p).0
+      → (of : (t : List ℕ) → P t → (other : FileTree) × IsFileOf t other) → ReadsText P source → (p : P text) × Q (of text p).0
   read_same P Q file is_file q of r =
       let h = of_file P file is_file r in
       let o = of text h.1 in

@@ -6,13 +6,13 @@ use Rattle.bs_fault.specs.declared.large.Large.{Large}
 use Rattle.cmm_front.specs.FileOf.{IsFileOf, HasFault}
 use Rattle.cmm_tree.specs.Tree.{FileTree}
 use Rattle.command_line.specs.Command.{IsCommand, AsksToCompile, CommandTree, RunCommand, CheckCommand, ListCommand, SoakCommand, RunTree, CheckTree}
-use Rattle.command_line.specs.Words.{WellFormed}
+use Rattle.command_line.specs.Words.{AreCommandWords}
 use Rattle.correctness.specs.Bounds.{IsRoomy}
 use Rattle.stages.specs.Image.{IsOfImage}
 use Rattle.image_form.specs.Tables.{Tables, Func}
 use Rattle.layout_rules.specs.TooLarge.{first_too_large}
 use Rattle.choices.specs.Defaults.{defaults}
-use Rattle.made_functions.specs.Files.{IsMadeFor}
+use Rattle.made_functions.specs.Files.{AreTablesMadeFor}
 use Rattle.text_commands.specs.Arguments.{NamesNone, HasUnfit, IsCall}
 use Rattle.rv_machine.specs.Loading.{func_named, words_of_args}
 use Rattle.stages.specs.declared.stage.Stage.{Stage}
@@ -49,7 +49,7 @@ pub record ImageComplete
   pub fits : (file : FileTree) (image : Tables)
       → IsFileOf text file
       → IsAsked file
-      → IsMadeFor defaults file image
+      → AreTablesMadeFor defaults file image
       → first_too_large image ≡ None
       → HasOutput out status
   pub roomy : (file : FileTree)
@@ -60,7 +60,7 @@ pub record ImageComplete
   pub too_large : (file : FileTree) (image : Tables) (large : Large)
       → IsFileOf text file
       → IsSized file
-      → IsMadeFor defaults file image
+      → AreTablesMadeFor defaults file image
       → first_too_large image ≡ Some large
       → Is 8 status
 
@@ -100,7 +100,7 @@ pub record RunComplete (run : RunTree) (bytes : List ℕ) (out : Side) (status :
   pub no_image : ((image : Tables) → IsSpelling bytes image → ⊥) → Is 4 status
 
 -- The words ask for a call of a function of the file.
-pub record IsCalled (check : CheckTree) (file : FileTree) : Type 0 where
+pub record AsksForCall (check : CheckTree) (file : FileTree) : Type 0 where
   pub entry : ℕ
   pub args : List ℕ
   pub answers : List ℕ
@@ -115,7 +115,7 @@ pub record CheckComplete (check : CheckTree) (text : List ℕ) (out : Side) (sta
       → Is 2 status
   pub unfit : (file : FileTree) → IsFileOf text file → HasUnfit check file → Is 2 status
   -- a call that suits is run, whatever becomes of the run
-  pub image : ImageComplete text (IsCalled check) (IsCalled check) out status
+  pub image : ImageComplete text (AsksForCall check) (AsksForCall check) out status
 
 -- What `list` comes to on a text that the source is known to hold.
 pub record ListComplete (stage : Stage) (text : List ℕ) (out : Side) (status : ℕ) : Type 0 where
@@ -132,7 +132,7 @@ pub record SoakComplete (seed functions : ℕ) (out : Side) (status : ℕ) : Typ
 -- The words and what the source is known to hold give the status, but for want of memory. A fault of
 -- out matters only where there is an output, and one of the source only where it is read.
 pub record Complete (words : List (List ℕ)) (e : Effects) (status : ℕ) : Type 0 where
-  pub no_command : (WellFormed words → ⊥) → HasNotRisen e.err → Is 2 status
+  pub no_command : (AreCommandWords words → ⊥) → HasNotRisen e.err → Is 2 status
   pub no_value : ((command : CommandTree) → IsCommand words command → ⊥)
       → HasNotRisen e.err
       → Is 2 status

@@ -2,7 +2,7 @@
 ghost use Rattle.command_line.specs.View.{texts};
 ghost use Rattle.cmmc_core.specs.Complete.{Complete};
 ghost use Rattle.commands.specs.Effects.{side, effects};
-ghost use Rattle.commands.specs.Ends.{Ends};
+ghost use Rattle.commands.specs.Ends.{CommandEnds};
 
 use bs_io::{Sink, Source, write_all};
 use command_line::{Command, WordsError, read_words};
@@ -46,7 +46,7 @@ pub fn cmmc<R: Threads + Sync, S: Source, K: Sink, E: Sink, G: Gate + Sync>(
     err: &mut E,
     gate: &G,
 ) -> u8
-    ensures ends { Ends (texts words.now)
+    ensures ends { CommandEnds (texts words.now)
         (effects (side S.left S.faults source.old source.new)
         (side K.held K.faults out.old out.new) (side E.held E.faults err.old err.new))
         result }
@@ -68,7 +68,7 @@ fn dispatch<R: Threads + Sync, S: Source, K: Sink, E: Sink, G: Gate + Sync>(
     err: &mut E,
     gate: &G,
 ) -> u8
-    ensures { Ends (texts words.now)
+    ensures { CommandEnds (texts words.now)
         (effects (side S.left S.faults source.old source.new)
         (side K.held K.faults out.old out.new) (side E.held E.faults err.old err.new))
         result }

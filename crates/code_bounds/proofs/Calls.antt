@@ -8,7 +8,7 @@ use Rattle.cmm_tree.specs.Tree.{Expression, Integer, Pointer, Symbol, Name, Noth
 use Rattle.cmm_types.specs.Faults.{row_length}
 use Rattle.cmm_types.specs.Types.{Scoped, with_parameters, with_bindings}
 use Rattle.image_form.specs.Image.{ext_bytes, table_bytes, table_limit}
-use Rattle.layout_rules.specs.Externals.{calls_in, calls_in_row, calls_in_bindings, calls_in_cases, calls_in_handlers, calls_in_function, all_calls, is_among, firsts_behind, externals}
+use Rattle.layout_rules.specs.Externals.{calls_in, calls_in_row, calls_in_bindings, calls_in_cases, calls_in_handlers, calls_in_function, all_calls, is_among_externals, firsts_behind, externals}
 use Rattle.text_sizes.specs.Measures.{call_bytes, items_bytes}
 use Rattle.code_bounds.proofs.Bodies.{ext_length, table_length}
 
@@ -118,8 +118,8 @@ all_same (AData d ∷ items) = let others = all_same items in omega (arith, othe
 firsts_few : (before es : List External) → rows_bytes (firsts_behind before es) ≤ rows_bytes before + rows_bytes es
 firsts_few before [] = omega arith
 firsts_few before (e ∷ es) =
-    let others = firsts_few (cond (is_among before e) before (before ++ e ∷ [])) es in
-    let here = one (is_among before e) in
+    let others = firsts_few (cond (is_among_externals before e) before (before ++ e ∷ [])) es in
+    let here = one (is_among_externals before e) in
     omega (arith, others, here)
   where
     one : (b : Bool) → rows_bytes (cond b before (before ++ e ∷ [])) ≤ rows_bytes before + (3 + (length e.name + length e.params))

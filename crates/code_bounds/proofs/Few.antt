@@ -9,7 +9,7 @@ use Rattle.cmm_tree.specs.Tree.{FunctionTree, FileTree, functions}
 use Rattle.cmm_types.proofs.Containing.{contains_head, contains_tail}
 use Rattle.correctness.specs.Measures.{frame_points, switch_indexes}
 use Rattle.emit_rules.specs.Sizes.{words_at_most}
-use Rattle.layout_rules.specs.Conditions.{weight, weight_of}
+use Rattle.layout_rules.specs.Conditions.{piece_weight, weight_of}
 use Rattle.lin_ir.specs.declared.descr.Descr.{Descr}
 use Rattle.rv_pieces.specs.Named.{marks_in, places_in}
 use Rattle.rv_pieces.specs.declared.piece.Piece.{Piece}
@@ -30,9 +30,9 @@ marks_weight (d ∷ ds) = 1 + length d.entries + marks_weight ds
 
 pieces_weigh : (ps : List Piece) → weight_of ps ≤ words_at_most ps + (length (places_in ps) + marks_weight (marks_in ps))
 pieces_weigh [] = omega arith
-pieces_weigh (piece.Label l ∷ ps) = let others = pieces_weigh ps in let split = sum_by-cons weight (piece.Label l) ps in omega (arith, others, split)
-pieces_weigh (piece.Descriptor d ∷ ps) = let others = pieces_weigh ps in let split = sum_by-cons weight (piece.Descriptor d) ps in omega (arith, others, split)
-pieces_weigh (p ∷ ps) = let others = pieces_weigh ps in let split = sum_by-cons weight p ps in omega (arith, others, split)
+pieces_weigh (piece.Label l ∷ ps) = let others = pieces_weigh ps in let split = sum_by-cons piece_weight (piece.Label l) ps in omega (arith, others, split)
+pieces_weigh (piece.Descriptor d ∷ ps) = let others = pieces_weigh ps in let split = sum_by-cons piece_weight (piece.Descriptor d) ps in omega (arith, others, split)
+pieces_weigh (p ∷ ps) = let others = pieces_weigh ps in let split = sum_by-cons piece_weight p ps in omega (arith, others, split)
 
 marks_few : (tokens : ℕ) (ds : List Descr) → tokens ≤ 32000 → All (λ (d : Descr). length d.entries ≤ 21 + 2 * tokens) ds → marks_weight ds ≤ 64022 * length ds
 marks_few tokens [] few all = omega arith

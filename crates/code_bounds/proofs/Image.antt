@@ -8,12 +8,12 @@ use Rattle.cmm_tree.specs.Tree.{FunctionTree, FileTree, functions}
 use Rattle.correctness.specs.Bounds.{is_called_in, IsWithinText, IsBounded}
 use Rattle.emit_rules.specs.Sizes.{words_at_most}
 use Rattle.emit_rules.specs.Sizes as sizes
-use Rattle.image_form.specs.Image.{end_of, stub_words}
+use Rattle.image_form.specs.Image.{function_end, stub_words}
 use Rattle.image_form.specs.Tables.{Tables, Func, Desc}
 use Rattle.layout_rules.specs.declared.form.Form.{Form}
 use Rattle.layout_rules.specs.declared.form.Form.TheVariants.{Near, Middle, Far}
 use Rattle.layout_rules.specs.Conditions.{AreDescriptors, IsFunctionLaid, CanBeLaid}
-use Rattle.layout_rules.specs.Forms.{call_words, branch_words, jump_words, words_of, total_words}
+use Rattle.layout_rules.specs.Forms.{call_words, branch_words, jump_words, piece_words, total_words}
 use Rattle.layout_rules.specs.Laid.{row_at, rows_from, descs_in, descs_from, laid_out, AllReach, IsLaid}
 use Rattle.layout_rules.proofs.Functions.{filled}
 use Rattle.layout_rules.proofs.Rules.{all_append}
@@ -42,7 +42,7 @@ call_few Near = omega arith
 call_few Middle = omega arith
 call_few Far = omega arith
 
-piece_few : (p : Piece) (f : Form) → words_of p f ≤ sizes.most_words p
+piece_few : (p : Piece) (f : Form) → piece_words p f ≤ sizes.most_piece_words p
 piece_few (Branch c a b l) f = branch_few f
 piece_few (Jump l) f = jump_few f
 piece_few (Call name) f = call_few f
@@ -82,19 +82,19 @@ own_above from at behind (Label l ∷ ps) (f ∷ fs) h k are =
     own_above from (at + 0) behind ps fs (omega (arith, h)) (λ e. let less = k e in omega (arith, less)) are
 own_above from at behind (p ∷ ps) (f ∷ fs) h k are =
     let some = some_words p f refl in
-    own_above from (at + words_of p f) true ps fs (omega (arith, h)) (λ e. omega (arith, h, some)) are
+    own_above from (at + piece_words p f) true ps fs (omega (arith, h)) (λ e. omega (arith, h, some)) are
 
 own_below : (at to : ℕ) (ps : List Piece) (fs : List Form) → at + total_words ps fs ≤ to → Below to (descs_in at ps fs)
 own_below at to [] fs h = tt
 own_below at to (p ∷ ps) [] h = tt
 own_below at to (Descriptor d ∷ ps) (f ∷ fs) h = (omega (arith, h), own_below at to ps fs (omega (arith, h)))
-own_below at to (p ∷ ps) (f ∷ fs) h = own_below (at + words_of p f) to ps fs (omega (arith, h))
+own_below at to (p ∷ ps) (f ∷ fs) h = own_below (at + piece_words p f) to ps fs (omega (arith, h))
 
 own_count : (at : ℕ) (ps : List Piece) (fs : List Form) → length (descs_in at ps fs) ≤ length (marks_in ps)
 own_count at [] fs = omega arith
 own_count at (p ∷ ps) [] = omega arith
 own_count at (Descriptor d ∷ ps) (f ∷ fs) = let others = own_count at ps fs in omega (arith, others)
-own_count at (p ∷ ps) (f ∷ fs) = own_count (at + words_of p f) ps fs
+own_count at (p ∷ ps) (f ∷ fs) = own_count (at + piece_words p f) ps fs
 
 module _ (file : FileTree) where
   all_above : (at : ℕ) (ps : List Pieces) (forms : List (List Form)) → AllByRecursion (IsFunctionLaid file) ps → Above at (descs_from at ps forms)
@@ -126,14 +126,14 @@ module _ (file : FileTree) where
   none_before row to (d ∷ ds) le h =
       let here : d.after ≤ 4 * to = h.0 in
       let not_behind : d.after ≤ row.offset = omega (arith, here, le) in
-      (ap (λ b. b && nat_le d.after (end_of row)) (le-ltb row.offset d.after not_behind), none_before row to ds le h.1)
+      (ap (λ b. b && nat_le d.after (function_end row)) (le-ltb row.offset d.after not_behind), none_before row to ds le h.1)
 
-  none_behind : (row : Func) (from : ℕ) (ds : List Desc) → end_of row ≤ 4 * from → Above from ds → AllByRecursion (λ (d : Desc). is_called_in row d ≡ false) ds
+  none_behind : (row : Func) (from : ℕ) (ds : List Desc) → function_end row ≤ 4 * from → Above from ds → AllByRecursion (λ (d : Desc). is_called_in row d ≡ false) ds
   none_behind row from [] le h = tt
   none_behind row from (d ∷ ds) le h =
       let here : 4 * from < d.after = h.0 in
-      let past : end_of row < d.after = omega (arith, here, le) in
-      (second_false (nat_lt row.offset d.after) (nat_le d.after (end_of row)) (lt-leb d.after (end_of row) past), none_behind row from ds le h.1)
+      let past : function_end row < d.after = omega (arith, here, le) in
+      (second_false (nat_lt row.offset d.after) (nat_le d.after (function_end row)) (lt-leb d.after (function_end row) past), none_behind row from ds le h.1)
 
   -- ---- each function
 

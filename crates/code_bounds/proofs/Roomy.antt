@@ -18,8 +18,8 @@ use Rattle.image_rules.proofs.Limits.{AreShort}
 use Rattle.image_rules.proofs.Whole.{all_length, length_of_data}
 use Rattle.layout_rules.specs.declared.form.Form.{Form}
 use Rattle.layout_rules.specs.Conditions.{IsRowLaid, CanBeLaid}
-use Rattle.layout_rules.specs.Forms.{words_of, total_words}
-use Rattle.layout_rules.specs.Laid.{entries_from, code_from, row_at, rows_from, desc_at, descs_in, descs_from, laid_out, IsLaid}
+use Rattle.layout_rules.specs.Forms.{piece_words, total_words}
+use Rattle.layout_rules.specs.Laid.{function_entries_from, code_from, row_at, rows_from, descriptor_laid_at, descs_in, descs_from, laid_out, IsLaid}
 use Rattle.layout_rules.specs.TooLarge.{section_bytes_of, first_too_large}
 use Rattle.layout_rules.proofs.Rules.{all_words}
 use Rattle.lin_ir.specs.declared.descr.Descr.{Descr}
@@ -77,10 +77,10 @@ own_bytes : (at : ℕ) (ps : List Piece) (fs : List Form) → length (flat_map (
 own_bytes at [] fs = omega arith
 own_bytes at (p ∷ ps) [] = omega arith
 own_bytes at (Descriptor d ∷ ps) (f ∷ fs) =
-    let here = desc_length (desc_at at d) in
+    let here = desc_length (descriptor_laid_at at d) in
     let others = own_bytes at ps fs in
-    omega (arith, here, others, length-append (desc_bytes 2 (desc_at at d)) (flat_map (desc_bytes 2) (descs_in at ps fs)))
-own_bytes at (p ∷ ps) (f ∷ fs) = own_bytes (at + words_of p f) ps fs
+    omega (arith, here, others, length-append (desc_bytes 2 (descriptor_laid_at at d)) (flat_map (desc_bytes 2) (descs_in at ps fs)))
+own_bytes at (p ∷ ps) (f ∷ fs) = own_bytes (at + piece_words p f) ps fs
 
 marks_few : (tokens : ℕ) (ds : List Descr) → All (λ (d : Descr). length d.entries ≤ 21 + 2 * tokens) ds → marks_bytes ds ≤ length ds * (8 * tokens + 156)
 marks_few tokens [] all = omega arith
@@ -143,7 +143,7 @@ short_fits t s =
 laid_short : (text : List ℕ) (file : FileTree) (ps : List Pieces) (forms : List (List Form)) → IsFileOf text file → CanBeLaid file ps →
     AllZip KeepsTo (functions file) ps → IsRoomy file → AreShort (laid_out file ps forms)
 laid_short text file ps forms is can keeps roomy =
-    let entries = entries_from stub_words ps forms in
+    let entries = function_entries_from stub_words ps forms in
     let held = text_held text file is in
     let short = held.short in
     let names = held.names in

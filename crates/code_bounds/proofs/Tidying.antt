@@ -11,9 +11,9 @@ use Rattle.mach_ir.specs.declared.mach.Mark.TheVariants as mark
 use Rattle.mach_ir.specs.Meaning as machs
 use Rattle.mach_ir.specs.declared.op.Op.TheVariants as op
 use Rattle.mach_ir.specs.declared.op.Pure.TheVariants as pure
-use Rattle.pass_rules.specs.Measures.{copy_words, mark_words, words_with, instr_words, code_words, one_if, code_points, exits}
-use Rattle.lin_ir.specs.Descriptors.{frame_points}
-use Rattle.lin_ir.specs.Formed.{bare}
+use Rattle.pass_rules.specs.Measures.{copy_words, mark_words, words_for_instr, instr_words, code_words, one_if_true, code_points, exit_count}
+use Rattle.lin_ir.specs.Descriptors.{frame_point_count}
+use Rattle.lin_ir.specs.Formed.{bare_flow}
 use Rattle.lin_ir.specs.Meaning.{passes_frame}
 use Rattle.lin_ir.specs.declared.lin.Flow.TheVariants as flow
 use Rattle.lin_ir.specs.declared.lin.LinOp.{LinOp}
@@ -21,10 +21,10 @@ use Rattle.lin_ir.specs.declared.lin.LinOp.TheVariants as lin
 use Rattle.lin_ir.specs.declared.lin.Line.{Line}
 use Rattle.lin_ir.specs.declared.lin.Lin.{Lin}
 use Rattle.linear_rules.specs.Lowered as lower
-use Rattle.linear_rules.specs.Lowered.{is_idle, pops, line_of, spot, lines_of_mark, lines_of, lowered_one, lowered_code, slot_number, lowered}
+use Rattle.linear_rules.specs.Lowered.{is_idle, pops, line_of, spot_of_register, lines_of_mark, lines_of, lowered_one, lowered_code, slot_number, lowered}
 use Rattle.linear_rules.proofs.Walked.{Tail, tail_all, tail_next, tail_stands}
-use Rattle.tidy_rules.specs.Leaving.{without, LeavesOften, not_once, once_more}
-use Rattle.tidy_rules.specs.Redirecting.{redirected, redirect, last_label, last_exit, redirected_all}
+use Rattle.tidy_rules.specs.Leaving.{without_lines, LeavesOften, not_once, once_more}
+use Rattle.tidy_rules.specs.Redirecting.{redirected_operation, redirect, final_label, last_exit, redirected_all}
 use Rattle.tidy_rules.specs.Regular.{IsRegular}
 use Rattle.tidy_rules.specs.Tidied.{IsTidied}
 use Rattle.tidy_rules.specs.Turning.{Turn, label_put, tested_again, turned_line, turned_lines, Turns, turned_all}
@@ -37,17 +37,17 @@ use Rattle.code_bounds.specs.Lines.{line_words, lines_words, turning_words, turn
 
 -- ---- lowering
 
-points_next : (i : Line) (next : List Line) → frame_points (i ∷ next) ≡ one_if (passes_frame i.op) + frame_points next
+points_next : (i : Line) (next : List Line) → frame_point_count (i ∷ next) ≡ one_if_true (passes_frame i.op) + frame_point_count next
 points_next i next = by (passes_frame i.op)
   where
-    by : (b : Bool) → cond b (suc (frame_points next)) (frame_points next) ≡ one_if b + frame_points next
+    by : (b : Bool) → cond b (suc (frame_point_count next)) (frame_point_count next) ≡ one_if_true b + frame_point_count next
     by true = omega arith
     by false = omega arith
 
-exits_next : (i : Instr) (is : List Instr) → exits (i ∷ is) ≡ one_if (is_exit i.op) + exits is
+exits_next : (i : Instr) (is : List Instr) → exit_count (i ∷ is) ≡ one_if_true (is_exit i.op) + exit_count is
 exits_next i is = by (is_exit i.op)
   where
-    by : (b : Bool) → cond b (suc (exits is)) (exits is) ≡ one_if b + exits is
+    by : (b : Bool) → cond b (suc (exit_count is)) (exit_count is) ≡ one_if_true b + exit_count is
     by true = omega arith
     by false = omega arith
 
@@ -56,26 +56,26 @@ module _ (number : ℕ → ℕ) where
   pop_words zero next = omega arith
   pop_words (suc n) next = let others = pop_words n next in omega (arith, others)
 
-  pop_points : (n : ℕ) (next : List Line) → frame_points (pops number n next) ≡ frame_points next
+  pop_points : (n : ℕ) (next : List Line) → frame_point_count (pops number n next) ≡ frame_point_count next
   pop_points zero next = refl
   pop_points (suc n) next = pop_points n next
 
   mark_words_lower : (f : Mark) (i : Instr) (next : List Line) →
-      turned_words (lines_of_mark number f i next) ≤ mark_words f + 16 * length i.results + 17 * one_if (is_exit (mach.Mark f)) + turned_words next
-  mark_words_lower (mark.Exit l n) i next = let all = pop_words n (bare (flow.Exit l) ∷ next) in omega (arith, all)
-  mark_words_lower (mark.If t l) i next = let same = length-map i.results (spot number) in omega (arith, same)
+      turned_words (lines_of_mark number f i next) ≤ mark_words f + 16 * length i.results + 17 * one_if_true (is_exit (mach.Mark f)) + turned_words next
+  mark_words_lower (mark.Exit l n) i next = let all = pop_words n (bare_flow (flow.Exit l) ∷ next) in omega (arith, all)
+  mark_words_lower (mark.If t l) i next = let same = length-map i.results (spot_of_register number) in omega (arith, same)
   mark_words_lower (mark.Else l end) i next = omega arith
-  mark_words_lower (mark.Switch labels) i next = let same = length-map i.results (spot number) in omega (arith, same)
+  mark_words_lower (mark.Switch labels) i next = let same = length-map i.results (spot_of_register number) in omega (arith, same)
   mark_words_lower (mark.Case indexes l end) i next = omega arith
   mark_words_lower mark.Catch i next = omega arith
   mark_words_lower (mark.With l end) i next = omega arith
-  mark_words_lower (mark.Try l) i next = let same = length-map i.results (spot number) in omega (arith, same)
+  mark_words_lower (mark.Try l) i next = let same = length-map i.results (spot_of_register number) in omega (arith, same)
   mark_words_lower (mark.Leave l end) i next = omega arith
-  mark_words_lower (mark.Handler l) i next = let same = length-map i.results (spot number) in omega (arith, same)
+  mark_words_lower (mark.Handler l) i next = let same = length-map i.results (spot_of_register number) in omega (arith, same)
   mark_words_lower (mark.End l) i next = omega arith
 
-  mark_points_lower : (f : Mark) (i : Instr) (next : List Line) → frame_points (lines_of_mark number f i next) ≡ frame_points next
-  mark_points_lower (mark.Exit l n) i next = pop_points n (bare (flow.Exit l) ∷ next)
+  mark_points_lower : (f : Mark) (i : Instr) (next : List Line) → frame_point_count (lines_of_mark number f i next) ≡ frame_point_count next
+  mark_points_lower (mark.Exit l n) i next = pop_points n (bare_flow (flow.Exit l) ∷ next)
   mark_points_lower (mark.If t l) i next = refl
   mark_points_lower (mark.Else l end) i next = refl
   mark_points_lower (mark.Switch labels) i next = refl
@@ -88,37 +88,37 @@ module _ (number : ℕ → ℕ) where
   mark_points_lower (mark.End l) i next = refl
 
   op_words_lower : (f : MachOp) (i : Instr) (next : List Line) → is_idle f i.args i.results ≡ false →
-      turned_words (lines_of number f i next) ≤ words_with f i.args i.results + 17 * one_if (is_exit f) + turned_words next
+      turned_words (lines_of number f i next) ≤ words_for_instr f i.args i.results + 17 * one_if_true (is_exit f) + turned_words next
   op_words_lower (mach.Op (op.Pure (pure.Copy kind))) i next moves =
       subst (λ (b : Bool). copy_words + 0 + turned_words next ≤ cond b 0 copy_words + 17 * 0 + turned_words next) (sym moves) (omega arith)
-  op_words_lower (mach.Op (op.Pure (pure.Constant w))) i next moves = let same = length-map i.results (spot number) in omega (arith, same)
-  op_words_lower (mach.Op (op.Pure (pure.Symbol name))) i next moves = let same = length-map i.results (spot number) in omega (arith, same)
-  op_words_lower (mach.Op (op.Pure (pure.Operator f r))) i next moves = let same = length-map i.results (spot number) in omega (arith, same)
-  op_words_lower (mach.Op (op.Access f)) i next moves = let same = length-map i.results (spot number) in omega (arith, same)
-  op_words_lower (mach.Op (op.Calling f)) i next moves = let same = length-map i.results (spot number) in omega (arith, same)
-  op_words_lower (mach.Op (op.Leaving f)) i next moves = let same = length-map i.results (spot number) in omega (arith, same)
+  op_words_lower (mach.Op (op.Pure (pure.Constant w))) i next moves = let same = length-map i.results (spot_of_register number) in omega (arith, same)
+  op_words_lower (mach.Op (op.Pure (pure.Symbol name))) i next moves = let same = length-map i.results (spot_of_register number) in omega (arith, same)
+  op_words_lower (mach.Op (op.Pure (pure.Operator f r))) i next moves = let same = length-map i.results (spot_of_register number) in omega (arith, same)
+  op_words_lower (mach.Op (op.Access f)) i next moves = let same = length-map i.results (spot_of_register number) in omega (arith, same)
+  op_words_lower (mach.Op (op.Calling f)) i next moves = let same = length-map i.results (spot_of_register number) in omega (arith, same)
+  op_words_lower (mach.Op (op.Leaving f)) i next moves = let same = length-map i.results (spot_of_register number) in omega (arith, same)
   op_words_lower (mach.Mark f) i next moves = mark_words_lower f i next
 
-  op_points_lower : (f : MachOp) (i : Instr) (next : List Line) → frame_points (lines_of number f i next) ≡ one_if (machs.passes_frame f) + frame_points next
+  op_points_lower : (f : MachOp) (i : Instr) (next : List Line) → frame_point_count (lines_of number f i next) ≡ one_if_true (machs.passes_frame f) + frame_point_count next
   op_points_lower (mach.Op f) i next = points_next (line_of number (lin.Op f) i) next
   op_points_lower (mach.Mark f) i next = let same = mark_points_lower f i next in omega (arith, same)
 
-  one_words : (i : Instr) (next : List Line) → turned_words (lowered_one number i next) ≤ instr_words i + 17 * one_if (is_exit i.op) + turned_words next
+  one_words : (i : Instr) (next : List Line) → turned_words (lowered_one number i next) ≤ instr_words i + 17 * one_if_true (is_exit i.op) + turned_words next
   one_words i next = by (is_idle i.op i.args i.results) refl
     where
       by : (b : Bool) → is_idle i.op i.args i.results ≡ b →
-          turned_words (cond b next (lines_of number i.op i next)) ≤ instr_words i + 17 * one_if (is_exit i.op) + turned_words next
+          turned_words (cond b next (lines_of number i.op i next)) ≤ instr_words i + 17 * one_if_true (is_exit i.op) + turned_words next
       by true idle = omega arith
       by false moves = op_words_lower i.op i next moves
 
-  one_points : (i : Instr) (next : List Line) → frame_points (lowered_one number i next) ≤ one_if (machs.passes_frame i.op) + frame_points next
+  one_points : (i : Instr) (next : List Line) → frame_point_count (lowered_one number i next) ≤ one_if_true (machs.passes_frame i.op) + frame_point_count next
   one_points i next = by (is_idle i.op i.args i.results)
     where
-      by : (b : Bool) → frame_points (cond b next (lines_of number i.op i next)) ≤ one_if (machs.passes_frame i.op) + frame_points next
+      by : (b : Bool) → frame_point_count (cond b next (lines_of number i.op i next)) ≤ one_if_true (machs.passes_frame i.op) + frame_point_count next
       by true = omega arith
       by false = let same = op_points_lower i.op i next in omega (arith, same)
 
-  pub lowered_words : (code : List Instr) → turned_words (lowered_code number code) ≤ code_words code + 17 * exits code
+  pub lowered_words : (code : List Instr) → turned_words (lowered_code number code) ≤ code_words code + 17 * exit_count code
   lowered_words [] = omega arith
   lowered_words (i ∷ is) =
       let here = one_words i (lowered_code number is) in
@@ -126,7 +126,7 @@ module _ (number : ℕ → ℕ) where
       let split = exits_next i is in
       omega (arith, here, others, split)
 
-  pub lowered_points : (code : List Instr) → frame_points (lowered_code number code) ≤ code_points code
+  pub lowered_points : (code : List Instr) → frame_point_count (lowered_code number code) ≤ code_points code
   lowered_points [] = omega arith
   lowered_points (i ∷ is) =
       let here = one_points i (lowered_code number is) in
@@ -138,7 +138,7 @@ module _ (number : ℕ → ℕ) where
 -- the code has no more words and frame points than the other
 pub record NoLarger (q p : List Line) : Type 0 where
   pub words : lines_words q ≤ lines_words p
-  pub points : frame_points q ≤ frame_points p
+  pub points : frame_point_count q ≤ frame_point_count p
 
 no_larger_then : {r q p : List Line} → NoLarger r q → NoLarger q p → NoLarger r p
 no_larger_then {r} {q} {p} a b =
@@ -148,11 +148,11 @@ no_larger_then {r} {q} {p} a b =
     let more_points = b.points in
     record { words = omega (arith, words, more_words); points = omega (arith, points, more_points) }
 
-without_no_larger : (goes : ℕ → Bool) (code : List Line) → NoLarger (without goes code) code
+without_no_larger : (goes : ℕ → Bool) (code : List Line) → NoLarger (without_lines goes code) code
 without_no_larger goes [] = record { words = omega arith; points = omega arith }
 without_no_larger goes (i ∷ next) = by (goes (length next)) (without_no_larger goes next)
   where
-    by : (b : Bool) → NoLarger (without goes next) next → NoLarger (cond b (without goes next) (i ∷ without goes next)) (i ∷ next)
+    by : (b : Bool) → NoLarger (without_lines goes next) next → NoLarger (cond b (without_lines goes next) (i ∷ without_lines goes next)) (i ∷ next)
     by true others =
         let words = others.words in
         let points = others.points in
@@ -162,7 +162,7 @@ without_no_larger goes (i ∷ next) = by (goes (length next)) (without_no_larger
         let words = others.words in
         let points = others.points in
         let here = points_next i next in
-        let there = points_next i (without goes next) in
+        let there = points_next i (without_lines goes next) in
         record { words = omega (arith, words); points = omega (arith, points, here, there) }
 
 often_no_larger : {q r : Lin} → LeavesOften q r → NoLarger r.code q.code
@@ -171,19 +171,19 @@ often_no_larger {q} (once_more {q = p} way l) =
     subst (λ (r : Lin). NoLarger r.code q.code) (sym l.is) (no_larger_then (without_no_larger l.goes p.code) (often_no_larger way))
 
 -- a jump and an exit are as many words, and either may be turned
-redirected_words : (to : ℕ → ℕ) (exits : ℕ → Option ℕ) (f : LinOp) (n : ℕ) →
-    lines.words_with (redirected to exits f) n + turning_words (redirected to exits f) ≡ lines.words_with f n + turning_words f
-redirected_words to exits (lin.Op f) n = refl
-redirected_words to exits (lin.Flow (flow.Jump l)) n =
-    jump_same (λ f. lines.words_with f n + turning_words f) _ (λ l. refl) (λ l. refl) (exits l) (to l)
-redirected_words to exits (lin.Flow (flow.Exit l)) n = refl
-redirected_words to exits (lin.Flow (flow.Branch test l)) n = refl
-redirected_words to exits (lin.Flow f) n = refl
+redirected_words : (to : ℕ → ℕ) (exit_count : ℕ → Option ℕ) (f : LinOp) (n : ℕ) →
+    lines.words_for_line (redirected_operation to exit_count f) n + turning_words (redirected_operation to exit_count f) ≡ lines.words_for_line f n + turning_words f
+redirected_words to exit_count (lin.Op f) n = refl
+redirected_words to exit_count (lin.Flow (flow.Jump l)) n =
+    jump_same (λ f. lines.words_for_line f n + turning_words f) _ (λ l. refl) (λ l. refl) (exit_count l) (to l)
+redirected_words to exit_count (lin.Flow (flow.Exit l)) n = refl
+redirected_words to exit_count (lin.Flow (flow.Branch test l)) n = refl
+redirected_words to exit_count (lin.Flow f) n = refl
 
 -- the code has no more words than the other may have once loops are turned, and no more frame points
 pub record Fits (q p : List Line) : Type 0 where
   pub words : lines_words q ≤ turned_words p
-  pub points : frame_points q ≤ frame_points p
+  pub points : frame_point_count q ≤ frame_point_count p
 
 fits_then : {r q p : List Line} → NoLarger r q → Fits q p → Fits r p
 fits_then {r} {q} {p} a b =
@@ -193,28 +193,28 @@ fits_then {r} {q} {p} a b =
     let more_points = b.points in
     record { words = omega (arith, words, more_words); points = omega (arith, points, more_points) }
 
-fits_redirected : (to : ℕ → ℕ) (exits : ℕ → Option ℕ) {r code : List Line} → Fits r (map (redirect to exits) code) → Fits r code
-fits_redirected to exits {r} {code} fits =
+fits_redirected : (to : ℕ → ℕ) (exit_count : ℕ → Option ℕ) {r code : List Line} → Fits r (map (redirect to exit_count) code) → Fits r code
+fits_redirected to exit_count {r} {code} fits =
     let words = fits.words in
     let points = fits.points in
     let same_words = all_words code in
     let same_points = all_points code in
     record { words = omega (arith, words, same_words); points = omega (arith, points, same_points) }
   where
-    all_words : (code : List Line) → turned_words (map (redirect to exits) code) ≡ turned_words code
+    all_words : (code : List Line) → turned_words (map (redirect to exit_count) code) ≡ turned_words code
     all_words [] = refl
     all_words (i ∷ next) =
         let others = all_words next in
-        let own = redirected_words to exits i.op (length i.results) in
+        let own = redirected_words to exit_count i.op (length i.results) in
         omega (arith, others, own)
 
-    all_points : (code : List Line) → frame_points (map (redirect to exits) code) ≡ frame_points code
+    all_points : (code : List Line) → frame_point_count (map (redirect to exit_count) code) ≡ frame_point_count code
     all_points [] = refl
     all_points (i ∷ next) =
         let others = all_points next in
         let here = points_next i next in
-        let there = points_next (redirect to exits i) (map (redirect to exits) next) in
-        let same = ap one_if (same_frame to exits i.op) in
+        let there = points_next (redirect to exit_count i) (map (redirect to exit_count) next) in
+        let same = ap one_if_true (same_frame to exit_count i.op) in
         omega (arith, others, here, there, same)
 
 module _ (m r : Lin) (h : Turns m r) where
@@ -230,7 +230,7 @@ module _ (m r : Lin) (h : Turns m r) where
       two_words true t = omega arith
       two_words false t = omega arith
 
-      two_points : (b : Bool) (t : Turn) → frame_points (tested_again b t.head ++ rest) ≡ frame_points rest
+      two_points : (b : Bool) (t : Turn) → frame_point_count (tested_again b t.head ++ rest) ≡ frame_point_count rest
       two_points true t = refl
       two_points false t = refl
 
@@ -245,7 +245,7 @@ module _ (m r : Lin) (h : Turns m r) where
           let words = fits.words in
           let points = fits.points in
           let here = points_next i next in
-          let there = points_next i (bare (flow.Label l) ∷ rest) in
+          let there = points_next i (bare_flow (flow.Label l) ∷ rest) in
           record { words = omega (arith, words); points = omega (arith, points, here, there) }
 
       by : (x : Option Turn) → h.turns (length next) ≡ x → (o : Option ℕ) → Fits rest next → Fits (turned_line x o i ++ rest) (i ∷ next)
@@ -266,19 +266,19 @@ turning_fits {m} {r} h = subst (λ (r : Lin). Fits r.code m.code) (sym h.is) (li
 pub tidied_fits : {m r : Lin} → IsRegular m → IsTidied m r → Fits r.code m.code
 tidied_fits {m} regular h =
     let turns : Turns (redirected_all m) (turned_all (redirected_all m)) = turns_all (redirecting_regular (redirects_all m) regular).well in
-    fits_then (often_no_larger h.leaves) (fits_redirected (last_label m) (last_exit m) (turning_fits turns))
+    fits_then (often_no_larger h.leaves) (fits_redirected (final_label m) (last_exit m) (turning_fits turns))
 
 -- ---- whole
 
 -- of a Mach function that was lowered and tidied
 module _ (q : Mach) (r : Lin) (regular : IsRegular (lowered q)) (t : IsTidied (lowered q) r) where
-  pub linear_words : lines_words r.code ≤ code_words q.code + 17 * exits q.code
+  pub linear_words : lines_words r.code ≤ code_words q.code + 17 * exit_count q.code
   linear_words =
       let tidied = (tidied_fits regular t).words in
       let lower = lowered_words (slot_number q) q.code in
       omega (arith, tidied, lower)
 
-  pub linear_points : frame_points r.code ≤ code_points q.code
+  pub linear_points : frame_point_count r.code ≤ code_points q.code
   linear_points =
       let tidied = (tidied_fits regular t).points in
       let lower = lowered_points (slot_number q) q.code in

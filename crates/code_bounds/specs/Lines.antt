@@ -19,13 +19,13 @@ flow_words (flow.Switch labels) = 32 + 4 * length labels
 flow_words _ = 32
 
 -- A copy has no more than one on Mach. Others may have 16 for each result.
-abbrev pub words_with : LinOp → (results : ℕ) → ℕ
-words_with (lin.Op (op.Pure (pure.Copy kind))) results = copy_words
-words_with (lin.Op f) results = 32 + 16 * results
-words_with (lin.Flow f) results = flow_words f + 16 * results
+abbrev pub words_for_line : LinOp → (results : ℕ) → ℕ
+words_for_line (lin.Op (op.Pure (pure.Copy kind))) results = copy_words
+words_for_line (lin.Op f) results = 32 + 16 * results
+words_for_line (lin.Flow f) results = flow_words f + 16 * results
 
 abbrev pub line_words : Line → ℕ
-line_words i = words_with i.op (length i.results)
+line_words i = words_for_line i.op (length i.results)
 
 abbrev pub lines_words : List Line → ℕ
 lines_words [] = 0

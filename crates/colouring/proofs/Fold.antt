@@ -6,21 +6,21 @@ use Rattle.std.proofs.lemmas.Bool.{eq-eqb, ne_eqb, cases_eq}
 use Rattle.bs_words.specs.declared.types.Loc.{Loc}
 use Rattle.bs_words.specs.declared.types.Loc.TheVariants as loc
 use Rattle.bs_words.proofs.Lists.{none_in, first_in, later_in, in_cons, pairs_later}
-use Rattle.mach_ir.specs.Graph.{IsColourable, InGraph, JoinedIn, place_in}
-use Rattle.mach_ir.specs.Placed.{Colouring, colours, IsPlaced, in_colour, in_slot, MayShare, placed_by, IsColouring, NoNeedlessSlot}
+use Rattle.mach_ir.specs.Graph.{IsColourable, InGraph, JoinedIn, coloured_location}
+use Rattle.mach_ir.specs.Placed.{Colouring, colour_numbers, HasColourOrSlot, in_colour, in_slot, MayShare, placed_by, IsProperColouring, NoNeedlessSlot}
 use Rattle.mach_ir.specs.declared.reg.Reg.{Reg}
 use Rattle.mach_ir.specs.declared.graph.Node.{Node}
 use Rattle.mach_ir.specs.declared.graph.Graph.{Graph}
 use Rattle.mach_ir.specs.declared.graph.Colours.{Colours}
-use Rattle.colouring.specs.Chosen.{ComesBefore, IsOrder, IsColouredBy, OthersAreUnset, loc_of, fixed, put, chosen, coloured}
+use Rattle.colouring.specs.Chosen.{IsColouredBefore, IsOrder, IsGreedyColouring, OthersAreUnset, location_of_node, fixed, colouring_with, chosen_location, greedily_coloured}
 use Rattle.colouring.proofs.Ordered.{pairs_first, strict_order}
 use Rattle.colouring.proofs.Found.{found_at, one_of_number, node_of, in_graph, missing}
 use Rattle.colouring.proofs.Choice.{InColour, InSlot, choice}
 
-put_here : (place : Colouring) (n : ℕ) (here : Loc) (k : ℕ) → k ≡ n → put place n here k ≡ here
+put_here : (place : Colouring) (n : ℕ) (here : Loc) (k : ℕ) → k ≡ n → colouring_with place n here k ≡ here
 put_here place n here k e = ap (λ (b : Bool). cond b here (place k)) (eq-eqb k n e)
 
-put_other : (place : Colouring) (n : ℕ) (here : Loc) (k : ℕ) → (k ≡ n → ⊥) → put place n here k ≡ place k
+put_other : (place : Colouring) (n : ℕ) (here : Loc) (k : ℕ) → (k ≡ n → ⊥) → colouring_with place n here k ≡ place k
 put_other place n here k ne = ap (λ (b : Bool). cond b here (place k)) (ne_eqb k n ne)
 
 -- a neighbour of the node is at the colour
@@ -34,17 +34,17 @@ record Beside (nodes : List Node) (place : Colouring) (x : Node) (c : ℕ) : Typ
 record Good (g : Graph) (rest : List Node) (place : Colouring) : Type 0 where
   pub stays : (x : Node) → Contains g.nodes x → (x.reg.loc ≡ loc.Unset) ⊎ (place x.reg.number ≡ x.reg.loc)
   pub places : (x : Node) → Contains g.nodes x →
-      (place x.reg.number ≡ loc.Unset) ⊎ IsPlaced (placed_by place x.reg)
+      (place x.reg.number ≡ loc.Unset) ⊎ HasColourOrSlot (placed_by place x.reg)
   pub waits : (x : Node) → Contains g.nodes x → place x.reg.number ≡ loc.Unset → Contains rest x
   pub waiting : (x : Node) → Contains rest x → place x.reg.number ≡ loc.Unset
   pub apart : (x y : Node) → Contains g.nodes x → Contains g.nodes y → Contains x.neighbours y.reg.number →
       (place x.reg.number ≡ loc.Unset → ⊥) → place x.reg.number ≡ place y.reg.number →
       MayShare (placed_by place x.reg) (placed_by place y.reg)
   pub full : (x : Node) → Contains g.nodes x → x.reg.loc ≡ loc.Unset → (k : ℕ) → place x.reg.number ≡ loc.Slot k →
-      (c : ℕ) → Contains colours c → Beside g.nodes place x c
+      (c : ℕ) → Contains colour_numbers c → Beside g.nodes place x c
 
 -- the origin of what is placed in a slot
-slot_of : (r : Reg) (l : Loc) (k : ℕ) → l ≡ loc.Slot k → (l ≡ loc.Unset) ⊎ IsPlaced (record r { loc = l }) →
+slot_of : (r : Reg) (l : Loc) (k : ℕ) → l ≡ loc.Slot k → (l ≡ loc.Unset) ⊎ HasColourOrSlot (record r { loc = l }) →
     l ≡ loc.Slot r.origin
 slot_of r l k e (inl u) = cc
 slot_of r l k e (inr (in_colour n i s)) = cc
@@ -87,9 +87,9 @@ module _ (g : Graph) (h : IsColourable g) where
       (in_x : Contains g.nodes x)
       (free : x.reg.loc ≡ loc.Unset) (apart : (y : Node) → Contains rest y → y.reg.number ≡ x.reg.number → ⊥)
       (here : Loc)
-      (chose : InColour colours place x here ⊎ InSlot colours place x here) where
+      (chose : InColour colour_numbers place x here ⊎ InSlot colour_numbers place x here) where
     abbrev then : Colouring
-    then = put place x.reg.number here
+    then = colouring_with place x.reg.number here
 
     which : (y : Node) → Contains g.nodes y →
         ((y ≡ x) × (then y.reg.number ≡ here)) ⊎
@@ -103,7 +103,7 @@ module _ (g : Graph) (h : IsColourable g) where
     is_set : here ≡ loc.Unset → ⊥
     is_set e = ⊎_elim (λ c. let s = c.is in cc) (λ c. let s = c.is in cc) chose
 
-    placed_here : IsPlaced (record (x.reg) { loc = here })
+    placed_here : HasColourOrSlot (record (x.reg) { loc = here })
     placed_here = ⊎_elim (λ c. in_colour c.colour c.among c.is) (λ c. in_slot c.is) chose
 
     stays : (y : Node) → Contains g.nodes y → (y.reg.loc ≡ loc.Unset) ⊎ (then y.reg.number ≡ y.reg.loc)
@@ -113,15 +113,15 @@ module _ (g : Graph) (h : IsColourable g) where
         (λ w. ⊎_elim (λ u. inl u) (λ e. inr (w.1 ∙ e)) (good.stays y c))
         (which y c)
 
-    places : (y : Node) → Contains g.nodes y → (then y.reg.number ≡ loc.Unset) ⊎ IsPlaced (placed_by then y.reg)
+    places : (y : Node) → Contains g.nodes y → (then y.reg.number ≡ loc.Unset) ⊎ HasColourOrSlot (placed_by then y.reg)
     places y c =
         ⊎_elim
         (λ w.
-        let at_here : IsPlaced (record (y.reg) { loc = here }) =
-        subst (λ (z : Node). IsPlaced (record (z.reg) { loc = here })) (sym w.0) placed_here in
-        inr (subst (λ l. IsPlaced (record (y.reg) { loc = l })) (sym w.1) at_here))
+        let at_here : HasColourOrSlot (record (y.reg) { loc = here }) =
+        subst (λ (z : Node). HasColourOrSlot (record (z.reg) { loc = here })) (sym w.0) placed_here in
+        inr (subst (λ l. HasColourOrSlot (record (y.reg) { loc = l })) (sym w.1) at_here))
         (λ w.
-        ⊎_elim (λ u. inl (w.1 ∙ u)) (λ p. inr (subst (λ l. IsPlaced (record (y.reg) { loc = l })) (sym w.1) p))
+        ⊎_elim (λ u. inl (w.1 ∙ u)) (λ p. inr (subst (λ l. HasColourOrSlot (record (y.reg) { loc = l })) (sym w.1) p))
         (good.places y c))
         (which y c)
 
@@ -191,7 +191,7 @@ module _ (g : Graph) (h : IsColourable g) where
         }
 
     full : (y : Node) → Contains g.nodes y → y.reg.loc ≡ loc.Unset → (k : ℕ) → then y.reg.number ≡ loc.Slot k →
-        (c : ℕ) → Contains colours c → Beside g.nodes then y c
+        (c : ℕ) → Contains colour_numbers c → Beside g.nodes then y c
     full y i open_y k e c among =
         ⊎_elim
         (λ w. ⊎_elim
@@ -219,29 +219,29 @@ module _ (g : Graph) (h : IsColourable g) where
 
   all_chosen : (fresh : ℕ) (order : List Node) (place : Colouring) → Good g order place →
       ((x : Node) → Contains order x → Contains g.nodes x × (x.reg.loc ≡ loc.Unset)) →
-      AllPairs (ComesBefore (fixed g) fresh) order → Good g [] (coloured g place order)
+      AllPairs (IsColouredBefore (fixed g) fresh) order → Good g [] (greedily_coloured g place order)
   all_chosen fresh [] place good members up = good
   all_chosen fresh (x ∷ rest) place good members up =
       let here : Contains g.nodes x × (x.reg.loc ≡ loc.Unset) = members x (first_in x rest) in
       let apart : (y : Node) → Contains rest y → y.reg.number ≡ x.reg.number → ⊥ = λ y c e.
       let same : y ≡ x = one_of_number g.nodes y x h.order (members y (later_in x y rest c)).0 here.0 e in
-      let before : ComesBefore (fixed g) fresh x y = pairs_first (ComesBefore (fixed g) fresh) x rest up y c in
-      let self : ComesBefore (fixed g) fresh x x = subst (ComesBefore (fixed g) fresh x) same before in
+      let before : IsColouredBefore (fixed g) fresh x y = pairs_first (IsColouredBefore (fixed g) fresh) x rest up y c in
+      let self : IsColouredBefore (fixed g) fresh x x = subst (IsColouredBefore (fixed g) fresh x) same before in
       strict_order (fixed g) fresh x x self self in
-      all_chosen fresh rest (put place x.reg.number (chosen g place x))
-      (one_more rest place x good here.0 here.1 apart (chosen g place x) (choice g place x))
-      (λ y c. members y (later_in x y rest c)) (pairs_later (ComesBefore (fixed g) fresh) x rest up)
+      all_chosen fresh rest (colouring_with place x.reg.number (chosen_location g place x))
+      (one_more rest place x good here.0 here.1 apart (chosen_location g place x) (choice g place x))
+      (λ y c. members y (later_in x y rest c)) (pairs_later (IsColouredBefore (fixed g) fresh) x rest up)
 
   -- ---- before all choices
 
   fixed_at : (x : Node) → Contains g.nodes x → fixed g x.reg.number ≡ x.reg.loc
-  fixed_at x c = ap loc_of (found_at g.nodes x h.order c)
+  fixed_at x c = ap location_of_node (found_at g.nodes x h.order c)
 
   start : {fresh : ℕ} (order : List Node) → IsOrder fresh g order → Good g order (fixed g)
   start order is = record {
     stays = λ x c. inr (fixed_at x c);
     places = λ x c. ⊎_elim (λ u. inl (fixed_at x c ∙ u))
-        (λ p. inr (subst (λ l. IsPlaced (record (x.reg) { loc = l })) (sym (fixed_at x c)) p))
+        (λ p. inr (subst (λ l. HasColourOrSlot (record (x.reg) { loc = l })) (sym (fixed_at x c)) p))
         (h.agree.places x.reg (in_graph g.nodes x c));
     waits = λ x c u. (is.exact x).1 (c, sym (fixed_at x c) ∙ u);
     waiting = λ x c. let i = (is.exact x).0 c in fixed_at x i.0 ∙ i.1;
@@ -256,7 +256,7 @@ module _ (g : Graph) (h : IsColourable g) where
   -- ---- after them
 
   module _ (place : Colouring) (good : Good g [] place) where
-    is_placed : (x : Node) → Contains g.nodes x → IsPlaced (placed_by place x.reg)
+    is_placed : (x : Node) → Contains g.nodes x → HasColourOrSlot (placed_by place x.reg)
     is_placed x c = ⊎_elim (λ u. absurd (none_in x (good.waits x c u))) (λ p. p) (good.places x c)
 
     has_place : (x : Node) → Contains g.nodes x → place x.reg.number ≡ loc.Unset → ⊥
@@ -275,56 +275,56 @@ module _ (g : Graph) (h : IsColourable g) where
         (has_place w.node w.among) e))
 
     is_full : (r : Reg) → InGraph g r → r.loc ≡ loc.Unset → (k : ℕ) → place r.number ≡ loc.Slot k → (n : ℕ) →
-        Contains colours n →
+        Contains colour_numbers n →
         (q : Reg) × InGraph g q × JoinedIn g r.number q.number × (place q.number ≡ loc.Machine n)
     is_full r c =
         let w = node_of g.nodes r c in
-        subst (λ (a : Reg). a.loc ≡ loc.Unset → (k : ℕ) → place a.number ≡ loc.Slot k → (n : ℕ) → Contains colours n →
+        subst (λ (a : Reg). a.loc ≡ loc.Unset → (k : ℕ) → place a.number ≡ loc.Slot k → (n : ℕ) → Contains colour_numbers n →
         (q : Reg) × InGraph g q × JoinedIn g a.number q.number × (place q.number ≡ loc.Machine n)) w.same
         (λ u k e n i.
         let b = good.full w.node w.among u k e n i in
         (b.node.reg, in_graph g.nodes b.node b.among, joined w.node b.node w.among b.joins, b.there))
 
-    is_colouring : IsColouring (InGraph g) (JoinedIn g) place
+    is_colouring : IsProperColouring (InGraph g) (JoinedIn g) place
     is_colouring = record {
       fixed = λ r c. let w = node_of g.nodes r c in
           subst (λ (a : Reg). (a.loc ≡ loc.Unset) ⊎ (place a.number ≡ a.loc)) w.same (good.stays w.node w.among);
       places = λ r c. let w = node_of g.nodes r c in
-          subst (λ (a : Reg). IsPlaced (placed_by place a)) w.same (is_placed w.node w.among);
+          subst (λ (a : Reg). HasColourOrSlot (placed_by place a)) w.same (is_placed w.node w.among);
       apart = is_apart;
     }
 
-  module _ {fresh : ℕ} {c : Colours} (by : IsColouredBy fresh g c) where
+  module _ {fresh : ℕ} {c : Colours} (by : IsGreedyColouring fresh g c) where
     abbrev all_places : Colouring
-    all_places = coloured g (fixed g) by.order
+    all_places = greedily_coloured g (fixed g) by.order
 
     all_good : Good g [] all_places
     all_good = all_chosen fresh by.order (fixed g) (start by.order by.ordered) (λ x i. (by.ordered.exact x).0 i) by.ordered.sorted
 
-    same_places : all_places ≡ place_in c
+    same_places : all_places ≡ coloured_location c
     same_places = sym (fun_ext by.places)
 
     -- what is coloured by the definition is a colouring
-    pub is_safe : IsColouring (InGraph g) (JoinedIn g) (place_in c)
-    is_safe = subst (λ p. IsColouring (InGraph g) (JoinedIn g) p) same_places (is_colouring all_places all_good)
+    pub is_safe : IsProperColouring (InGraph g) (JoinedIn g) (coloured_location c)
+    is_safe = subst (λ p. IsProperColouring (InGraph g) (JoinedIn g) p) same_places (is_colouring all_places all_good)
 
     -- with no needless slot
-    pub no_needless_slot : NoNeedlessSlot (InGraph g) (JoinedIn g) (place_in c)
+    pub no_needless_slot : NoNeedlessSlot (InGraph g) (JoinedIn g) (coloured_location c)
     no_needless_slot =
         subst (λ p. NoNeedlessSlot (InGraph g) (JoinedIn g) p) same_places (record { full = is_full all_places all_good })
 
 -- ---- numbers of no register
 
 none_put : (g : Graph) (order : List Node) (place : Colouring) (n : ℕ) →
-    ((x : Node) → Contains order x → x.reg.number ≡ n → ⊥) → coloured g place order n ≡ place n
+    ((x : Node) → Contains order x → x.reg.number ≡ n → ⊥) → greedily_coloured g place order n ≡ place n
 none_put g [] place n none = refl
 none_put g (x ∷ rest) place n none =
-    none_put g rest (put place x.reg.number (chosen g place x)) n (λ y c. none y (later_in x y rest c)) ∙
-    put_other place x.reg.number (chosen g place x) n (λ e. none x (first_in x rest) (sym e))
+    none_put g rest (colouring_with place x.reg.number (chosen_location g place x)) n (λ y c. none y (later_in x y rest c)) ∙
+    put_other place x.reg.number (chosen_location g place x) n (λ e. none x (first_in x rest) (sym e))
 
 pub others_unset : (fresh : ℕ) (g : Graph) → OthersAreUnset fresh g
 others_unset fresh g c by n none =
     let no_node : (x : Node) → Contains g.nodes x → x.reg.number ≡ n → ⊥ = λ x i e.
     none x.reg (in_graph g.nodes x i) e in
     by.places n ∙ none_put g by.order (fixed g) n (λ x i. no_node x ((by.ordered.exact x).0 i).0) ∙
-    ap loc_of (missing g.nodes n no_node)
+    ap location_of_node (missing g.nodes n no_node)

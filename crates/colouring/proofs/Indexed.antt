@@ -6,7 +6,7 @@ use Rattle.std.proofs.lemmas.Bool.{cases_eq, cases_lt}
 use Rattle.std.proofs.lemmas.Option.{slice_get_cases}
 use Rattle.mach_ir.specs.declared.graph.Node.{Node}
 use Rattle.colouring.specs.Chosen.{node_at}
-use Rattle.colouring.specs.Tables.{node_by, IsTableOf}
+use Rattle.colouring.specs.Tables.{node_by, IsNodeIndex}
 use Rattle.colouring.proofs.Found.{Rising, found_at, missing}
 
 -- what the table has of the first nodes
@@ -108,7 +108,7 @@ one_indexed nodes i before padding after x up within is le pad end t =
 -- ---- all nodes
 
 pub all_indexed : (nodes : List Node) (indices : List (Option ℕ)) → Rising nodes →
-    IsIndexed nodes (length nodes) indices → IsTableOf nodes indices
+    IsIndexed nodes (length nodes) indices → IsNodeIndex nodes indices
 all_indexed nodes indices up t = record {
   each = λ n. by n (get_or indices n None) refl;
   has = λ k d lt. t.below k d lt;

@@ -6,7 +6,7 @@ use Rattle.mach_ir.specs.Placed.{Colouring}
 use Rattle.mach_ir.specs.declared.graph.Node.{Node}
 use Rattle.mach_ir.specs.declared.graph.Graph.{Graph}
 use Rattle.bs_words.proofs.Lists.{none_in, first_in, later_in, in_cons, pairs_later}
-use Rattle.colouring.specs.Chosen.{urgency, ComesBefore, fixed, coloured, OrderIsOne, ColoursAreOne}
+use Rattle.colouring.specs.Chosen.{urgency, IsColouredBefore, fixed, greedily_coloured, OrderIsOne, ColoursAreOne}
 
 -- the first before each later one
 pub pairs_first : {A : Type 0} (R : A → A → Type 0) (x : A) (xs : List A) → AllPairs R (x ∷ xs) →
@@ -51,15 +51,15 @@ strict_by_numbers u v n m (inl a) (inr b) = let e = b.0 in absurd (omega (arith,
 strict_by_numbers u v n m (inr a) (inl b) = let e = a.0 in absurd (omega (arith, e, b))
 strict_by_numbers u v n m (inr a) (inr b) = let p = a.1 in let q = b.1 in absurd (omega (arith, p, q))
 
-pub strict_order : (place : Colouring) (fresh : ℕ) (x y : Node) → ComesBefore place fresh x y → ComesBefore place fresh y x → ⊥
+pub strict_order : (place : Colouring) (fresh : ℕ) (x y : Node) → IsColouredBefore place fresh x y → IsColouredBefore place fresh y x → ⊥
 strict_order place fresh x y = strict_by_numbers (urgency place fresh x) (urgency place fresh y) x.reg.number y.reg.number
 
 pub order_is_one : (fresh : ℕ) (g : Graph) → OrderIsOne fresh g
 order_is_one fresh g a b order order' =
-    one_by_members (ComesBefore (fixed g) fresh) (strict_order (fixed g) fresh) a b order.sorted order'.sorted
+    one_by_members (IsColouredBefore (fixed g) fresh) (strict_order (fixed g) fresh) a b order.sorted order'.sorted
     (λ x c. (order'.exact x).1 ((order.exact x).0 c)) (λ x c. (order.exact x).1 ((order'.exact x).0 c))
 
 pub one_colouring : (fresh : ℕ) (g : Graph) → ColoursAreOne fresh g
 one_colouring fresh g c d by_c by_d n =
     let same : by_c.order ≡ by_d.order = order_is_one fresh g by_c.order by_d.order by_c.ordered by_d.ordered in
-    by_c.places n ∙ ap (λ order. coloured g (fixed g) order n) same ∙ sym (by_d.places n)
+    by_c.places n ∙ ap (λ order. greedily_coloured g (fixed g) order n) same ∙ sym (by_d.places n)

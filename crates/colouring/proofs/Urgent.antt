@@ -19,8 +19,8 @@ use Rattle.mach_ir.specs.declared.graph.Node.{Node}
 use Rattle.mach_ir.specs.declared.graph.Graph.{Graph}
 use Rattle.mach_ir.specs.Placed.{Colouring}
 use Rattle.mach_ir.specs.Places as locations
-use Rattle.colouring.specs.Chosen.{fixed, urgency, ComesBefore, IsOrder}
-use Rattle.colouring.specs.Tables.{is_open, ranked_nodes, AreRanked, is_more_urgent}
+use Rattle.colouring.specs.Chosen.{fixed, urgency, IsColouredBefore, IsOrder}
+use Rattle.colouring.specs.Tables.{is_uncoloured, ranked_nodes, AreRanked, is_more_urgent}
 use Rattle.colouring.specs.declared.order.Ranked.{Ranked}
 use Rattle.colouring.proofs.Found.{Rising, in_filter, into_filter}
 use Rattle.colouring.proofs.Ordered.{pairs_first}
@@ -72,7 +72,7 @@ not_less a b le = ap (λ (t : Bool). is_lt (cond t Less (cond (nat_eq b a) Equal
     by true = refl
     by false = refl
 
-is_unset_from : (l : Loc) → locations.is_open l ≡ true → l ≡ loc.Unset
+is_unset_from : (l : Loc) → locations.is_unset_location l ≡ true → l ≡ loc.Unset
 is_unset_from loc.Unset e = refl
 is_unset_from (loc.Machine n) e = cc
 is_unset_from (loc.Slot n) e = cc
@@ -87,17 +87,17 @@ Sooner x y = (y.urgency < x.urgency) ⊎ ((x.urgency ≡ y.urgency) × Below x y
 abbrev IsTrueOf : Colouring → ℕ → Ranked → Type 0
 IsTrueOf place fresh r = r.urgency ≡ urgency place fresh r.node.now
 
-pub is_order : (g : Graph) (fresh : ℕ) (xs ys : List Ranked) → Rising g.nodes → ranked_nodes xs ≡ filter is_open g.nodes → AreRanked (fixed g) fresh xs →
+pub is_order : (g : Graph) (fresh : ℕ) (xs ys : List Ranked) → Rising g.nodes → ranked_nodes xs ≡ filter is_uncoloured g.nodes → AreRanked (fixed g) fresh xs →
     IsPermutation xs ys → IsSortedBy is_more_urgent ys → IsStableBy is_more_urgent xs ys → IsOrder fresh g (ranked_nodes ys)
 is_order g fresh xs ys up open_nodes ranked moved sorted stable = record {
   exact = λ x. (
     (λ c.
         let d : Contains (ranked_nodes xs) x =
         Contains-permutation (ranked_nodes ys) (ranked_nodes xs) x (IsPermutation-sym (ranked_nodes xs) (ranked_nodes ys) same) c in
-        let e = in_filter is_open g.nodes x (subst (λ l. Contains l x) open_nodes d) in
+        let e = in_filter is_uncoloured g.nodes x (subst (λ l. Contains l x) open_nodes d) in
         (e.0, is_unset_from x.reg.loc e.1)),
     (λ c. Contains-permutation (ranked_nodes xs) (ranked_nodes ys) x same
-        (subst (λ l. Contains l x) (sym open_nodes) (into_filter is_open g.nodes x c.0 (ap locations.is_open c.1)))),
+        (subst (λ l. Contains l x) (sym open_nodes) (into_filter is_uncoloured g.nodes x c.0 (ap locations.is_unset_location c.1)))),
   );
   sorted = pairs;
 } where
@@ -107,7 +107,7 @@ is_order g fresh xs ys up open_nodes ranked moved sorted stable = record {
   up_xs : AllPairs Below xs
   up_xs = pairs_of_map (λ (x : Ranked). x.node.now) (λ (x y : Node). x.reg.number < y.reg.number) xs
       (subst (λ l. Rising l) (sym open_nodes)
-      (AllPairs-filter (λ (x y : Node). x.reg.number < y.reg.number) is_open g.nodes up))
+      (AllPairs-filter (λ (x y : Node). x.reg.number < y.reg.number) is_uncoloured g.nodes up))
 
   tied_up : (x : Ranked) → AllPairs Below (filter (ties is_more_urgent x) ys)
   tied_up x = subst (λ l. AllPairs Below l) (sym (stable x)) (AllPairs-filter Below (ties is_more_urgent x) xs up_xs)
@@ -116,7 +116,7 @@ is_order g fresh xs ys up open_nodes ranked moved sorted stable = record {
   is_true : (r : Ranked) → Contains ys r → IsTrueOf (fixed g) fresh r
   is_true r c = All-contains (IsTrueOf (fixed g) fresh) xs r ranked (Contains-permutation ys xs r (IsPermutation-sym xs ys moved) c)
 
-  before : AllPairs (λ (x y : Ranked). ComesBefore (fixed g) fresh x.node.now y.node.now) ys
+  before : AllPairs (λ (x y : Ranked). IsColouredBefore (fixed g) fresh x.node.now y.node.now) ys
   before = λ i j d lt le.
       let x : Ranked = get_or ys i d in
       let y : Ranked = get_or ys j d in
@@ -141,14 +141,14 @@ is_order g fresh xs ys up open_nodes ranked moved sorted stable = record {
       inr (e, within_filter Below (ties is_more_urgent x) ys i j d lt le self tie (tied_up x)))
       (cases_lt v u))
     where
-      so : (x y : Ranked) → IsTrueOf (fixed g) fresh x → IsTrueOf (fixed g) fresh y → Sooner x y → ComesBefore (fixed g) fresh x.node.now y.node.now
+      so : (x y : Ranked) → IsTrueOf (fixed g) fresh x → IsTrueOf (fixed g) fresh y → Sooner x y → IsColouredBefore (fixed g) fresh x.node.now y.node.now
       so x y one two (inl less) = inl (subst (λ n. urgency (fixed g) fresh y.node.now < n) one (subst (λ n. n < x.urgency) two less))
       so x y one two (inr tie) = inr (sym one ∙ tie.0 ∙ two, tie.1)
 
-  pairs : AllPairs (ComesBefore (fixed g) fresh) (ranked_nodes ys)
+  pairs : AllPairs (IsColouredBefore (fixed g) fresh) (ranked_nodes ys)
   pairs = by ys before
     where
-      by : (zs : List Ranked) → AllPairs (λ (x y : Ranked). ComesBefore (fixed g) fresh x.node.now y.node.now) zs →
-          AllPairs (ComesBefore (fixed g) fresh) (ranked_nodes zs)
+      by : (zs : List Ranked) → AllPairs (λ (x y : Ranked). IsColouredBefore (fixed g) fresh x.node.now y.node.now) zs →
+          AllPairs (IsColouredBefore (fixed g) fresh) (ranked_nodes zs)
       by [] h = λ i j d lt le. absurd (omega (arith, le))
-      by (z ∷ zs) h = pairs_into_map (λ (x : Ranked). x.node.now) (ComesBefore (fixed g) fresh) (z ∷ zs) z h
+      by (z ∷ zs) h = pairs_into_map (λ (x : Ranked). x.node.now) (IsColouredBefore (fixed g) fresh) (z ∷ zs) z h

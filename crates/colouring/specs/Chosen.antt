@@ -3,8 +3,8 @@
 use Rattle.std.specs.Prelude.{◌≡◌, ◌↔◌, ◌⊎◌, ℕ, ◌+◌, ◌*◌, ◌/◌, ◌<◌, Bool, true, false, cond, not, nat_eq, nat_lt, nat_le, List, [], ◌∷◌, Option, Some, None, AllPairs, Contains, length, count_by, sum_by, filter, find}
 use Rattle.bs_words.specs.declared.types.Loc.{Loc}
 use Rattle.bs_words.specs.declared.types.Loc.TheVariants as loc
-use Rattle.mach_ir.specs.Graph.{InGraph, place_in}
-use Rattle.mach_ir.specs.Placed.{Colouring, colours}
+use Rattle.mach_ir.specs.Graph.{InGraph, coloured_location}
+use Rattle.mach_ir.specs.Placed.{Colouring, colour_numbers}
 use Rattle.mach_ir.specs.declared.reg.Reg.{Reg}
 use Rattle.mach_ir.specs.declared.graph.Node.{Node}
 use Rattle.mach_ir.specs.declared.graph.Graph.{Graph}
@@ -17,13 +17,13 @@ use Rattle.colouring.specs.declared.merit.Merit.{Merit}
 abbrev pub node_at : List Node → ℕ → Option Node
 node_at nodes n = find (λ (x : Node). nat_eq x.reg.number n) nodes
 
-abbrev pub loc_of : Option Node → Loc
-loc_of None = loc.Unset
-loc_of (Some x) = x.reg.loc
+abbrev pub location_of_node : Option Node → Loc
+location_of_node None = loc.Unset
+location_of_node (Some x) = x.reg.loc
 
 -- the places that are fixed
 abbrev pub fixed : Graph → Colouring
-fixed g n = loc_of (node_at g.nodes n)
+fixed g n = location_of_node (node_at g.nodes n)
 
 -- ---- the order
 
@@ -47,29 +47,29 @@ most_urgent = 18446744073709551615
 abbrev pub urgency : Colouring → ℕ → Node → ℕ
 urgency place fresh x =
     cond (nat_le fresh x.reg.number) most_urgent
-    (cond (nat_lt (degree place x) (length colours)) 0 (1 + x.uses * 1024 / degree place x))
+    (cond (nat_lt (degree place x) (length colour_numbers)) 0 (1 + x.uses * 1024 / degree place x))
 
 -- of two nodes, which comes first: the more urgent one, and of two as urgent that of the lower number
-abbrev pub ComesBefore : Colouring → ℕ → Node → Node → Type 0
-ComesBefore place fresh x y =
+abbrev pub IsColouredBefore : Colouring → ℕ → Node → Node → Type 0
+IsColouredBefore place fresh x y =
     (urgency place fresh y < urgency place fresh x)
     ⊎ ((urgency place fresh x ≡ urgency place fresh y) × (x.reg.number < y.reg.number))
 
 -- the nodes whose places are open, each of them once, in their order
 pub record IsOrder (fresh : ℕ) (g : Graph) (order : List Node) : Type 0 where
   pub exact : (x : Node) → Contains order x ↔ (Contains g.nodes x × (x.reg.loc ≡ loc.Unset))
-  pub sorted : AllPairs (ComesBefore (fixed g) fresh) order
+  pub sorted : AllPairs (IsColouredBefore (fixed g) fresh) order
 
 -- ---- what speaks for a colour, where some registers have places
 
-abbrev pub is_in : ℕ → Loc → Bool
-is_in colour loc.Unset = false
-is_in colour (loc.Machine n) = nat_eq n colour
-is_in colour (loc.Slot n) = false
+abbrev pub has_colour : ℕ → Loc → Bool
+has_colour colour loc.Unset = false
+has_colour colour (loc.Machine n) = nat_eq n colour
+has_colour colour (loc.Slot n) = false
 
 -- how many of these registers, by number, are in a colour
-abbrev pub standing : Colouring → ℕ → List ℕ → ℕ
-standing place colour ns = count_by (λ n. is_in colour (place n)) ns
+abbrev pub count_in_colour : Colouring → ℕ → List ℕ → ℕ
+count_in_colour place colour ns = count_by (λ n. has_colour colour (place n)) ns
 
 abbrev pub node_moves : Option Node → List ℕ
 node_moves None = []
@@ -77,12 +77,12 @@ node_moves (Some x) = x.moves
 
 -- how many moves of these registers have their other end in a colour
 abbrev pub wanted_by : Graph → Colouring → ℕ → List ℕ → ℕ
-wanted_by g place colour ns = sum_by (λ n. standing place colour (node_moves (node_at g.nodes n))) ns
+wanted_by g place colour ns = sum_by (λ n. count_in_colour place colour (node_moves (node_at g.nodes n))) ns
 
 -- what speaks for a colour: the register's own moves from or to there, and those of its neighbours
 abbrev pub merit : Graph → Colouring → Node → ℕ → Merit
 merit g place x colour = record {
-  own = standing place colour x.moves;
+  own = count_in_colour place colour x.moves;
   wanted = wanted_by g place colour x.neighbours;
 }
 
@@ -93,18 +93,18 @@ is_better a b = cond (nat_eq a.own b.own) (nat_lt a.wanted b.wanted) (nat_lt b.o
 
 -- ---- the place of one register
 
-abbrev pub is_free : Colouring → Node → ℕ → Bool
-is_free place x colour = nat_eq (standing place colour x.neighbours) 0
+abbrev pub is_free_colour : Colouring → Node → ℕ → Bool
+is_free_colour place x colour = nat_eq (count_in_colour place colour x.neighbours) 0
 
 -- the colour itself, if no later one is better
-abbrev pub kept : (ℕ → Merit) → ℕ → Option ℕ → ℕ
-kept merit colour None = colour
-kept merit colour (Some later) = cond (is_better (merit later) (merit colour)) later colour
+abbrev pub better_colour : (ℕ → Merit) → ℕ → Option ℕ → ℕ
+better_colour merit colour None = colour
+better_colour merit colour (Some later) = cond (is_better (merit later) (merit colour)) later colour
 
 -- the first of the best of these colours
 abbrev pub first_best : (ℕ → Merit) → List ℕ → Option ℕ
 first_best merit [] = None
-first_best merit (c ∷ cs) = Some (kept merit c (first_best merit cs))
+first_best merit (c ∷ cs) = Some (better_colour merit c (first_best merit cs))
 
 -- a colour, or else the slot of the origin
 abbrev pub place_for : Reg → Option ℕ → Loc
@@ -112,25 +112,25 @@ place_for r None = loc.Slot r.origin
 place_for r (Some colour) = loc.Machine colour
 
 -- the best free colour, or else a slot
-unfoldable pub chosen : Graph → Colouring → Node → Loc
-chosen g place x = place_for x.reg (first_best (merit g place x) (filter (is_free place x) colours))
+unfoldable pub chosen_location : Graph → Colouring → Node → Loc
+chosen_location g place x = place_for x.reg (first_best (merit g place x) (filter (is_free_colour place x) colour_numbers))
 
 -- ---- all places
 
 -- the places with one more register at its place
-abbrev pub put : Colouring → ℕ → Loc → Colouring
-put place n here k = cond (nat_eq k n) here (place k)
+abbrev pub colouring_with : Colouring → ℕ → Loc → Colouring
+colouring_with place n here k = cond (nat_eq k n) here (place k)
 
 -- The places after those of these nodes were chosen, the first one first.
-abbrev pub coloured : Graph → Colouring → List Node → Colouring
-coloured g place [] = place
-coloured g place (x ∷ xs) = coloured g (put place x.reg.number (chosen g place x)) xs
+abbrev pub greedily_coloured : Graph → Colouring → List Node → Colouring
+greedily_coloured g place [] = place
+greedily_coloured g place (x ∷ xs) = greedily_coloured g (colouring_with place x.reg.number (chosen_location g place x)) xs
 
 -- Each register has its fixed place or the one chosen, and a number that is no register's is `Unset`.
-pub record IsColouredBy (fresh : ℕ) (g : Graph) (c : Colours) : Type 0 where
+pub record IsGreedyColouring (fresh : ℕ) (g : Graph) (c : Colours) : Type 0 where
   pub order : List Node
   pub ordered : IsOrder fresh g order
-  pub places : (n : ℕ) → place_in c n ≡ coloured g (fixed g) order n
+  pub places : (n : ℕ) → coloured_location c n ≡ greedily_coloured g (fixed g) order n
 
 -- ---- laws
 
@@ -142,10 +142,10 @@ OrderIsOne fresh g =
 
 -- and so are the places of all numbers
 abbrev pub ColoursAreOne : ℕ → Graph → Type 0
-ColoursAreOne fresh g = (c d : Colours) → IsColouredBy fresh g c → IsColouredBy fresh g d →
-    (n : ℕ) → place_in c n ≡ place_in d n
+ColoursAreOne fresh g = (c d : Colours) → IsGreedyColouring fresh g c → IsGreedyColouring fresh g d →
+    (n : ℕ) → coloured_location c n ≡ coloured_location d n
 
 -- a number that no register has is `Unset`
 abbrev pub OthersAreUnset : ℕ → Graph → Type 0
-OthersAreUnset fresh g = (c : Colours) → IsColouredBy fresh g c → (n : ℕ) →
-    ((r : Reg) → InGraph g r → r.number ≡ n → ⊥) → place_in c n ≡ loc.Unset
+OthersAreUnset fresh g = (c : Colours) → IsGreedyColouring fresh g c → (n : ℕ) →
+    ((r : Reg) → InGraph g r → r.number ≡ n → ⊥) → coloured_location c n ≡ loc.Unset

@@ -16,8 +16,8 @@ use Rattle.colouring.specs.declared.tallies.Tallies.{Tallies}
 -- ---- the order
 
 -- whether the place of its register is not chosen yet
-abbrev pub is_open : Node → Bool
-is_open x = locations.is_open x.reg.loc
+abbrev pub is_uncoloured : Node → Bool
+is_uncoloured x = locations.is_unset_location x.reg.loc
 
 -- the nodes that are referred to
 abbrev pub referred : List (Bor Node) → List Node
@@ -42,7 +42,7 @@ abbrev pub node_by : List Node → Option ℕ → Option Node
 node_by nodes None = None
 node_by nodes (Some index) = slice_get nodes index
 
-pub record IsTableOf (nodes : List Node) (indices : List (Option ℕ)) : Type 0 where
+pub record IsNodeIndex (nodes : List Node) (indices : List (Option ℕ)) : Type 0 where
   pub each : (n : ℕ) → node_by nodes (slice_index_or indices n None) ≡ node_at nodes n
   pub has : All (λ (x : Node). x.reg.number < length indices) nodes
 

@@ -1,9 +1,9 @@
 //! The choice of places, one after the other.
 ghost use Rattle.std.specs.Prelude.{◌≡◌, IfOk};
-ghost use Rattle.mach_ir.specs.Graph.{IsColourable, InGraph, JoinedIn, place_in};
-ghost use Rattle.mach_ir.specs.Placed.{IsColouring, NoNeedlessSlot};
-ghost use Rattle.colouring.specs.Chosen.{chosen, IsColouredBy};
-ghost use Rattle.colouring.specs.Tables.{IsTableOf, places_by};
+ghost use Rattle.mach_ir.specs.Graph.{IsColourable, InGraph, JoinedIn, coloured_location};
+ghost use Rattle.mach_ir.specs.Placed.{IsProperColouring, NoNeedlessSlot};
+ghost use Rattle.colouring.specs.Chosen.{chosen_location, IsGreedyColouring};
+ghost use Rattle.colouring.specs.Tables.{IsNodeIndex, places_by};
 
 use crate::nodes::NodeTable;
 use crate::order::order;
@@ -15,8 +15,8 @@ use std::alloc::{AllocError, Global};
 
 /// The place for a register where others have theirs.
 fn choose(graph: &Graph, table: &NodeTable, places: &[Loc], node: &Node) -> Loc
-    requires { IsTableOf graph.now.nodes table.now.indices.items }
-    ensures { result ≡ chosen graph.now (places_by places.now) node.now }
+    requires { IsNodeIndex graph.now.nodes table.now.indices.items }
+    ensures { result ≡ chosen_location graph.now (places_by places.now) node.now }
 {
     let tallies = Tallies::new(graph, table, places, node);
     match tallies.best(&COLOURS) {
@@ -34,10 +34,10 @@ fn choose(graph: &Graph, table: &NodeTable, places: &[Loc], node: &Node) -> Loc
 pub fn colour(alloc: Global, graph: &Graph, fresh: u32) -> Result<Colours, AllocError>
     requires { IsColourable graph.now }
     ensures safe { IfOk result (λ colours.
-        IsColouring (InGraph graph.now) (JoinedIn graph.now) (place_in colours)) }
+        IsProperColouring (InGraph graph.now) (JoinedIn graph.now) (coloured_location colours)) }
     ensures full { IfOk result (λ colours.
-        NoNeedlessSlot (InGraph graph.now) (JoinedIn graph.now) (place_in colours)) }
-    ensures value { IfOk result (IsColouredBy fresh graph.now) }
+        NoNeedlessSlot (InGraph graph.now) (JoinedIn graph.now) (coloured_location colours)) }
+    ensures value { IfOk result (IsGreedyColouring fresh graph.now) }
 {
     let table = NodeTable::new(alloc, graph)?;
     let mut places = table.fixed_places(alloc, graph)?;

@@ -1,6 +1,6 @@
 //! How many registers are in each machine register.
 ghost use Rattle.std.specs.Prelude.{◌≡◌, ◌<◌, ◌+◌, ◌^◌, ℕ, cond, nat_eq, length};
-ghost use Rattle.colouring.specs.Chosen.{is_in, standing};
+ghost use Rattle.colouring.specs.Chosen.{has_colour, count_in_colour};
 ghost use Rattle.colouring.specs.Tables.{places_by, count_at};
 
 use bs_words::Loc;
@@ -56,7 +56,7 @@ impl Counts {
     fn add(&mut self, place: Loc)
         requires { (r : ℕ) → r < 32 → count_at self.old r + 1 < 2 ^ 128 }
         ensures { (r : ℕ) → r < 32 →
-            count_at self.new r ≡ count_at self.old r + cond (is_in r place) 1 0 }
+            count_at self.new r ≡ count_at self.old r + cond (has_colour r place) 1 0 }
     {
         match place {
             Loc::Unset => {}
@@ -69,7 +69,7 @@ impl Counts {
     pub fn add_all(&mut self, places: &[Loc], numbers: &[u32])
         requires { (r : ℕ) → r < 32 → count_at self.old r + length numbers.now < 2 ^ 128 }
         ensures { (r : ℕ) → r < 32 → count_at self.new r ≡
-            count_at self.old r + standing (places_by places.now) r numbers.now }
+            count_at self.old r + count_in_colour (places_by places.now) r numbers.now }
     {
         for number in numbers {
             self.add(place_at(places, *number));

@@ -1,8 +1,8 @@
 //! The nodes of a graph by the numbers of their registers.
 ghost use Rattle.std.specs.Prelude.{◌≡◌, ◌<◌, ℕ, IfOk, option_copied, length};
 ghost use Rattle.mach_ir.specs.Graph.{IsOrdered};
-ghost use Rattle.colouring.specs.Chosen.{node_at, loc_of, fixed};
-ghost use Rattle.colouring.specs.Tables.{IsTableOf, node_by, places_by};
+ghost use Rattle.colouring.specs.Chosen.{node_at, location_of_node, fixed};
+ghost use Rattle.colouring.specs.Tables.{IsNodeIndex, node_by, places_by};
 
 use bs_words::Loc;
 use mach_ir::{Graph, Node};
@@ -20,7 +20,7 @@ impl NodeTable {
     /// The only error is want of memory.
     pub fn new(alloc: Global, graph: &Graph) -> Result<Self, AllocError>
         requires { IsOrdered graph.now }
-        ensures { IfOk result (λ table. IsTableOf graph.now.nodes table.indices.items) }
+        ensures { IfOk result (λ table. IsNodeIndex graph.now.nodes table.indices.items) }
     {
         let mut indices = Vec::new(alloc);
         let mut index: usize = 0;
@@ -34,7 +34,7 @@ impl NodeTable {
 
     /// The node of a number in the graph whose table this is.
     pub fn get<'a>(&self, graph: &'a Graph, number: u32) -> Option<&'a Node>
-        requires { IsTableOf graph.now.nodes self.now.indices.items }
+        requires { IsNodeIndex graph.now.nodes self.now.indices.items }
         ensures { option_copied result ≡ node_at graph.now.nodes number }
     {
         match self.indices.get(number as usize) {
@@ -47,7 +47,7 @@ impl NodeTable {
     /// The fixed places of the graph whose table this is, by number.
     /// The only error is want of memory.
     pub fn fixed_places(&self, alloc: Global, graph: &Graph) -> Result<Vec<Loc>, AllocError>
-        requires { IsTableOf graph.now.nodes self.now.indices.items }
+        requires { IsNodeIndex graph.now.nodes self.now.indices.items }
         ensures places { IfOk result (λ places. (n : ℕ) →
             places_by places.items n ≡ fixed graph.now n) }
         ensures len { IfOk result (λ places. length places.items ≡ length self.now.indices.items) }
@@ -62,7 +62,7 @@ impl NodeTable {
 
 /// The place of the register at an index.
 fn fixed_place(graph: &Graph, index: Option<usize>) -> Loc
-    ensures { result ≡ loc_of (node_by graph.now.nodes index) }
+    ensures { result ≡ location_of_node (node_by graph.now.nodes index) }
 {
     let Some(index) = index else {
         return Loc::Unset;

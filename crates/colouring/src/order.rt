@@ -3,7 +3,7 @@ ghost use Rattle.std.specs.Prelude.{◌≡◌, ℕ, IfOk, OnOk, filter, not};
 ghost use Rattle.std.specs.List.Sorted.{IsPermutation, IsSortedBy, IsStableBy};
 ghost use Rattle.mach_ir.specs.Graph.{IsOrdered};
 ghost use Rattle.colouring.specs.Chosen.{is_slot, degree, fixed, urgency, IsOrder};
-ghost use Rattle.colouring.specs.Tables.{is_open, referred, ranked_nodes, AreRanked, is_more_urgent, places_by};
+ghost use Rattle.colouring.specs.Tables.{is_uncoloured, referred, ranked_nodes, AreRanked, is_more_urgent, places_by};
 
 use bs_words::Loc;
 use mach_ir::{Graph, Node};
@@ -70,7 +70,7 @@ fn open_nodes<'a>(
     fresh: u32,
 ) -> Result<Vec<Ranked<'a>>, AllocError>
     ensures nodes { IfOk result (λ ranked.
-        ranked_nodes ranked.items ≡ filter is_open graph.now.nodes) }
+        ranked_nodes ranked.items ≡ filter is_uncoloured graph.now.nodes) }
     ensures ranked { IfOk result (λ ranked. AreRanked (places_by places.now) fresh ranked.items) }
 {
     let mut ranked = Vec::new(alloc);

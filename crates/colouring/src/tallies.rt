@@ -1,7 +1,7 @@
 //! What speaks for each colour at the place of one register.
 ghost use Rattle.std.specs.Prelude.{◌≡◌, ◌<◌, ℕ, filter};
-ghost use Rattle.colouring.specs.Chosen.{standing, wanted_by, kept, first_best};
-ghost use Rattle.colouring.specs.Tables.{IsTableOf, places_by, count_at, merit_by, free_by};
+ghost use Rattle.colouring.specs.Chosen.{count_in_colour, wanted_by, better_colour, first_best};
+ghost use Rattle.colouring.specs.Tables.{IsNodeIndex, places_by, count_at, merit_by, free_by};
 
 use crate::counts::Counts;
 use crate::merit::Merit;
@@ -22,7 +22,7 @@ pub struct Tallies {
 
 /// The moves of these registers that have their other end in each machine register.
 fn wanted(graph: &Graph, table: &NodeTable, places: &[Loc], numbers: &[u32]) -> Counts
-    requires { IsTableOf graph.now.nodes table.now.indices.items }
+    requires { IsNodeIndex graph.now.nodes table.now.indices.items }
     ensures { (register : ℕ) → register < 32 →
         count_at result register ≡ wanted_by graph.now (places_by places.now) register numbers.now }
 {
@@ -38,12 +38,12 @@ fn wanted(graph: &Graph, table: &NodeTable, places: &[Loc], numbers: &[u32]) -> 
 impl Tallies {
     /// The counts for a register. The time is that of its neighbours, its moves and theirs.
     pub fn new(graph: &Graph, table: &NodeTable, places: &[Loc], node: &Node) -> Self
-        requires { IsTableOf graph.now.nodes table.now.indices.items }
+        requires { IsNodeIndex graph.now.nodes table.now.indices.items }
         ensures near { (register : ℕ) → register < 32 →
             count_at result.near register
-            ≡ standing (places_by places.now) register node.now.neighbours }
+            ≡ count_in_colour (places_by places.now) register node.now.neighbours }
         ensures own { (register : ℕ) → register < 32 →
-            count_at result.own register ≡ standing (places_by places.now) register node.now.moves }
+            count_at result.own register ≡ count_in_colour (places_by places.now) register node.now.moves }
         ensures wanted { (register : ℕ) → register < 32 → count_at result.wanted register ≡
             wanted_by graph.now (places_by places.now) register node.now.neighbours }
     {
@@ -72,7 +72,7 @@ impl Tallies {
 
     /// The colour, or the later one if that is better.
     fn keep(&self, colour: u8, later: Option<u8>) -> u8
-        ensures { result ≡ kept (merit_by self.now) colour later }
+        ensures { result ≡ better_colour (merit_by self.now) colour later }
     {
         match later {
             Some(later) => {

@@ -1,12 +1,12 @@
 -- A scan takes an instruction.
 use Rattle.std.proofs.Common.{◌≡◌, ℕ, ◌+◌, true, false, cond, List, [], ◌∷◌, ◌++◌, Option, Some, None, refl, sym, ap, ◌∙◌, append_assoc}
-use Rattle.combine_rules.specs.Combined.{joins, Scanned, allocation, open_past, allocated, scanned_at, scan}
+use Rattle.combine_rules.specs.Combined.{joins, Scanned, allocation, open_past, allocation_scanned, scanned_at, scan_for_combining}
 use Rattle.combine_rules.proofs.Scan.{bytes_append, nothing_goes}
-use Rattle.comballoc.specs.Finished.{held_bytes, closed, closed_by, finished, HasTaken}
+use Rattle.comballoc.specs.Finished.{held_bytes, closed, closed_by, finished_scan, HasTaken}
 use Rattle.comballoc.specs.declared.combining.Held.{Held}
 use Rattle.comballoc.specs.declared.combining.Scan.{Scan}
 use Rattle.std.proofs.lemmas.Bool.{true≢false}
-use Rattle.mach_ir.specs.Blocks.{bytes_of}
+use Rattle.mach_ir.specs.Blocks.{total_block_bytes}
 use Rattle.mach_ir.specs.Placed.{is_straight}
 use Rattle.mach_ir.specs.declared.op.Op.TheVariants as op
 use Rattle.mach_ir.specs.declared.mach.MachOp.{MachOp}
@@ -29,26 +29,26 @@ laid_same {others = others} {results = results} {regs = regs} {since = since} af
 
 laid_more : (blocks more : List NewBlock) (results regs : List Reg) (since : List Instr) (after : Scanned) →
     laid (blocks ++ more) (results ++ regs) since after
-    ≡ laid blocks results since (allocated true more regs after)
+    ≡ laid blocks results since (allocation_scanned true more regs after)
 laid_more blocks more results regs since after =
     ap (λ bs. allocation bs ((results ++ regs) ++ after.results) ∷ (since ++ after.code)) (append_assoc blocks more after.blocks)
     ∙ ap (λ rs. allocation (blocks ++ (more ++ after.blocks)) rs ∷ (since ++ after.code)) (append_assoc results regs after.results)
 
 -- an allocation has joined the open one
 pub joined : (s : Scan) (h t : Held) (blocks : List NewBlock) (results : List Reg) → s.held ≡ Some h →
-    joins (Some (bytes_of h.blocks)) blocks ≡ true → t.blocks ≡ h.blocks ++ blocks →
+    joins (Some (total_block_bytes h.blocks)) blocks ≡ true → t.blocks ≡ h.blocks ++ blocks →
     t.results.items ≡ h.results.items ++ results → t.since ≡ h.since →
     HasTaken s (record { alloc = s.alloc; done = s.done; held = Some t }) (allocation blocks results)
 joined s h t blocks results held fits b r e rest =
     ap (λ is. s.done.items ++ is)
-    (ap (λ n. laid t.blocks t.results.items t.since.items (scan (Some n) rest)) (ap bytes_of b ∙ bytes_append h.blocks blocks)
-    ∙ laid_same (scan (Some (bytes_of h.blocks + bytes_of blocks)) rest) b r (ap (λ v. v.items) e)
-    ∙ laid_more h.blocks blocks h.results.items results h.since.items (scan (Some (bytes_of h.blocks + bytes_of blocks)) rest)
+    (ap (λ n. laid t.blocks t.results.items t.since.items (scan_for_combining (Some n) rest)) (ap total_block_bytes b ∙ bytes_append h.blocks blocks)
+    ∙ laid_same (scan_for_combining (Some (total_block_bytes h.blocks + total_block_bytes blocks)) rest) b r (ap (λ v. v.items) e)
+    ∙ laid_more h.blocks blocks h.results.items results h.since.items (scan_for_combining (Some (total_block_bytes h.blocks + total_block_bytes blocks)) rest)
     ∙ ap
     (λ b. laid h.blocks h.results.items h.since.items
-    (allocated b blocks results (scan (Some (cond b (bytes_of h.blocks + bytes_of blocks) (bytes_of blocks))) rest)))
+    (allocation_scanned b blocks results (scan_for_combining (Some (cond b (total_block_bytes h.blocks + total_block_bytes blocks) (total_block_bytes blocks))) rest)))
     (sym fits)
-    ∙ ap (λ o. closed_by o (scan (held_bytes o) (allocation blocks results ∷ rest))) (sym held))
+    ∙ ap (λ o. closed_by o (scan_for_combining (held_bytes o) (allocation blocks results ∷ rest))) (sym held))
 
 -- where nothing goes to the open allocation
 closed_alone : (o : Option Held) (after : Scanned) → after.blocks ≡ [] → after.results ≡ [] →
@@ -62,11 +62,11 @@ closed_alone (Some h) after b r =
 
 -- an instruction that ends the straight run stays, and nothing goes further back
 ends_run : (i : Instr) → is_straight i.op ≡ false → (o : Option ℕ) (rest : List Instr) →
-    scan o (i ∷ rest) ≡ record (scan None rest) { code = i ∷ (scan None rest).code }
+    scan_for_combining o (i ∷ rest) ≡ record (scan_for_combining None rest) { code = i ∷ (scan_for_combining None rest).code }
 ends_run i e o rest = by i.op e
   where
     by : (f : MachOp) → is_straight f ≡ false →
-        scanned_at o i f (scan (open_past o f) rest) ≡ record (scan None rest) { code = i ∷ (scan None rest).code }
+        scanned_at o i f (scan_for_combining (open_past o f) rest) ≡ record (scan_for_combining None rest) { code = i ∷ (scan_for_combining None rest).code }
     by (mach.Op (op.Pure f)) e = absurd (true≢false e)
     by (mach.Op (op.Access f)) e = absurd (true≢false e)
     by (mach.Op (op.Calling f)) e = refl
@@ -76,8 +76,8 @@ ends_run i e o rest = by i.op e
 pub ended : (s t : Scan) (i : Instr) → is_straight i.op ≡ false → t.held ≡ None →
     t.done.items ≡ (s.done.items ++ closed s.held) ++ i ∷ [] → HasTaken s t i
 ended s t i e held done rest =
-    let after : Scanned = scan None rest in
-    ap (λ o. t.done.items ++ closed_by o (scan (held_bytes o) rest)) held
+    let after : Scanned = scan_for_combining None rest in
+    ap (λ o. t.done.items ++ closed_by o (scan_for_combining (held_bytes o) rest)) held
     ∙ ap (λ is. is ++ after.code) done
     ∙ append_assoc (s.done.items ++ closed s.held) (i ∷ []) after.code
     ∙ append_assoc s.done.items (closed s.held) (i ∷ after.code)
@@ -86,7 +86,7 @@ ended s t i e held done rest =
     ∙ ap (closed_by s.held) (sym (ends_run i e (held_bytes s.held) rest)))
 
 -- at the end of the code
-pub all_done : (s : Scan) → finished s [] ≡ s.done.items ++ closed s.held
+pub all_done : (s : Scan) → finished_scan s [] ≡ s.done.items ++ closed s.held
 all_done s =
     ap (λ is. s.done.items ++ is)
-    (sym (closed_alone s.held (scan (held_bytes s.held) []) refl refl) ∙ appended_none (closed s.held))
+    (sym (closed_alone s.held (scan_for_combining (held_bytes s.held) []) refl refl) ∙ appended_none (closed s.held))

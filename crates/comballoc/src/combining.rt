@@ -1,8 +1,8 @@
 //! One scan over the code, with at most one allocation open.
 ghost use Rattle.std.specs.Prelude.{◌≡◌, ◌≤◌, ◌+◌, ◌++◌, [], true, false, None, IfOk, List};
-ghost use Rattle.combine_rules.specs.Combined.{joins, scan, combined, allocation};
-ghost use Rattle.comballoc.specs.Finished.{held_bytes, closed, stays, finished, HasTaken};
-ghost use Rattle.mach_ir.specs.Blocks.{bytes_of};
+ghost use Rattle.combine_rules.specs.Combined.{joins, scan_for_combining, combined, allocation};
+ghost use Rattle.comballoc.specs.Finished.{held_bytes, closed, finished_with_instr, finished_scan, HasTaken};
+ghost use Rattle.mach_ir.specs.Blocks.{total_block_bytes};
 ghost use Rattle.mach_ir.specs.Placed.{is_straight};
 ghost use Rattle.mach_ir.specs.declared.mach.Instr.{Instr as AnInstr};
 ghost use Rattle.mach_ir.specs.declared.mach.MachOp.TheVariants as mach;
@@ -26,7 +26,7 @@ struct Held {
 #[tactic(auto, using(mach_ir::proofs::Sums::bytes_push))]
 /// Adds blocks after others. Together they take no more than one reservation has.
 fn push_all(blocks: &mut Blocks, more: &Blocks) -> Result<(), AllocError>
-    requires { bytes_of blocks.old + bytes_of more.now ≤ 2056 }
+    requires { total_block_bytes blocks.old + total_block_bytes more.now ≤ 2056 }
     ensures { IfOk result (λ _. blocks.new ≡ blocks.old ++ more.now) }
 {
     for block in more.as_slice() {
@@ -38,7 +38,7 @@ fn push_all(blocks: &mut Blocks, more: &Blocks) -> Result<(), AllocError>
 impl Held {
     /// Whether these blocks fit one reservation with the ones that it has.
     fn has_room(&self, blocks: &Blocks) -> bool
-        ensures { result ≡ joins (Some (bytes_of self.now.blocks)) blocks.now }
+        ensures { result ≡ joins (Some (total_block_bytes self.now.blocks)) blocks.now }
     {
         let bytes = blocks.bytes();
         bytes <= RESERVATION_MOST && self.blocks.bytes() <= RESERVATION_MOST - bytes
@@ -46,7 +46,7 @@ impl Held {
 
     /// An allocation joins: its blocks and results come after those that are there.
     fn join(&mut self, blocks: &Blocks, results: Seq<Reg>) -> Result<(), AllocError>
-        requires { joins (Some (bytes_of self.old.blocks)) blocks.now ≡ true }
+        requires { joins (Some (total_block_bytes self.old.blocks)) blocks.now ≡ true }
         ensures blocks { IfOk result (λ _. self.new.blocks ≡ self.old.blocks ++ blocks.now) }
         ensures results { IfOk result (λ _.
             self.new.results.items ≡ self.old.results.items ++ results) }
@@ -91,7 +91,7 @@ impl Scan {
     /// Takes an instruction that goes on in the straight run.
     fn go_on(&mut self, instr: Instr) -> Result<(), AllocError>
         ensures { IfOk result (λ _. (rest : List AnInstr) →
-            finished self.new rest ≡ stays self.old instr rest) }
+            finished_scan self.new rest ≡ finished_with_instr self.old instr rest) }
     {
         match &mut self.held {
             Some(held) => held.since.push(instr)?,
@@ -217,7 +217,7 @@ impl Scan {
 
     /// Takes these instructions, first to last.
     fn take_all(&mut self, code: Vec<Instr>) -> Result<(), AllocError>
-        ensures { IfOk result (λ _. finished self.new [] ≡ finished self.old code.items) }
+        ensures { IfOk result (λ _. finished_scan self.new [] ≡ finished_scan self.old code.items) }
     {
         for instr in code {
             self.take(instr)?;
@@ -229,7 +229,7 @@ impl Scan {
 #[tactic(auto, using(crate::proofs::Taking::all_done))]
 /// The code in which the allocations of each straight run are combined.
 fn combine_code(alloc: Global, code: Seq<Instr>) -> Result<Seq<Instr>, AllocError>
-    ensures { IfOk result (λ made. made ≡ (scan None code).code) }
+    ensures { IfOk result (λ made. made ≡ (scan_for_combining None code).code) }
 {
     let mut scan = Scan {
         alloc,

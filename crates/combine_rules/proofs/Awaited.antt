@@ -5,7 +5,7 @@ use Rattle.std.proofs.lemmas.List.{length-append}
 use Rattle.std.proofs.lemmas.List.Elements.{All-contains}
 use Rattle.bs_words.specs.declared.types.Comp.{Comp}
 use Rattle.bs_words.proofs.Lists.{first_in, later_in}
-use Rattle.combine_rules.specs.Combined.{joins, bytes_past, open_past, Scanned, allocation, allocated, scanned_at, scan}
+use Rattle.combine_rules.specs.Combined.{joins, bytes_past, open_past, Scanned, allocation, allocation_scanned, scanned_at, scan_for_combining}
 use Rattle.combine_rules.specs.Kept.{holds_block, IsCombinable}
 use Rattle.combine_rules.specs.Neighbours.{Allocates}
 use Rattle.combine_rules.proofs.Files.{Homes, no_homes, a_home, Distinct, no_regs, one_more}
@@ -13,9 +13,9 @@ use Rattle.combine_rules.proofs.Registers.{Awaits, awaits_here, awaits_on, await
 use Rattle.combine_rules.proofs.Scan.{nothing_goes}
 use Rattle.mach_ir.specs.Forms as form
 use Rattle.mach_ir.specs.Forms.{HasForm}
-use Rattle.mach_ir.specs.Formed.{IsFormed, formed_op, formed_mark, AreDistinct, comps}
+use Rattle.mach_ir.specs.Formed.{IsFormedInstruction, formed_op, formed_mark, AreDistinct, comps}
 use Rattle.mach_ir.specs.Placed.{is_straight, AreStraight, IsFresh}
-use Rattle.mach_ir.specs.Walks.{Among, first, later, Stands, Writes}
+use Rattle.mach_ir.specs.Walks.{AmongRegisters, first, later, StandsAsInstr, Writes}
 use Rattle.mach_ir.specs.declared.blocks.NewBlock.{NewBlock}
 use Rattle.mach_ir.specs.declared.op.Access.TheVariants as access
 use Rattle.mach_ir.specs.declared.op.Op.TheVariants as op
@@ -39,7 +39,7 @@ of_form : (blocks : List NewBlock) (ts ds : List Comp) → HasForm (op.Access (a
     (ts ≡ []) × (length ds ≡ length blocks)
 of_form blocks ts ds (form.allocates n a le e) = (refl, e)
 
-pub formed_allocation : {i : Instr} → IsFormed i → (blocks : List NewBlock) → Allocates i blocks → IsAllocation i blocks
+pub formed_allocation : {i : Instr} → IsFormedInstruction i → (blocks : List NewBlock) → Allocates i blocks → IsAllocation i blocks
 formed_allocation (formed_op {f = f} {args = args} {results = results} h) blocks e =
     let same : f ≡ op.Access (access.Alloc blocks) = same_op f (op.Access (access.Alloc blocks)) e in
     let k = of_form blocks (comps args) (comps results) (subst (λ g. HasForm g (comps args) (comps results)) same h) in
@@ -72,7 +72,7 @@ distinct_of_pairs (r ∷ rs) h =
     by : (k : ℕ) → k < length rs → suc k < length (r ∷ rs)
     by k lt = omega (arith, lt)
 
-pub distinct_append : {xs ys : List Reg} → Distinct xs → Distinct ys → ((n : ℕ) → Among n xs → Among n ys → ⊥) → Distinct (xs ++ ys)
+pub distinct_append : {xs ys : List Reg} → Distinct xs → Distinct ys → ((n : ℕ) → AmongRegisters n xs → AmongRegisters n ys → ⊥) → Distinct (xs ++ ys)
 distinct_append no_regs d apart = d
 distinct_append {xs} {ys} (one_more {r = r} {rs = rs} free e) d apart =
     one_more (λ i. ⊎_elim free (λ j. apart r.number (first refl) j) (split_among r.number rs ys i))
@@ -82,7 +82,7 @@ module _ (m : Mach) (is : IsCombinable m) where
   pub allocation_at : {i : Instr} {next : List Instr} → Ending (i ∷ next) m.code → (blocks : List NewBlock) → Allocates i blocks →
       IsAllocation i blocks
   allocation_at {i} e blocks a =
-      formed_allocation (All-contains IsFormed m.code i (is.formed).instrs (contains_of (stands_of e))) blocks a
+      formed_allocation (All-contains IsFormedInstruction m.code i (is.formed).instrs (contains_of (stands_of e))) blocks a
 
   -- ---- where a register is awaited
 
@@ -132,38 +132,38 @@ module _ (m : Mach) (is : IsCombinable m) where
 
   -- nor read by it in the run
   pub unread : {r : Reg} {i : Instr} {next : List Instr} → Ending (i ∷ next) m.code → is_straight i.op ≡ true → Awaits r next →
-      Among r.number i.args → ⊥
+      AmongRegisters r.number i.args → ⊥
   unread {i = i} {next = next} e s a c =
       let f = fresh_of (ending_next e) a in
-      (f.fresh).unread i f.run (subst (λ xs. Stands i xs m.code) f.splits (stands_of e)) (straight_cons i f.run s f.straight) c
+      (f.fresh).unread i f.run (subst (λ xs. StandsAsInstr i xs m.code) f.splits (stands_of e)) (straight_cons i f.run s f.straight) c
 
   -- ---- what goes to an open allocation
 
-  pub homes : (held : Option ℕ) (rest : List Instr) → Ending rest m.code → Homes (scan held rest).results
-  homes held rest e = homes_of_all (scan held rest).results (λ r c. (fresh_of e (awaited held rest r c)).home)
+  pub homes : (held : Option ℕ) (rest : List Instr) → Ending rest m.code → Homes (scan_for_combining held rest).results
+  homes held rest e = homes_of_all (scan_for_combining held rest).results (λ r c. (fresh_of e (awaited held rest r c)).home)
 
   -- where a number among these stands for a register
-  pub awaited_number : {n : ℕ} (held : Option ℕ) (rest : List Instr) → Among n (scan held rest).results →
+  pub awaited_number : {n : ℕ} (held : Option ℕ) (rest : List Instr) → AmongRegisters n (scan_for_combining held rest).results →
       (r : Reg) × Awaits r rest × (r.number ≡ n)
   awaited_number held rest a =
-      let q = number_among (scan held rest).results a in (q.0, awaited held rest q.0 q.1, q.2)
+      let q = number_among (scan_for_combining held rest).results a in (q.0, awaited held rest q.0 q.1, q.2)
 
   pub apart_from : {n : ℕ} (held : Option ℕ) {i : Instr} {next : List Instr} → Ending (i ∷ next) m.code →
-      Among n (scan held next).results → Writes m i n → ⊥
+      AmongRegisters n (scan_for_combining held next).results → Writes m i n → ⊥
   apart_from held {i} {next} e a w =
       let q = awaited_number held next a in unwritten e q.1 (subst (Writes m i) (sym q.2) w)
 
   pub not_read : {n : ℕ} (held : Option ℕ) {i : Instr} {next : List Instr} → Ending (i ∷ next) m.code → is_straight i.op ≡ true →
-      Among n (scan held next).results → Among n i.args → ⊥
+      AmongRegisters n (scan_for_combining held next).results → AmongRegisters n i.args → ⊥
   not_read held {i} {next} e s a c =
-      let q = awaited_number held next a in unread e s q.1 (subst (λ n. Among n i.args) (sym q.2) c)
+      let q = awaited_number held next a in unread e s q.1 (subst (λ n. AmongRegisters n i.args) (sym q.2) c)
 
-  pub distinct : (held : Option ℕ) (rest : List Instr) → Ending rest m.code → Distinct (scan held rest).results
+  pub distinct : (held : Option ℕ) (rest : List Instr) → Ending rest m.code → Distinct (scan_for_combining held rest).results
   distinct held [] e = no_regs
   distinct held (i ∷ next) e = by i.op (λ o. distinct o next (ending_next e))
     where
-      by_joins : (b : Bool) (blocks : List NewBlock) (o : Option ℕ) → Distinct (scan o next).results →
-          Distinct (allocated b blocks i.results (scan o next)).results
+      by_joins : (b : Bool) (blocks : List NewBlock) (o : Option ℕ) → Distinct (scan_for_combining o next).results →
+          Distinct (allocation_scanned b blocks i.results (scan_for_combining o next)).results
       by_joins false blocks o ih = no_regs
       by_joins true blocks o ih =
           distinct_append (distinct_of_pairs i.results (All-contains (λ (i : Instr). AreDistinct i.results) m.code i (is.formed).distinct (contains_of (stands_of e))))
@@ -172,8 +172,8 @@ module _ (m : Mach) (is : IsCombinable m) where
       none : {rs : List Reg} → rs ≡ [] → Distinct rs
       none e = subst Distinct (sym e) no_regs
 
-      by : (f : MachOp) → ((o : Option ℕ) → Distinct (scan o next).results) →
-          Distinct (scanned_at held i f (scan (open_past held f) next)).results
+      by : (f : MachOp) → ((o : Option ℕ) → Distinct (scan_for_combining o next).results) →
+          Distinct (scanned_at held i f (scan_for_combining (open_past held f) next)).results
       by (mach.Op (op.Pure f)) ih = ih held
       by (mach.Op (op.Access (access.Load k offset))) ih = ih held
       by (mach.Op (op.Access (access.Store k offset))) ih = ih held
@@ -185,12 +185,12 @@ module _ (m : Mach) (is : IsCombinable m) where
 
   -- a result for each block
   pub counted : (held : Option ℕ) (rest : List Instr) → Ending rest m.code →
-      length (scan held rest).results ≡ length (scan held rest).blocks
+      length (scan_for_combining held rest).results ≡ length (scan_for_combining held rest).blocks
   counted held [] e = refl
   counted held (i ∷ next) e = by i.op refl (λ o. counted o next (ending_next e))
     where
       by_joins : (b : Bool) (blocks : List NewBlock) → Allocates i blocks → (s : Scanned) → length s.results ≡ length s.blocks →
-          length (allocated b blocks i.results s).results ≡ length (allocated b blocks i.results s).blocks
+          length (allocation_scanned b blocks i.results s).results ≡ length (allocation_scanned b blocks i.results s).blocks
       by_joins false blocks a s ih = refl
       by_joins true blocks a s ih =
           let x = length-append i.results s.results in
@@ -198,14 +198,14 @@ module _ (m : Mach) (is : IsCombinable m) where
           let z = (allocation_at e blocks a).sized in
           omega (arith, x, y, z, ih)
 
-      by : (f : MachOp) → i.op ≡ f → ((o : Option ℕ) → length (scan o next).results ≡ length (scan o next).blocks) →
-          length (scanned_at held i f (scan (open_past held f) next)).results
-          ≡ length (scanned_at held i f (scan (open_past held f) next)).blocks
+      by : (f : MachOp) → i.op ≡ f → ((o : Option ℕ) → length (scan_for_combining o next).results ≡ length (scan_for_combining o next).blocks) →
+          length (scanned_at held i f (scan_for_combining (open_past held f) next)).results
+          ≡ length (scanned_at held i f (scan_for_combining (open_past held f) next)).blocks
       by (mach.Op (op.Pure f)) a ih = ih held
       by (mach.Op (op.Access (access.Load k offset))) a ih = ih held
       by (mach.Op (op.Access (access.Store k offset))) a ih = ih held
       by (mach.Op (op.Access (access.Alloc blocks))) a ih =
-          by_joins (joins held blocks) blocks a (scan (Some (bytes_past held blocks)) next) (ih (Some (bytes_past held blocks)))
+          by_joins (joins held blocks) blocks a (scan_for_combining (Some (bytes_past held blocks)) next) (ih (Some (bytes_past held blocks)))
       by (mach.Op (op.Calling f)) a ih = ih None
       by (mach.Op (op.Leaving f)) a ih = ih None
       by (mach.Mark f) a ih = ih None

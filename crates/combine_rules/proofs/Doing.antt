@@ -3,7 +3,7 @@ use Rattle.std.proofs.Common.{◌≡◌, ℕ, ◌+◌, Bool, true, false, ◌⊎
 use Rattle.std.proofs.lemmas.Bool.{true≢false}
 use Rattle.std.proofs.lemmas.List.{length-append, nil_from_length}
 use Rattle.bs_words.specs.declared.values.Value.{Value}
-use Rattle.combine_rules.specs.Combined.{Scanned, allocation, allocated, combined}
+use Rattle.combine_rules.specs.Combined.{Scanned, allocation, allocation_scanned, combined}
 use Rattle.combine_rules.specs.Kept.{IsCombinable}
 use Rattle.combine_rules.specs.Neighbours.{Allocates}
 use Rattle.combine_rules.proofs.Awaited.{IsAllocation, allocation_at, apart_from, not_read, homes, distinct, counted}
@@ -13,11 +13,11 @@ use Rattle.combine_rules.proofs.Places.{open_at, scanned, merged, keeps_marks, i
 use Rattle.combine_rules.proofs.Scan.{nothing_goes}
 use Rattle.combine_rules.proofs.Sizes.{register_before}
 use Rattle.combine_rules.proofs.Steadily.{AllSteady, is_lost, goes_ahead, all_steady}
-use Rattle.mach_ir.specs.Acts.{Around, Target, On, At, Landing, AtLabel, AtHandler, Act, Goes, Pushes, Jumps, Unwinds, Asks, Replaces, Ends, EndsRaising, Stuck, only_if, is_complete}
+use Rattle.mach_ir.specs.Acts.{Around, Target, On, At, Landing, AtLabel, AtHandler, Act, Goes, Pushes, Jumps, Unwinds, Asks, Replaces, Ends, EndsRaising, Stuck, stuck_unless, is_complete}
 use Rattle.mach_ir.specs.Keeps.{ValsWritten, Proper, Comes, ahead, Ahead}
-use Rattle.mach_ir.specs.Meaning.{Held, File, put_all, clear, killed, written, values, past_frame, passes_frame, mach_act, after_label, at_handler, landing_code, tries_at, run}
-use Rattle.mach_ir.specs.Runs.{Place, Tally}
-use Rattle.mach_ir.specs.Walks.{Among, other, Live, LiveAcross, across_step, across_raise, goes, raises}
+use Rattle.mach_ir.specs.Meaning.{Held, File, put_all, clear_registers, killed, registers_written, values, past_frame, passes_frame, mach_act, after_label, at_handler, landing_code, tries_at, run_of_mach}
+use Rattle.mach_ir.specs.Runs.{ActivationSetting, Tally}
+use Rattle.mach_ir.specs.Walks.{AmongRegisters, other, Live, LiveAcross, across_step, across_raise, goes, raises}
 use Rattle.mach_ir.proofs.Keeping.{ahead_more}
 use Rattle.mach_ir.specs.declared.blocks.NewBlock.{NewBlock}
 use Rattle.mach_ir.specs.declared.op.Access.TheVariants as access
@@ -60,7 +60,7 @@ module _ (m : Mach) (is : IsCombinable m) where
   pub record Pending (s : Scanned) (x y : Around) (a b : File) : Type 0 where
     pub same : y ≡ ahead s.blocks x
     pub holds : Holds b (length x.memory.blocks) s.results
-    pub has : (n : ℕ) → (Among n s.results → ⊥) → Has (a n) (b n)
+    pub has : (n : ℕ) → (AmongRegisters n s.results → ⊥) → Has (a n) (b n)
 
   abbrev pub Rel : List Instr → Around → Around → File → File → Type 0
   Rel rest x y a b = Pending (at_place rest) x y a b
@@ -161,7 +161,7 @@ module _ (m : Mach) (is : IsCombinable m) where
 
   -- ---- one instruction
 
-  module _ (c : Place) where
+  module _ (c : ActivationSetting) where
     abbrev end : ℕ
     end = c.setting.end
 
@@ -177,11 +177,11 @@ module _ (m : Mach) (is : IsCombinable m) where
     abbrev Coming : Instr → Instr → List Instr → Around → Around → File → File → Target → Type 0
     Coming i main next x y d e to = general.Past c m q f (keeps_marks m.code) (is_code m) Ahead Rel i main next [] x y d e to
 
-    put_both : (i : Instr) (vs : List Value) (a b d : File) → put_all end i.results vs (clear (killed m i) a) ≡ Some d →
-        Puts end i.results vs (clear (killed m i) a) d (clear (killed q i) b)
+    put_both : (i : Instr) (vs : List Value) (a b d : File) → put_all end i.results vs (clear_registers (killed m i) a) ≡ Some d →
+        Puts end i.results vs (clear_registers (killed m i) a) d (clear_registers (killed q i) b)
     put_both i vs a b d e =
-        puts_has (clear (killed q i) b)
-        (of_view (put_all end i.results vs (clear (killed m i) a)) (put_view end i.results vs (clear (killed m i) a)) e)
+        puts_has (clear_registers (killed q i) b)
+        (of_view (put_all end i.results vs (clear_registers (killed m i) a)) (put_view end i.results vs (clear_registers (killed m i) a)) e)
 
     acts_quiet : (i : Instr) (next : List Instr) (a b : File) (u w : Around) → general.Seen u w → Ending (i ∷ next) m.code →
         (at_place next).results ≡ [] → ((n : ℕ) → Has (a n) (b n)) → (act : Act) → Within i.op act →
@@ -194,18 +194,18 @@ module _ (m : Mach) (is : IsCombinable m) where
       where
         past : (to : Target) (d e : File) → ((n : ℕ) → Has (d n) (e n)) → Coming i i next after after d e to
         past On d e h =
-            general.on (λ z. agrees (written q i) _) general.passed (λ z. quiet next after (ending_next ending) r h)
+            general.on (λ z. agrees (registers_written q i) _) general.passed (λ z. quiet next after (ending_next ending) r h)
         past (At l) d e h =
             general.elsewhere refl
-            (λ z. (quiet (after_label l m.code) after (ending_label l m.code) (calm_label m.code l m.code all) h, agrees (written q i) _))
+            (λ z. (quiet (after_label l m.code) after (ending_label l m.code) (calm_label m.code l m.code all) h, agrees (registers_written q i) _))
     acts_quiet i next a b u w seen ending r has (Jumps to after) (jumps_in l) =
         general.both_jump (tries_here m i next)
-        (λ z. (quiet (landing_code m.code (i ∷ next) to) after (ending_landing to (i ∷ next) m.code) (calm_land (i ∷ next) to) has, agrees (written q i) _))
+        (λ z. (quiet (landing_code m.code (i ∷ next) to) after (ending_landing to (i ∷ next) m.code) (calm_land (i ∷ next) to) has, agrees (registers_written q i) _))
     acts_quiet i next a b u w seen ending r has (Unwinds after) (unwinds_in l) =
         general.both_unwind (tries_here m i next)
-        (λ z. (quiet (landing_code m.code (i ∷ next) AtHandler) after (ending_landing AtHandler (i ∷ next) m.code) (calm_land (i ∷ next) AtHandler) has, agrees (written q i) _))
+        (λ z. (quiet (landing_code m.code (i ∷ next) AtHandler) after (ending_landing AtHandler (i ∷ next) m.code) (calm_land (i ∷ next) AtHandler) has, agrees (registers_written q i) _))
     acts_quiet i next a b u w seen ending r has (Pushes after) (pushes_in t) =
-        general.both_push refl refl (λ z. (quiet next after (ending_next ending) r has, agrees (written q i) _))
+        general.both_push refl refl (λ z. (quiet next after (ending_next ending) r has, agrees (registers_written q i) _))
     acts_quiet i next a b u w seen ending r has (Asks whom vs go) (asks_in g) =
         general.both_ask seen (λ d. acts_quiet i next a b u w seen ending r has (go d) (g d))
     acts_quiet i next a b u w seen ending r has (Replaces whom vs kept) l = general.both_replace seen
@@ -223,13 +223,13 @@ module _ (m : Mach) (is : IsCombinable m) where
         let y = put_both i vs a b d e in (
           y.file,
           put_is y.puts,
-          general.on (λ z. agrees (written q i) _) general.passed
+          general.on (λ z. agrees (registers_written q i) _) general.passed
               (λ z.
               record {
                 same = refl;
                 holds = holds_same
                     (λ n j. y.free n (λ w. apart_from m is (open_at (length next) None m.code) ending j (left_among i.results (killed m i) w))
-                    ∙ ap (λ ks. clear ks b n) (plain.kills q))
+                    ∙ ap (λ ks. clear_registers ks b n) (plain.kills q))
                     (subst (λ k. Holds b k (at_place next).results) (sym same) rel.holds);
                 has = λ n free. y.has n (λ w. clear_has (killed m i) a b n (λ v. rel.has n free));
               }),
@@ -284,8 +284,8 @@ module _ (m : Mach) (is : IsCombinable m) where
     -- what an allocation does
     pub allocates : (blocks : List NewBlock) (rs : List Reg) (x : Around) → length rs ≡ length blocks →
         mach_act c.setting (mach.Op (op.Access (access.Alloc blocks))) [] x
-        ≡ only_if (is_complete x) (Goes (starts (length x.memory.blocks) rs) On (ahead blocks x))
-    allocates blocks rs x e = ap (only_if (is_complete x)) (made_blocks blocks rs [] x e)
+        ≡ stuck_unless (is_complete x) (Goes (starts (length x.memory.blocks) rs) On (ahead blocks x))
+    allocates blocks rs x e = ap (stuck_unless (is_complete x)) (made_blocks blocks rs [] x e)
 
     opened_here : (i : Instr) (next : List Instr) (blocks : List NewBlock) (x : Around) (a b : File) → Ending (i ∷ next) m.code →
         Allocates i blocks → IsAllocation i blocks →
@@ -315,7 +315,7 @@ module _ (m : Mach) (is : IsCombinable m) where
               ∙ allocates blocks i.results x known.sized))
               (subst
               (λ two. Acting i (allocation all_blocks all_results) next x x (past_frame true a) (past_frame true b)
-              (only_if (is_complete x) (Goes (starts count i.results) On (ahead blocks x))) two)
+              (stuck_unless (is_complete x) (Goes (starts count i.results) On (ahead blocks x))) two)
               (sym (allocates all_blocks all_results x all_sized)) (by (is_complete x))));
         })
       where
@@ -342,7 +342,7 @@ module _ (m : Mach) (is : IsCombinable m) where
         nothing_killed : killed m i ≡ []
         nothing_killed = ap (λ (k : Instr). killed m k) known.is
 
-        go : (d : File) → put_all end i.results (starts (length x.memory.blocks) i.results) (clear (killed m i) (past_frame true a)) ≡ Some d →
+        go : (d : File) → put_all end i.results (starts (length x.memory.blocks) i.results) (clear_registers (killed m i) (past_frame true a)) ≡ Some d →
             (e : File)
             × (put_all end (i.results ++ (at_place next).results) (starts (length x.memory.blocks) (i.results ++ (at_place next).results)) (past_frame true b) ≡ Some e)
             × Coming i (allocation (blocks ++ (at_place next).blocks) (i.results ++ (at_place next).results)) next
@@ -354,7 +354,7 @@ module _ (m : Mach) (is : IsCombinable m) where
             let y = puts_has rest.file
             (of_view (put_all end i.results (starts (length x.memory.blocks) i.results) (past_frame true a))
             (put_view end i.results (starts (length x.memory.blocks) i.results) (past_frame true a))
-            (ap (λ ks. put_all end i.results (starts (length x.memory.blocks) i.results) (clear ks (past_frame true a))) (sym nothing_killed) ∙ e)) in (
+            (ap (λ ks. put_all end i.results (starts (length x.memory.blocks) i.results) (clear_registers ks (past_frame true a))) (sym nothing_killed) ∙ e)) in (
               y.file,
               ap (λ vs. put_all end (i.results ++ (at_place next).results) vs (past_frame true b))
                   (starts_append (length x.memory.blocks) i.results (at_place next).results)
@@ -373,14 +373,14 @@ module _ (m : Mach) (is : IsCombinable m) where
 
         by : (t : Bool) → Acting i (allocation (blocks ++ (at_place next).blocks) (i.results ++ (at_place next).results)) next x x
             (past_frame true a) (past_frame true b)
-            (only_if t (Goes (starts (length x.memory.blocks) i.results) On (ahead blocks x)))
-            (only_if t (Goes (starts (length x.memory.blocks) (i.results ++ (at_place next).results)) On (ahead (blocks ++ (at_place next).blocks) x)))
+            (stuck_unless t (Goes (starts (length x.memory.blocks) i.results) On (ahead blocks x)))
+            (stuck_unless t (Goes (starts (length x.memory.blocks) (i.results ++ (at_place next).results)) On (ahead (blocks ++ (at_place next).blocks) x)))
         by false = general.stuck_first
         by true = general.both_go go
 
     joined_here : (i : Instr) (next : List Instr) (blocks : List NewBlock) (x : Around) (a b : File) → Ending (i ∷ next) m.code →
         Allocates i blocks → IsAllocation i blocks → f (length next) i ≡ [] →
-        Pending (allocated true blocks i.results (at_place next)) x (ahead (blocks ++ (at_place next).blocks) x) a b →
+        Pending (allocation_scanned true blocks i.results (at_place next)) x (ahead (blocks ++ (at_place next).blocks) x) a b →
         (vs : List Value) → vs ≡ [] → Answer i next x (ahead (blocks ++ (at_place next).blocks) x) a b vs
     joined_here i next blocks x a b ending al known shape rel vs none =
         inr
@@ -396,19 +396,19 @@ module _ (m : Mach) (is : IsCombinable m) where
         Skipping z =
             (z ≡ Stuck)
             ⊎ ((results : List Value) × (after : Around) × (z ≡ Goes results On after)
-            × ((d : File) → put_all end i.results results (clear (killed m i) (past_frame (passes_frame i.op) a)) ≡ Some d →
+            × ((d : File) → put_all end i.results results (clear_registers (killed m i) (past_frame (passes_frame i.op) a)) ≡ Some d →
             general.Skips c m q f (keeps_marks m.code) (is_code m) Ahead Rel i next [] after (ahead (blocks ++ (at_place next).blocks) x) b d))
 
         nothing_killed : killed m i ≡ []
         nothing_killed = ap (λ (k : Instr). killed m k) known.is
 
         go : (d : File) →
-            put_all end i.results (starts (length x.memory.blocks) i.results) (clear (killed m i) (past_frame (passes_frame i.op) a)) ≡ Some d →
+            put_all end i.results (starts (length x.memory.blocks) i.results) (clear_registers (killed m i) (past_frame (passes_frame i.op) a)) ≡ Some d →
             general.Skips c m q f (keeps_marks m.code) (is_code m) Ahead Rel i next [] (ahead blocks x) (ahead (blocks ++ (at_place next).blocks) x) b d
         go d e =
             let puts = of_view (put_all end i.results (starts (length x.memory.blocks) i.results) (past_frame (passes_frame i.op) a))
             (put_view end i.results (starts (length x.memory.blocks) i.results) (past_frame (passes_frame i.op) a))
-            (ap (λ ks. put_all end i.results (starts (length x.memory.blocks) i.results) (clear ks (past_frame (passes_frame i.op) a))) (sym nothing_killed) ∙ e) in
+            (ap (λ ks. put_all end i.results (starts (length x.memory.blocks) i.results) (clear_registers ks (past_frame (passes_frame i.op) a))) (sym nothing_killed) ∙ e) in
             record {
               after = b;
               passing = general.passed;
@@ -425,9 +425,9 @@ module _ (m : Mach) (is : IsCombinable m) where
                   };
             }
 
-        by : (t : Bool) → (only_if t (Goes (starts (length x.memory.blocks) i.results) On (ahead blocks x)) ≡ Stuck)
-            ⊎ ((results : List Value) × (after : Around) × (only_if t (Goes (starts (length x.memory.blocks) i.results) On (ahead blocks x)) ≡ Goes results On after)
-            × ((d : File) → put_all end i.results results (clear (killed m i) (past_frame (passes_frame i.op) a)) ≡ Some d →
+        by : (t : Bool) → (stuck_unless t (Goes (starts (length x.memory.blocks) i.results) On (ahead blocks x)) ≡ Stuck)
+            ⊎ ((results : List Value) × (after : Around) × (stuck_unless t (Goes (starts (length x.memory.blocks) i.results) On (ahead blocks x)) ≡ Goes results On after)
+            × ((d : File) → put_all end i.results results (clear_registers (killed m i) (past_frame (passes_frame i.op) a)) ≡ Some d →
             general.Skips c m q f (keeps_marks m.code) (is_code m) Ahead Rel i next [] after (ahead (blocks ++ (at_place next).blocks) x) b d))
         by false = inl refl
         by true = inr (starts (length x.memory.blocks) i.results, ahead blocks x, refl, go)
@@ -443,7 +443,7 @@ module _ (m : Mach) (is : IsCombinable m) where
         runs_here i next x a b ending shape plain (record { same = refl; holds = rel.holds; has = rel.has }) vs e
     by_view i next x a b ending vs e s xs shape (ends n bs rs) rel =
         subst (λ y. Answer i next x y a b vs) (ap (λ bs. ahead bs x) (sym bs))
-        (ends_here i next x a b ending shape rs (λ n. rel.has n (λ j. none_among (subst (Among n) rs j))) vs e)
+        (ends_here i next x a b ending shape rs (λ n. rel.has n (λ j. none_among (subst (AmongRegisters n) rs j))) vs e)
     by_view i next x a b ending vs e s xs shape (joined blocks al) rel =
         let known = allocation_at m is ending blocks al in
         joined_here i next blocks x a b ending al known shape rel vs (reads_nothing i blocks known a vs e)
@@ -463,7 +463,7 @@ module _ (m : Mach) (is : IsCombinable m) where
 
     -- Wherever the function is not stuck, the result comes to what it does, and has allocated no less.
     pub no_less : (a : File) (x : Around) (n : ℕ) (t : Tally) → Proper c m n (at m.code a x) t →
-        Comes Ahead (run c m n (at m.code a x) t) c q (at q.code a x) t
+        Comes Ahead (run_of_mach c m n (at m.code a x) t) c q (at q.code a x) t
     no_less a x n t proper =
         general.comes_from c m q f (keeps_marks m.code) (is_code m) Ahead Rel serves a a x x
         (quiet m.code x all (ap (λ (s : Scanned). s.results) (at_start m.code) ∙ (nothing_goes m.code).1) (λ n v e. e)) n t proper

@@ -14,8 +14,8 @@ use Rattle.mach_laws.proofs.Files.{PutAll, nil, cons, put_other, put_same}
 use Rattle.combine_rules.specs.Kept.{holds_block}
 use Rattle.mach_ir.specs.Acts.{Around, On, Goes, new_blocks, with_block, fresh_block}
 use Rattle.mach_ir.specs.Keeps.{ahead}
-use Rattle.mach_ir.specs.Meaning.{Held, File, put, put_if, put_all, clear, values, with_held, past_frame, unless_addr, is_addr}
-use Rattle.mach_ir.specs.Walks.{Among, first, later}
+use Rattle.mach_ir.specs.Meaning.{Held, File, assign_register, put_if, put_all, clear_registers, values, with_held, past_frame, unless_addr, is_addr}
+use Rattle.mach_ir.specs.Walks.{AmongRegisters, first, later}
 use Rattle.mach_ir.specs.declared.blocks.NewBlock.{NewBlock}
 use Rattle.mach_ir.specs.declared.reg.Reg.{Reg}
 
@@ -35,26 +35,26 @@ has_cond : (b : Bool) (z x y : Option Held) → (b ≡ false → Has x y) → Ha
 has_cond true z x y h v e = e
 has_cond false z x y h v e = h refl v e
 
-pub not_among : {n : ℕ} {rs : List Reg} (r : Reg) → nat_eq r.number n ≡ false → (Among n rs → ⊥) → Among n (r ∷ rs) → ⊥
+pub not_among : {n : ℕ} {rs : List Reg} (r : Reg) → nat_eq r.number n ≡ false → (AmongRegisters n rs → ⊥) → AmongRegisters n (r ∷ rs) → ⊥
 not_among {n} r e free (first s) = true≢false (sym (eq-eqb r.number n s) ∙ e)
 not_among r e free (later i) = free i
 
-pub clear_has : (ks : List Reg) (a b : File) (n : ℕ) → ((Among n ks → ⊥) → Has (a n) (b n)) → Has (clear ks a n) (clear ks b n)
+pub clear_has : (ks : List Reg) (a b : File) (n : ℕ) → ((AmongRegisters n ks → ⊥) → Has (a n) (b n)) → Has (clear_registers ks a n) (clear_registers ks b n)
 clear_has [] a b n h = h (λ i. elim i [ ])
-clear_has (k ∷ ks) a b n h = has_cond (nat_eq k.number n) None (clear ks a n) (clear ks b n) (λ e. clear_has ks a b n (λ free. h (not_among k e free)))
+clear_has (k ∷ ks) a b n h = has_cond (nat_eq k.number n) None (clear_registers ks a n) (clear_registers ks b n) (λ e. clear_has ks a b n (λ free. h (not_among k e free)))
 
 pub record Puts (end : ℕ) (rs : List Reg) (vs : List Value) (a d b : File) : Type 0 where
   pub file : File
   pub puts : PutAll end b rs vs file
-  pub has : (n : ℕ) → ((Among n rs → ⊥) → Has (a n) (b n)) → Has (d n) (file n)
-  pub free : (n : ℕ) → (Among n rs → ⊥) → file n ≡ b n
+  pub has : (n : ℕ) → ((AmongRegisters n rs → ⊥) → Has (a n) (b n)) → Has (d n) (file n)
+  pub free : (n : ℕ) → (AmongRegisters n rs → ⊥) → file n ≡ b n
 
 pub puts_has : {end : ℕ} {a : File} {rs : List Reg} {vs : List Value} {d : File} (b : File) → PutAll end a rs vs d → Puts end rs vs a d b
 puts_has b nil = record { file = b; puts = nil; has = λ n h. h (λ i. elim i [ ]); free = λ n f. refl }
 puts_has b (cons {r = r} {v = v} {d = d} e p) =
     let y = puts_has b p in
     record {
-      file = put r v y.file;
+      file = assign_register r v y.file;
       puts = cons e y.puts;
       has = λ n h. has_cond (nat_eq r.number n) (Some (record { comp = r.comp; value = v })) (d n) (y.file n) (λ q. y.has n (λ free. h (not_among r q free)));
       free = λ n f. put_other r v y.file n (λ s. f (first s)) ∙ y.free n (λ i. f (later i));
@@ -103,7 +103,7 @@ pub holds_before : {b : File} (s : ℕ) (xs ys : List Reg) → Holds b s (xs ++ 
 holds_before s [] ys h = holds_none
 holds_before s (x ∷ xs) ys (holds_one e h) = holds_one e (holds_before (suc s) xs ys h)
 
-pub holds_same : {b d : File} {s : ℕ} {rs : List Reg} → ((n : ℕ) → Among n rs → d n ≡ b n) → Holds b s rs → Holds d s rs
+pub holds_same : {b d : File} {s : ℕ} {rs : List Reg} → ((n : ℕ) → AmongRegisters n rs → d n ≡ b n) → Holds b s rs → Holds d s rs
 holds_same g holds_none = holds_none
 holds_same g (holds_one {r = r} e h) = holds_one (g r.number (first refl) ∙ e) (holds_same (λ n i. g n (later i)) h)
 
@@ -121,20 +121,20 @@ home_fits end s comp.Float e = absurd (true≢false (sym e))
 -- no number occurs twice
 pub data Distinct : List Reg → Type 0 where
   no_regs : Distinct []
-  one_more : {r : Reg} {rs : List Reg} → (Among r.number rs → ⊥) → Distinct rs → Distinct (r ∷ rs)
+  one_more : {r : Reg} {rs : List Reg} → (AmongRegisters r.number rs → ⊥) → Distinct rs → Distinct (r ∷ rs)
 
 pub record Written (end s : ℕ) (rs : List Reg) (b : File) : Type 0 where
   pub file : File
   pub puts : PutAll end b rs (starts s rs) file
   pub holds : Holds file s rs
-  pub free : (n : ℕ) → (Among n rs → ⊥) → file n ≡ b n
+  pub free : (n : ℕ) → (AmongRegisters n rs → ⊥) → file n ≡ b n
 
 pub write_starts : (end s : ℕ) {rs : List Reg} (b : File) → Homes rs → Distinct rs → Written end s rs b
 write_starts end s b no_homes d = record { file = b; puts = nil; holds = holds_none; free = λ n f. refl }
 write_starts end s b (a_home {r = r} {rs = rs} e h) (one_more free d) =
     let y = write_starts end (suc s) b h d in
     record {
-      file = put r (value.Block s 0) y.file;
+      file = assign_register r (value.Block s 0) y.file;
       puts = cons (home_fits end s r.comp e) y.puts;
       holds = holds_one (put_same r (value.Block s 0) y.file)
           (holds_same (λ n i. put_other r (value.Block s 0) y.file n (λ z. free (among_number (sym z) i))) y.holds);
@@ -143,12 +143,12 @@ write_starts end s b (a_home {r = r} {rs = rs} e h) (one_more free d) =
 
 -- what the first writes at last, the second has
 pub held_has : {end : ℕ} {b : File} {a : File} {s : ℕ} {d : File} {rs : List Reg} → Holds b s rs → PutAll end a rs (starts s rs) d →
-    (n : ℕ) → ((Among n rs → ⊥) → Has (a n) (b n)) → Has (d n) (b n)
+    (n : ℕ) → ((AmongRegisters n rs → ⊥) → Has (a n) (b n)) → Has (d n) (b n)
 held_has holds_none nil n h = h (λ i. elim i [ ])
 held_has {b = b} {a = a} {s = s} (holds_one {r = r} {rs = rs} e hs) (cons {d = d} q p) n h =
     by (nat_eq r.number n) refl (λ free. held_has hs p n free)
   where
-    by : (t : Bool) → nat_eq r.number n ≡ t → (((Among n rs → ⊥) → Has (a n) (b n)) → Has (d n) (b n)) →
+    by : (t : Bool) → nat_eq r.number n ≡ t → (((AmongRegisters n rs → ⊥) → Has (a n) (b n)) → Has (d n) (b n)) →
         Has (cond t (Some (record { comp = r.comp; value = value.Block s 0 })) (d n)) (b n)
     by true t ih v g = ap b (sym (eqb-true r.number n t)) ∙ e ∙ g
     by false t ih v g = ih (λ free. h (not_among r t free)) v g
@@ -165,7 +165,7 @@ frame_loses true a n v e = by (a n) e
     by None g = g
     by (Some x) g = by_addr x (is_addr x.comp) g
 
-pub values_has : (a b : File) (rs : List Reg) → ((n : ℕ) → Among n rs → Has (a n) (b n)) → (vs : List Value) →
+pub values_has : (a b : File) (rs : List Reg) → ((n : ℕ) → AmongRegisters n rs → Has (a n) (b n)) → (vs : List Value) →
     values a rs ≡ Some vs → values b rs ≡ Some vs
 values_has a b [] h vs e = e
 values_has a b (r ∷ rs) h vs e = by (a r.number) (values a rs) refl refl (λ ws w. values_has a b rs (λ n i. h n (later i)) ws w) e

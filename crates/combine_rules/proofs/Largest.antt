@@ -4,11 +4,11 @@ use Rattle.std.specs.Prelude.{nat_le}
 use Rattle.std.specs.List.{Contains}
 use Rattle.std.proofs.lemmas.Bool.{leb-true}
 use Rattle.std.proofs.lemmas.List.{append-nil}
-use Rattle.combine_rules.specs.Combined.{joins, open_past, allocated, scanned_at, scan, combined}
+use Rattle.combine_rules.specs.Combined.{joins, open_past, allocation_scanned, scanned_at, scan_for_combining, combined}
 use Rattle.combine_rules.specs.Neighbours.{Allocates}
 use Rattle.combine_rules.proofs.Scan.{bytes_append, nothing_goes}
 use Rattle.combine_rules.proofs.Registers.{Came, stays, opens, came}
-use Rattle.mach_ir.specs.Blocks.{bytes_of}
+use Rattle.mach_ir.specs.Blocks.{total_block_bytes}
 use Rattle.mach_ir.specs.Forms.{reservation_most}
 use Rattle.mach_ir.specs.declared.blocks.NewBlock.{NewBlock}
 use Rattle.mach_ir.specs.declared.op.Access.TheVariants as access
@@ -21,29 +21,29 @@ use Rattle.mach_laws.proofs.Places.{contains_of, stands_in}
 
 -- nothing goes to the open allocation, or all of it fits
 abbrev pub Fits : ℕ → List NewBlock → Type 0
-Fits bytes blocks = (blocks ≡ []) ⊎ (bytes + bytes_of blocks ≤ reservation_most)
+Fits bytes blocks = (blocks ≡ []) ⊎ (bytes + total_block_bytes blocks ≤ reservation_most)
 
-pub what_goes : (bytes : ℕ) (is : List Instr) → Fits bytes (scan (Some bytes) is).blocks
+pub what_goes : (bytes : ℕ) (is : List Instr) → Fits bytes (scan_for_combining (Some bytes) is).blocks
 what_goes bytes [] = inl refl
 what_goes bytes (i ∷ is) = by i.op (λ n. what_goes n is)
   where
-    joined : (blocks more : List NewBlock) → nat_le (bytes + bytes_of blocks) reservation_most ≡ true →
-        Fits (bytes + bytes_of blocks) more → Fits bytes (blocks ++ more)
+    joined : (blocks more : List NewBlock) → nat_le (bytes + total_block_bytes blocks) reservation_most ≡ true →
+        Fits (bytes + total_block_bytes blocks) more → Fits bytes (blocks ++ more)
     joined blocks more e f =
-        let le : bytes + bytes_of blocks ≤ reservation_most = leb-true (bytes + bytes_of blocks) reservation_most e in
+        let le : bytes + total_block_bytes blocks ≤ reservation_most = leb-true (bytes + total_block_bytes blocks) reservation_most e in
         let g = bytes_append blocks more in
         ⊎_elim
-        (λ none. let z = ap bytes_of none in inr (omega (arith, le, g, z)))
+        (λ none. let z = ap total_block_bytes none in inr (omega (arith, le, g, z)))
         (λ fits. inr (omega (arith, fits, g))) f
 
-    by_joins : (blocks : List NewBlock) (b : Bool) → joins (Some bytes) blocks ≡ b → ((n : ℕ) → Fits n (scan (Some n) is).blocks) →
-        Fits bytes (allocated b blocks i.results (scan (Some (cond b (bytes + bytes_of blocks) (bytes_of blocks))) is)).blocks
+    by_joins : (blocks : List NewBlock) (b : Bool) → joins (Some bytes) blocks ≡ b → ((n : ℕ) → Fits n (scan_for_combining (Some n) is).blocks) →
+        Fits bytes (allocation_scanned b blocks i.results (scan_for_combining (Some (cond b (bytes + total_block_bytes blocks) (total_block_bytes blocks))) is)).blocks
     by_joins blocks true e ih =
-        joined blocks (scan (Some (bytes + bytes_of blocks)) is).blocks e (ih (bytes + bytes_of blocks))
+        joined blocks (scan_for_combining (Some (bytes + total_block_bytes blocks)) is).blocks e (ih (bytes + total_block_bytes blocks))
     by_joins blocks false e ih = inl refl
 
-    by : (f : MachOp) → ((n : ℕ) → Fits n (scan (Some n) is).blocks) →
-        Fits bytes (scanned_at (Some bytes) i f (scan (open_past (Some bytes) f) is)).blocks
+    by : (f : MachOp) → ((n : ℕ) → Fits n (scan_for_combining (Some n) is).blocks) →
+        Fits bytes (scanned_at (Some bytes) i f (scan_for_combining (open_past (Some bytes) f) is)).blocks
     by (mach.Op (op.Pure f)) ih = ih bytes
     by (mach.Op (op.Access (access.Load k offset))) ih = ih bytes
     by (mach.Op (op.Access (access.Store k offset))) ih = ih bytes
@@ -56,26 +56,26 @@ same_blocks : (xs ys : List NewBlock) → mach.Op (op.Access (access.Alloc xs)) 
 same_blocks xs ys e = cc
 
 pub largest : (m : Mach) (j : Instr) (blocks : List NewBlock) → Contains (combined m).code j → Allocates j blocks →
-    (bytes_of blocks ≤ reservation_most) ⊎ ((i : Instr) × Contains m.code i × Allocates i blocks)
+    (total_block_bytes blocks ≤ reservation_most) ⊎ ((i : Instr) × Contains m.code i × Allocates i blocks)
 largest m j blocks c e =
     let s = stands_in (combined m).code j c in by j s.0 e (came None m.code j s.0 s.1)
   where
     of_size : (own more : List NewBlock) (i : Instr) → Contains m.code i → Allocates i own → own ++ more ≡ blocks →
-        Fits (bytes_of own) more → (bytes_of blocks ≤ reservation_most) ⊎ ((i : Instr) × Contains m.code i × Allocates i blocks)
+        Fits (total_block_bytes own) more → (total_block_bytes blocks ≤ reservation_most) ⊎ ((i : Instr) × Contains m.code i × Allocates i blocks)
     of_size own more i d a same f =
         ⊎_elim
         (λ none.
         inr (i, d, subst (Allocates i) (sym (append-nil own) ∙ ap (λ bs. own ++ bs) (sym none) ∙ same) a))
         (λ fits.
         let g = bytes_append own more in
-        let h = ap bytes_of same in
+        let h = ap total_block_bytes same in
         inl (omega (arith, fits, g, h)))
         f
 
     by : (j : Instr) (ys : List Instr) → Allocates j blocks → Came m.code j ys →
-        (bytes_of blocks ≤ reservation_most) ⊎ ((i : Instr) × Contains m.code i × Allocates i blocks)
+        (total_block_bytes blocks ≤ reservation_most) ⊎ ((i : Instr) × Contains m.code i × Allocates i blocks)
     by j ys a (stays held s n t) = absurd (n blocks a)
     by j ys a (opens i {next = next} own s d same t) =
-        of_size own (scan (Some (bytes_of own)) next).blocks i (contains_of s) d
-        (same_blocks (own ++ (scan (Some (bytes_of own)) next).blocks) blocks (ap (λ (k : Instr). k.op) (sym same) ∙ a))
-        (what_goes (bytes_of own) next)
+        of_size own (scan_for_combining (Some (total_block_bytes own)) next).blocks i (contains_of s) d
+        (same_blocks (own ++ (scan_for_combining (Some (total_block_bytes own)) next).blocks) blocks (ap (λ (k : Instr). k.op) (sym same) ∙ a))
+        (what_goes (total_block_bytes own) next)

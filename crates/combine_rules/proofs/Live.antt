@@ -1,13 +1,13 @@
 -- What is live in the result is live in the function, or goes to an open allocation.
 use Rattle.std.proofs.Common.{◌≡◌, ℕ, suc, Bool, true, false, cond, ◌⊎◌, inl, inr, ⊎_elim, List, [], ◌∷◌, ◌++◌, length, Option, Some, None, refl, sym, ap, ◌∙◌, subst}
 use Rattle.std.proofs.lemmas.Bool.{true≢false}
-use Rattle.combine_rules.specs.Combined.{joins, bytes_past, open_past, Scanned, allocation, allocated, scanned_at, scan, combined}
+use Rattle.combine_rules.specs.Combined.{joins, bytes_past, open_past, Scanned, allocation, allocation_scanned, scanned_at, scan_for_combining, combined}
 use Rattle.combine_rules.proofs.Scan.{nothing_goes}
 use Rattle.combine_rules.proofs.Places.{open_at, piece, scanned, merged, scanned_next, scanned_is, merged_is, keeps_marks, is_code}
 use Rattle.mach_ir.specs.Acts.{Target, On, At}
 use Rattle.mach_ir.specs.Meaning.{killed, after_label, from_handler, tries_at, tries_past, has_label, is_handler_of, passes_frame}
 use Rattle.mach_ir.specs.Placed.{is_straight}
-use Rattle.mach_ir.specs.Walks.{Among, OneOf, this, other, targets, may_raise, goes, raises, Writes, Live, read, on, aside}
+use Rattle.mach_ir.specs.Walks.{AmongRegisters, OneOf, this, other, targets, may_raise, goes, raises, Writes, Live, read, on, aside}
 use Rattle.mach_ir.specs.declared.blocks.NewBlock.{NewBlock}
 use Rattle.mach_ir.specs.declared.op.Access.TheVariants as access
 use Rattle.mach_ir.specs.declared.op.Op.TheVariants as op
@@ -41,9 +41,9 @@ pub data View (i : Instr) (after : Scanned) : Scanned → List Instr → Type 0 
   ends : is_straight i.op ≡ false → after.blocks ≡ [] → after.results ≡ [] →
       View i after (record after { code = i ∷ after.code }) (i ∷ [])
   joined : (blocks : List NewBlock) → i.op ≡ mach.Op (op.Access (access.Alloc blocks)) →
-      View i after (allocated true blocks i.results after) []
+      View i after (allocation_scanned true blocks i.results after) []
   opened : (blocks : List NewBlock) → i.op ≡ mach.Op (op.Access (access.Alloc blocks)) →
-      View i after (allocated false blocks i.results after)
+      View i after (allocation_scanned false blocks i.results after)
       (allocation (blocks ++ after.blocks) (i.results ++ after.results) ∷ [])
 
 one_two : (i k l : Instr) (xs : List Instr) → i ∷ [] ≡ k ∷ l ∷ xs → ⊥
@@ -62,14 +62,14 @@ not_long (opened blocks x) k l xs e = one_two (allocation _ _) k l xs e
 
 abbrev Viewed : Option ℕ → Instr → MachOp → List Instr → Type 0
 Viewed held i f next =
-    View i (scan (open_past held f) next) (scanned_at held i f (scan (open_past held f) next))
-    (piece held i f (scan (open_past held f) next))
+    View i (scan_for_combining (open_past held f) next) (scanned_at held i f (scan_for_combining (open_past held f) next))
+    (piece held i f (scan_for_combining (open_past held f) next))
 
 viewed : (held : Option ℕ) (i : Instr) (next : List Instr) → Viewed held i i.op next
 viewed held i next = by i.op i.args i.results
   where
     by_joins : (blocks : List NewBlock) (args results : List Reg) (b : Bool) (after : Scanned) →
-        View (instr (mach.Op (op.Access (access.Alloc blocks))) args results) after (allocated b blocks results after)
+        View (instr (mach.Op (op.Access (access.Alloc blocks))) args results) after (allocation_scanned b blocks results after)
         (cond b [] (allocation (blocks ++ after.blocks) (results ++ after.results) ∷ []))
     by_joins blocks args results true after = joined blocks refl
     by_joins blocks args results false after = opened blocks refl
@@ -97,7 +97,7 @@ viewed held i next = by i.op i.args i.results
     by (mach.Op (op.Access (access.Store k offset))) args results =
         runs (plain refl (λ l. refl) (λ l. refl) (λ m. refl) refl (no_store k offset))
     by (mach.Op (op.Access (access.Alloc blocks))) args results =
-        by_joins blocks args results (joins held blocks) (scan (Some (bytes_past held blocks)) next)
+        by_joins blocks args results (joins held blocks) (scan_for_combining (Some (bytes_past held blocks)) next)
     by (mach.Op (op.Calling f)) args results = ends refl (nothing_goes next).0 (nothing_goes next).1
     by (mach.Op (op.Leaving f)) args results = ends refl (nothing_goes next).0 (nothing_goes next).1
     by (mach.Mark f) args results = ends refl (nothing_goes next).0 (nothing_goes next).1
@@ -170,7 +170,7 @@ module _ (m : Mach) where
 
   -- it goes to an open allocation, or is live
   abbrev pub Told : ℕ → List Instr → Type 0
-  Told n rest = Among n (after rest) ⊎ Live m n rest
+  Told n rest = AmongRegisters n (after rest) ⊎ Live m n rest
 
   pub label_is : (l : ℕ) → after_label l q.code ≡ expand f (after_label l m.code)
   label_is l = ap (after_label l) (is_code m) ∙ label_expand f (keeps_marks m.code) l m.code
@@ -182,28 +182,28 @@ module _ (m : Mach) where
   tries_here i next = ap (tries_past i.op) (tries_expand f (keeps_marks m.code) next)
 
   pub calm : {rest : List Instr} {n : ℕ} → after rest ≡ [] → Told n rest → Live m n rest
-  calm {n = n} e t = ⊎_elim (λ a. none_among (subst (Among n) e a)) (λ v. v) t
+  calm {n = n} e t = ⊎_elim (λ a. none_among (subst (AmongRegisters n) e a)) (λ v. v) t
 
   nothing_there : (i : Instr) (xs : List Instr) → i ∷ xs ≡ [] → ⊥
   nothing_there i xs e = cc
 
   -- what an allocation writes
   pub alloc_writes : {n : ℕ} (i : Instr) (blocks : List NewBlock) → i.op ≡ mach.Op (op.Access (access.Alloc blocks)) →
-      Writes m i n → Among n i.results
+      Writes m i n → AmongRegisters n i.results
   alloc_writes {n} i blocks e w =
-      ⊎_elim (λ a. a) (λ a. none_among (subst (λ f. Among n (killed m (instr f i.args i.results))) e a))
+      ⊎_elim (λ a. a) (λ a. none_among (subst (λ f. AmongRegisters n (killed m (instr f i.args i.results))) e a))
       (split_among n i.results (killed m i) w)
 
   pub alloc_goes : (i : Instr) (blocks : List NewBlock) → i.op ≡ mach.Op (op.Access (access.Alloc blocks)) → OneOf On (targets i.op)
   alloc_goes i blocks e = subst (λ f. OneOf On (targets f)) (sym e) this
 
   over : {n : ℕ} {i : Instr} {next : List Instr} (blocks : List NewBlock) → i.op ≡ mach.Op (op.Access (access.Alloc blocks)) →
-      (Among n i.results → ⊥) → Live m n next → Live m n (i ∷ next)
+      (AmongRegisters n i.results → ⊥) → Live m n next → Live m n (i ∷ next)
   over {i = i} blocks e free v = on (λ w. free (alloc_writes i blocks e w)) (goes On (alloc_goes i blocks e)) v
 
   -- before one that joins
   past_joined : {n : ℕ} {i : Instr} {next : List Instr} (blocks : List NewBlock) → i.op ≡ mach.Op (op.Access (access.Alloc blocks)) →
-      Told n next → Among n (i.results ++ after next) ⊎ Live m n (i ∷ next)
+      Told n next → AmongRegisters n (i.results ++ after next) ⊎ Live m n (i ∷ next)
   past_joined {n} {i} {next} blocks e (inl a) = inl (right_among i.results (after next) a)
   past_joined {n} {i} {next} blocks e (inr v) =
       ⊎_elim (λ a. inl (left_among i.results (after next) a)) (λ free. inr (over blocks e free v)) (among_or_not n i.results)
@@ -212,7 +212,7 @@ module _ (m : Mach) where
   abbrev AtHead : ℕ → Instr → List Instr → Type 0
   AtHead n j zs =
       (i : Instr) (next : List Instr) → Ending (i ∷ next) m.code → zs ≡ expand f next →
-      (s : Scanned) → View i (scanned m.code next) s (j ∷ []) → Among n s.results ⊎ Live m n (i ∷ next)
+      (s : Scanned) → View i (scanned m.code next) s (j ∷ []) → AmongRegisters n s.results ⊎ Live m n (i ∷ next)
 
   heads : (n : ℕ) (j : Instr) (zs : List Instr) → AtHead n j zs → (rest : List Instr) → Ending rest m.code →
       j ∷ zs ≡ expand f rest → Told n rest
@@ -232,7 +232,7 @@ module _ (m : Mach) where
       by xs e' v ih = at xs e' (subst (λ ys. View i (scanned m.code next) (scanned m.code (i ∷ next)) ys) e' v)
         where
           skipped : {s : Scanned} (ys : List Instr) → ys ≡ [] → View i (scanned m.code next) s ys → Told n next →
-              Among n s.results ⊎ Live m n (i ∷ next)
+              AmongRegisters n s.results ⊎ Live m n (i ∷ next)
           skipped ys y (runs k) t = absurd (nothing_there i [] y)
           skipped ys y (ends x b r) t = absurd (nothing_there i [] y)
           skipped ys y (joined blocks h) t = past_joined blocks h t
@@ -246,7 +246,7 @@ module _ (m : Mach) where
   -- the register is live after the instruction that stands for one, wherever it goes
   at_goes : {n : ℕ} {j : Instr} (t : Target) → OneOf t (targets j.op) → (Writes q j n → ⊥) → {i : Instr} {next : List Instr} → Ending (i ∷ next) m.code →
       (t ≡ On → Told n next) → ((l : ℕ) → t ≡ At l → Live m n (after_label l m.code)) →
-      {s : Scanned} → View i (scanned m.code next) s (j ∷ []) → Among n s.results ⊎ Live m n (i ∷ next)
+      {s : Scanned} → View i (scanned m.code next) s (j ∷ []) → AmongRegisters n s.results ⊎ Live m n (i ∷ next)
   at_goes On o free ending t l (runs k) = ⊎_elim inl (λ v. inr (on free (goes On o) v)) (t refl)
   at_goes On o free ending t l (ends x b r) = inr (on free (goes On o) (calm r (t refl)))
   at_goes {n} On o free {i = i} {next = next} ending t l (opened blocks e) =
@@ -258,13 +258,13 @@ module _ (m : Mach) where
 
   at_raise : {n l : ℕ} {tries : List ℕ} {j : Instr} → may_raise j.op ≡ true → {i : Instr} {next : List Instr} → tries_at (j ∷ next) ≡ l ∷ tries →
       Live m n (from_handler l m.code) →
-      {s : Scanned} → View i (scanned m.code next) s (j ∷ []) → Among n s.results ⊎ Live m n (i ∷ next)
+      {s : Scanned} → View i (scanned m.code next) s (j ∷ []) → AmongRegisters n s.results ⊎ Live m n (i ∷ next)
   at_raise r e v (runs k) = inr (aside (raises r e) v)
   at_raise r e v (ends x b y) = inr (aside (raises r e) v)
   at_raise r e v (opened blocks g) = absurd (true≢false (sym r))
 
-  at_read : {n : ℕ} {j : Instr} → Among n j.args → {i : Instr} {next : List Instr} {s : Scanned} →
-      View i (scanned m.code next) s (j ∷ []) → Among n s.results ⊎ Live m n (i ∷ next)
+  at_read : {n : ℕ} {j : Instr} → AmongRegisters n j.args → {i : Instr} {next : List Instr} {s : Scanned} →
+      View i (scanned m.code next) s (j ∷ []) → AmongRegisters n s.results ⊎ Live m n (i ∷ next)
   at_read a (runs k) = inr (read a)
   at_read a (ends x b r) = inr (read a)
   at_read a (opened blocks e) = none_among a

@@ -10,7 +10,7 @@ use Rattle.combine_rules.proofs.Registers.{Awaits, awaits_here, awaits_in}
 use Rattle.combine_rules.proofs.Sizes.{register_before}
 use Rattle.mach_ir.specs.Acts.{On, At}
 use Rattle.mach_ir.specs.Placed.{WellPlaced}
-use Rattle.mach_ir.specs.Walks.{Among, goes, Writes, Live, LiveAfter, after_step, InCode, further, IsRegister, is_in_code, Stands, here, below, IsMove, Meets, at_write, at_params, Joined, one_way, other_way}
+use Rattle.mach_ir.specs.Walks.{AmongRegisters, goes, Writes, Live, LiveAfter, after_step, InCode, further, IsRegister, is_in_code, StandsAsInstr, here, below, IsMove, Meets, at_write, at_params, Joined, one_way, other_way}
 use Rattle.mach_ir.specs.declared.reg.Reg.{Reg}
 use Rattle.mach_ir.specs.declared.mach.Instr.{Instr}
 use Rattle.mach_ir.specs.declared.mach.Mach.{Mach}
@@ -41,17 +41,17 @@ module _ (m : Mach) (is : IsCombinable m) where
     after : Scanned
     view : View instr (scanned m.code next) after (j ∷ [])
 
-  main_of : (j : Instr) (zs rest : List Instr) → Ending rest m.code → Stands j zs (expand f rest) → Main j zs
+  main_of : (j : Instr) (zs rest : List Instr) → Ending rest m.code → StandsAsInstr j zs (expand f rest) → Main j zs
   main_of j zs [] e s = elim s [ ]
   main_of j zs (i ∷ next) e s =
       at (f (length next) i) (expand f next) refl (view m.code i next e) s (λ t. main_of j zs next (ending_next e) t)
     where
       at : (xs ys : List Instr) → ys ≡ expand f next → View i (scanned m.code next) (scanned m.code (i ∷ next)) xs →
-          Stands j zs (xs ++ ys) → (Stands j zs (expand f next) → Main j zs) → Main j zs
-      at [] ys h v s again = again (subst (Stands j zs) h s)
+          StandsAsInstr j zs (xs ++ ys) → (StandsAsInstr j zs (expand f next) → Main j zs) → Main j zs
+      at [] ys h v s again = again (subst (StandsAsInstr j zs) h s)
       at (x ∷ []) ys h v here again =
           record { instr = i; next = next; ending = e; rest = h; after = scanned m.code (i ∷ next); view = v }
-      at (x ∷ []) ys h v (below s) again = again (subst (Stands j zs) h s)
+      at (x ∷ []) ys h v (below s) again = again (subst (StandsAsInstr j zs) h s)
       at (x ∷ y ∷ xs) ys h v s again = absurd (not_long v x y xs refl)
 
   -- ---- a register at a fixed place
@@ -85,14 +85,14 @@ module _ (m : Mach) (is : IsCombinable m) where
         rest_results : List Reg
         rest_results = (scanned m.code next).results
 
-        own : Among k.number i.results → ⊥
+        own : AmongRegisters k.number i.results → ⊥
         own a = let x = number_among i.results a in not_awaited e (awaits_here blocks al x.1) x.2
 
-        others : Among k.number rest_results → ⊥
+        others : AmongRegisters k.number rest_results → ⊥
         others a =
             let w = awaited_number m is (open_at (length next) None m.code) next a in not_awaited (ending_next e) w.1 w.2
 
-        none : Among k.number ((i.results ++ rest_results) ++ []) → ⊥
+        none : AmongRegisters k.number ((i.results ++ rest_results) ++ []) → ⊥
         none a =
             ⊎_elim (λ b. ⊎_elim own others (split_among k.number i.results rest_results b)) none_among
             (split_among k.number (i.results ++ rest_results) [] a)
@@ -103,7 +103,7 @@ module _ (m : Mach) (is : IsCombinable m) where
       Meets m r.number k.number
   meets_back r k i j x y (at_params a v) = at_params a (live_back k j y all (subst (Live q k.number) (is_code m) v))
   meets_back r k i j x y (at_write g zs s w v apart) =
-      let h = main_of g zs m.code all (subst (Stands g zs) (is_code m) s) in
+      let h = main_of g zs m.code all (subst (StandsAsInstr g zs) (is_code m) s) in
       by h.instr h.next h.ending g (not_allocated r i x h.instr h.next h.ending g h.view) w
       (subst (LiveAfter q k.number g) h.rest v) apart
     where

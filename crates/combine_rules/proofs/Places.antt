@@ -3,7 +3,7 @@
 use Rattle.std.proofs.Common.{◌≡◌, ℕ, suc, ◌-◌, ◌<◌, Bool, true, false, cond, ⊎_elim, List, [], ◌∷◌, ◌++◌, length, drop, Option, None, refl, sym, ap, ◌∙◌, arith}
 use Rattle.std.specs.Prelude.{nat_eq}
 use Rattle.std.proofs.lemmas.Bool.{true≢false, cases_Bool, eq-eqb, eqb-true}
-use Rattle.combine_rules.specs.Combined.{joins, open_past, Scanned, allocation, allocated, scanned_at, scan, combined}
+use Rattle.combine_rules.specs.Combined.{joins, open_past, Scanned, allocation, allocation_scanned, scanned_at, scan_for_combining, combined}
 use Rattle.mach_ir.specs.Meaning.{has_label, is_handler_of}
 use Rattle.mach_ir.specs.declared.blocks.NewBlock.{NewBlock}
 use Rattle.mach_ir.specs.declared.op.Access.TheVariants as access
@@ -63,7 +63,7 @@ laid_before o i (mach.Op (op.Access (access.Alloc blocks))) after = by (joins o 
   where
     by : (b : Bool) →
         cond b [] (allocation (blocks ++ after.blocks) (i.results ++ after.results) ∷ []) ++ after.code
-        ≡ (allocated b blocks i.results after).code
+        ≡ (allocation_scanned b blocks i.results after).code
     by true = refl
     by false = refl
 laid_before o i (mach.Op (op.Calling f)) after = refl
@@ -73,15 +73,15 @@ laid_before o i (mach.Mark f) after = refl
 module _ (code : List Instr) where
   -- what a scan of the whole code makes of the code from this place on
   abbrev pub scanned : List Instr → Scanned
-  scanned rest = scan (open_at (length rest) None code) rest
+  scanned rest = scan_for_combining (open_at (length rest) None code) rest
 
   -- what stands for an instruction with so many after it
   abbrev pub merged : ℕ → Instr → List Instr
   merged n i = piece (open_at (suc n) None code) i i.op (scanned (drop (length code - n) code))
 
   pub scanned_next : {i : Instr} {next : List Instr} → Ending (i ∷ next) code →
-      scan (open_past (open_at (suc (length next)) None code) i.op) next ≡ scanned next
-  scanned_next {next = next} e = ap (λ o. scan o next) (sym (past_at e None))
+      scan_for_combining (open_past (open_at (suc (length next)) None code) i.op) next ≡ scanned next
+  scanned_next {next = next} e = ap (λ o. scan_for_combining o next) (sym (past_at e None))
 
   -- what a scan makes from before an instruction on
   pub scanned_is : {i : Instr} {next : List Instr} → Ending (i ∷ next) code →
@@ -101,8 +101,8 @@ module _ (code : List Instr) where
       ∙ laid_before (open_at (suc (length next)) None code) i i.op (scanned next)
       ∙ ap (λ (s : Scanned). s.code) (sym (scanned_is e))
 
-  pub at_start : scanned code ≡ scan None code
-  at_start = ap (λ o. scan o code) (here_at None code)
+  pub at_start : scanned code ≡ scan_for_combining None code
+  at_start = ap (λ o. scan_for_combining o code) (here_at None code)
 
   -- ---- marks
 

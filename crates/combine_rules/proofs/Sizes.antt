@@ -4,10 +4,10 @@ use Rattle.std.specs.List.{Contains}
 use Rattle.std.proofs.lemmas.List.{length-append}
 use Rattle.std.proofs.lemmas.List.Elements.{Contains-append_cases}
 use Rattle.bs_words.proofs.Lists.{none_in}
-use Rattle.combine_rules.specs.Combined.{joins, bytes_past, open_past, Scanned, allocated, scanned_at, scan, combined}
+use Rattle.combine_rules.specs.Combined.{joins, bytes_past, open_past, Scanned, allocation_scanned, scanned_at, scan_for_combining, combined}
 use Rattle.combine_rules.proofs.Registers.{Came, stays, opens, came, awaited, awaits_in}
 use Rattle.mach_ir.specs.Sizes.{operand_count, Size, HasSize, OpenAtMost}
-use Rattle.mach_ir.specs.Walks.{Stands, here, below, InCode, in_args, in_results, further, IsRegister, is_param, is_colour, is_in_code}
+use Rattle.mach_ir.specs.Walks.{StandsAsInstr, here, below, InCode, in_args, in_results, further, IsRegister, is_param, is_colour, is_in_code}
 use Rattle.mach_ir.specs.declared.blocks.NewBlock.{NewBlock}
 use Rattle.mach_ir.specs.declared.op.Access.TheVariants as access
 use Rattle.mach_ir.specs.declared.op.Op.TheVariants as op
@@ -23,7 +23,7 @@ use Rattle.mach_ir.specs.declared.mach.Mach.{Mach}
 record Somewhere (r : Reg) (code : List Instr) : Type 0 where
   instr : Instr
   next : List Instr
-  stands : Stands instr next code
+  stands : StandsAsInstr instr next code
   has : Contains instr.args r ⊎ Contains instr.results r
 
 somewhere : {r : Reg} {code : List Instr} → InCode r code → Somewhere r code
@@ -32,11 +32,11 @@ somewhere (in_results {i = i} {is = is} c) = record { instr = i; next = is; stan
 somewhere (further o) =
     let s = somewhere o in record { instr = s.instr; next = s.next; stands = below s.stands; has = s.has }
 
-in_code : {r : Reg} {i : Instr} {next code : List Instr} → Stands i next code → InCode r (i ∷ next) → InCode r code
+in_code : {r : Reg} {i : Instr} {next code : List Instr} → StandsAsInstr i next code → InCode r (i ∷ next) → InCode r code
 in_code here o = o
 in_code (below s) o = further (in_code s o)
 
-pub code_before : {r : Reg} (held : Option ℕ) (code : List Instr) → InCode r (scan held code).code → InCode r code
+pub code_before : {r : Reg} (held : Option ℕ) (code : List Instr) → InCode r (scan_for_combining held code).code → InCode r code
 code_before {r} held code o =
     let s = somewhere o in by s.instr s.next (came held code s.instr s.next s.stands) s.has
   where
@@ -47,7 +47,7 @@ code_before {r} held code o =
         (λ z.
         ⊎_elim (λ y. in_code s (in_results y))
         (λ y. in_code s (further (awaits_in (awaited (Some (bytes_past None blocks)) next r y))))
-        (Contains-append_cases i.results (scan (Some (bytes_past None blocks)) next).results r
+        (Contains-append_cases i.results (scan_for_combining (Some (bytes_past None blocks)) next).results r
         (subst (λ (k : Instr). Contains k.results r) same z)))
         c
 
@@ -63,7 +63,7 @@ pub record NoMore (is : List Instr) (s : Scanned) : Type 0 where
   pub instrs : length s.code ≤ length is
   pub operands : operand_count s.code + length s.results ≤ operand_count is
 
-no_more : (held : Option ℕ) (is : List Instr) → NoMore is (scan held is)
+no_more : (held : Option ℕ) (is : List Instr) → NoMore is (scan_for_combining held is)
 no_more held [] = record { instrs = omega arith; operands = omega arith }
 no_more held (i ∷ is) = by i.op (λ o. no_more o is)
   where
@@ -73,7 +73,7 @@ no_more held (i ∷ is) = by i.op (λ o. no_more o is)
         let b = h.operands in
         record { instrs = omega (arith, a); operands = omega (arith, b) }
 
-    by_joins : (b : Bool) (blocks : List NewBlock) (s : Scanned) → NoMore is s → NoMore (i ∷ is) (allocated b blocks i.results s)
+    by_joins : (b : Bool) (blocks : List NewBlock) (s : Scanned) → NoMore is s → NoMore (i ∷ is) (allocation_scanned b blocks i.results s)
     by_joins true blocks s h =
         let a = h.instrs in
         let b = h.operands in
@@ -85,15 +85,15 @@ no_more held (i ∷ is) = by i.op (λ o. no_more o is)
         let e = length-append i.results s.results in
         record { instrs = omega (arith, a); operands = omega (arith, b, e) }
 
-    by : (f : MachOp) → ((o : Option ℕ) → NoMore is (scan o is)) → NoMore (i ∷ is) (scanned_at held i f (scan (open_past held f) is))
-    by (mach.Op (op.Pure f)) ih = kept (scan held is) (ih held)
-    by (mach.Op (op.Access (access.Load k offset))) ih = kept (scan held is) (ih held)
-    by (mach.Op (op.Access (access.Store k offset))) ih = kept (scan held is) (ih held)
+    by : (f : MachOp) → ((o : Option ℕ) → NoMore is (scan_for_combining o is)) → NoMore (i ∷ is) (scanned_at held i f (scan_for_combining (open_past held f) is))
+    by (mach.Op (op.Pure f)) ih = kept (scan_for_combining held is) (ih held)
+    by (mach.Op (op.Access (access.Load k offset))) ih = kept (scan_for_combining held is) (ih held)
+    by (mach.Op (op.Access (access.Store k offset))) ih = kept (scan_for_combining held is) (ih held)
     by (mach.Op (op.Access (access.Alloc blocks))) ih =
-        by_joins (joins held blocks) blocks (scan (Some (bytes_past held blocks)) is) (ih (Some (bytes_past held blocks)))
-    by (mach.Op (op.Calling f)) ih = kept (scan None is) (ih None)
-    by (mach.Op (op.Leaving f)) ih = kept (scan None is) (ih None)
-    by (mach.Mark f) ih = kept (scan None is) (ih None)
+        by_joins (joins held blocks) blocks (scan_for_combining (Some (bytes_past held blocks)) is) (ih (Some (bytes_past held blocks)))
+    by (mach.Op (op.Calling f)) ih = kept (scan_for_combining None is) (ih None)
+    by (mach.Op (op.Leaving f)) ih = kept (scan_for_combining None is) (ih None)
+    by (mach.Mark f) ih = kept (scan_for_combining None is) (ih None)
 
 pub size : (m : Mach) (s : Size) → HasSize m s → HasSize (combined m) s
 size m s h =

@@ -21,7 +21,7 @@ use Rattle.bs_words.specs.declared.values.Value.{Value}
 use Rattle.bs_words.specs.declared.values.Value.TheVariants as value
 use Rattle.cmm_meaning.specs.Extends.{shape_of}
 use Rattle.cmm_meaning.specs.Setting.{Setting}
-use Rattle.mach_ir.specs.Acts.{Around, Act, Goes, Stuck, On, act, pure_act, access_act, one_result, if_known, only_if, loaded_act, stored_act, first_written, header_written, after_store, moved_by, is_among, without, same_cell, cells_from, fresh_block, with_block}
+use Rattle.mach_ir.specs.Acts.{Around, Act, Goes, Stuck, On, act, pure_act, access_act, one_result, if_known, stuck_unless, loaded_act, stored_act, first_written, header_written, after_store, moved_by, is_among_cells, without, same_cell, cells_from, fresh_block, with_block}
 use Rattle.mach_ir.specs.Placed.{is_straight}
 use Rattle.mach_ir.specs.declared.blocks.NewBlock.{NewBlock}
 use Rattle.mach_ir.specs.declared.op.Access.{Access}
@@ -294,18 +294,18 @@ not_block s j (InHeader t) (low_header lt) = refl
 not_block s j (InBlock t i) (low_block lt) = ap (λ b. b && nat_eq i j) (eq_less t s lt)
 not_block s j (InStatic l i) low_static = refl
 
-among_cells : (s : ℕ) (cell : Cell) → Low s cell → (i n : ℕ) (u : List Cell) → is_among cell (cells_from s i n ++ u) ≡ is_among cell u
+among_cells : (s : ℕ) (cell : Cell) → Low s cell → (i n : ℕ) (u : List Cell) → is_among_cells cell (cells_from s i n ++ u) ≡ is_among_cells cell u
 among_cells s cell low i zero u = refl
 among_cells s cell low i (suc n) u =
-    ap (λ b. b || is_among cell (cells_from s (suc i) n ++ u)) (not_block s i cell low) ∙ among_cells s cell low (suc i) n u
+    ap (λ b. b || is_among_cells cell (cells_from s (suc i) n ++ u)) (not_block s i cell low) ∙ among_cells s cell low (suc i) n u
 
 -- the cells of a block that is new, before others that are unwritten
 abbrev unwritten_with : ℕ → NewBlock → List Cell → List Cell
 unwritten_with s b u = InHeader s ∷ cells_from s 0 b.cells ++ u
 
-among_low : (s : ℕ) (cell : Cell) → Low s cell → (b : NewBlock) (u : List Cell) → is_among cell (unwritten_with s b u) ≡ is_among cell u
+among_low : (s : ℕ) (cell : Cell) → Low s cell → (b : NewBlock) (u : List Cell) → is_among_cells cell (unwritten_with s b u) ≡ is_among_cells cell u
 among_low s cell low b u =
-    ap (λ z. z || is_among cell (cells_from s 0 b.cells ++ u)) (not_header s cell low) ∙ among_cells s cell low 0 b.cells u
+    ap (λ z. z || is_among_cells cell (cells_from s 0 b.cells ++ u)) (not_header s cell low) ∙ among_cells s cell low 0 b.cells u
 
 without_cells : (s : ℕ) (cell : Cell) → Low s cell → (i n : ℕ) (u : List Cell) → without cell (cells_from s i n ++ u) ≡ cells_from s i n ++ without cell u
 without_cells s cell low i zero u = refl
@@ -369,8 +369,8 @@ module _ (b : NewBlock) (a : Around) where
   load_steady k offset o w no_cell = is_lost
   load_steady k offset o w (a_cell {cell = cell} low) =
       subst (λ z. Steadies b a (loaded_act a (Some cell) (loaded_from k a.memory offset (Some cell))) (cond z Stuck (one_result (with_block b a) (loaded_from k more offset (Some cell))))) (sym (among_low count cell low b a.unwritten))
-      (subst (λ v. Steadies b a (loaded_act a (Some cell) (loaded_from k a.memory offset (Some cell))) (cond (is_among cell a.unwritten) Stuck (one_result (with_block b a) (loaded_as k (end_of_data a.memory) offset v)))) (sym (value_same fs a.memory cell low))
-      (by (is_among cell a.unwritten)))
+      (subst (λ v. Steadies b a (loaded_act a (Some cell) (loaded_from k a.memory offset (Some cell))) (cond (is_among_cells cell a.unwritten) Stuck (one_result (with_block b a) (loaded_as k (end_of_data a.memory) offset v)))) (sym (value_same fs a.memory cell low))
+      (by (is_among_cells cell a.unwritten)))
     where
       by : (z : Bool) → Steadies b a (cond z Stuck (one_result a (loaded_as k (end_of_data a.memory) offset (value_in a.memory cell)))) (cond z Stuck (one_result (with_block b a) (loaded_as k (end_of_data a.memory) offset (value_in a.memory cell))))
       by true = is_lost
@@ -388,7 +388,7 @@ module _ (b : NewBlock) (a : Around) where
       (record a { memory = record a.memory { blocks = bs ++ fs; statics = ss }; unwritten = w }) same sized refl
       (ap (λ z. record a { memory = record a.memory { blocks = bs ++ fs; statics = ss }; unwritten = z }) (e ∙ ap (λ k. unwritten_with k b u) (sym same)))
 
-  only_steady : (z : Bool) {x y : Act} → Steadies b a x y → Steadies b a (only_if z x) (only_if z y)
+  only_steady : (z : Bool) {x y : Act} → Steadies b a x y → Steadies b a (stuck_unless z x) (stuck_unless z y)
   only_steady true s = s
   only_steady false s = is_lost
 
@@ -426,7 +426,7 @@ module _ (b : NewBlock) (a : Around) where
       subst (λ z. Stored fs a.memory (stored_in k a.memory (offset_in_cell x) z v) (stored k more x v)) (sym e)
       (subst (λ z. Stored fs a.memory (stored_in k a.memory (offset_in_cell x) (Some cell) v) (stored_in k more (offset_in_cell x) z v)) (sym g) (stored_in_same fs k a.memory (offset_in_cell x) cell v low)) in
       subst (λ z. Steadies b a (stored_act k a (Some cell) x v) (cond z (first_written k (with_block b a) cell x v) (after_store (with_block b a) (unwritten_with count b a.unwritten) (stored k more x v)))) (sym (among_low count cell low b a.unwritten))
-      (by s (is_among cell a.unwritten))
+      (by s (is_among_cells cell a.unwritten))
     where
       by : Stored fs a.memory (stored k a.memory x v) (stored k more x v) → (z : Bool) →
           Steadies b a (cond z (first_written k a cell x v) (after_store a a.unwritten (stored k a.memory x v))) (cond z (first_written k (with_block b a) cell x v) (after_store (with_block b a) (unwritten_with count b a.unwritten) (stored k more x v)))

@@ -15,10 +15,10 @@ use Rattle.combine_rules.proofs.Live.{View, runs, ends, joined, opened, view, ca
 use Rattle.combine_rules.proofs.Places.{scanned, merged, keeps_marks, is_code, at_start}
 use Rattle.combine_rules.proofs.Scan.{nothing_goes}
 use Rattle.combine_rules.proofs.Steadily.{AllSteady, is_lost, goes_ahead, all_steady}
-use Rattle.mach_ir.specs.Acts.{Around, Target, On, At, AtHandler, Act, Goes, Pushes, Jumps, Unwinds, Asks, Replaces, Ends, EndsRaising, Stuck, only_if, is_complete, with_block, fresh_block}
+use Rattle.mach_ir.specs.Acts.{Around, Target, On, At, AtHandler, Act, Goes, Pushes, Jumps, Unwinds, Asks, Replaces, Ends, EndsRaising, Stuck, stuck_unless, is_complete, with_block, fresh_block}
 use Rattle.mach_ir.specs.Keeps.{ValsWritten, Proper, Comes, ahead, Ahead, Trails, wrote_at}
-use Rattle.mach_ir.specs.Meaning.{State, File, put_all, clear, killed, values, past_frame, passes_frame, mach_act, code_at, wrote, on_act, on_values, step, run}
-use Rattle.mach_ir.specs.Runs.{Place, Step, Continues, Pays, Deepens, Waits, FinishesBy, Finishes, FinishesRaising, IsStuck, Tally}
+use Rattle.mach_ir.specs.Meaning.{State, File, put_all, clear_registers, killed, values, past_frame, passes_frame, mach_act, code_at, wrote, on_act, on_values, step, run_of_mach}
+use Rattle.mach_ir.specs.Runs.{ActivationSetting, Step, Continues, Pays, Deepens, Waits, FinishesBy, Finishes, FinishesRaising, IsStuck, Tally}
 use Rattle.mach_ir.proofs.Keeping.{level_trail, trails_then}
 use Rattle.mach_ir.specs.declared.blocks.NewBlock.{NewBlock}
 use Rattle.mach_ir.specs.declared.op.Access.TheVariants as access
@@ -59,11 +59,11 @@ steady_onward is_lost = lost
 steady_onward {x} (goes_ahead same shapes tries) =
     goes (record { tries = tries; more = []; blocks = shapes ∙ sym (append-nil (map shape_of x.memory.blocks)) })
 
-only_onward : {x : Around} (t : Bool) (vs : List Value) {after : Around} → Trails after x → Onward x (only_if t (Goes vs On after))
+only_onward : {x : Around} (t : Bool) (vs : List Value) {after : Around} → Trails after x → Onward x (stuck_unless t (Goes vs On after))
 only_onward true vs h = goes h
 only_onward false vs h = lost
 
-module _ (m : Mach) (is : IsCombinable m) (c : Place) where
+module _ (m : Mach) (is : IsCombinable m) (c : ActivationSetting) where
   abbrev q : Mach
   q = combined m
 
@@ -158,7 +158,7 @@ module _ (m : Mach) (is : IsCombinable m) (c : Place) where
 
   calm_act : (i : Instr) (next : List Instr) (a : File) (x : Around) → IsEven next → (act : Act) → Within i.op act →
       IsCalm (on_act c m i next a x act)
-  calm_act i next a x e (Goes vs to after) w = by (put_all c.setting.end i.results vs (clear (killed m i) a)) to
+  calm_act i next a x e (Goes vs to after) w = by (put_all c.setting.end i.results vs (clear_registers (killed m i) a)) to
     where
       by : (o : Option File) (to : Target) → IsCalm (wrote (code_at m.code next to) after o)
       by None to = tt
@@ -214,7 +214,7 @@ module _ (m : Mach) (is : IsCombinable m) (c : Place) where
           ap (λ o. on_values c m i next a x o) g ∙ ap (on_act c m i next (past_frame (passes_frame i.op) a) x) h ∙ k
 
       by_file : (rs : List Value) (after : Around) → mach_act c.setting i.op vs x ≡ Goes rs On after → Trails after x →
-          (o : Option File) → put_all c.setting.end i.results rs (clear (killed m i) (past_frame (passes_frame i.op) a)) ≡ o →
+          (o : Option File) → put_all c.setting.end i.results rs (clear_registers (killed m i) (past_frame (passes_frame i.op) a)) ≡ o →
           Answers c m q Trails Awaiting (wrote_at m (i ∷ next)) t (wrote next after o)
       by_file rs after h tr None k = stuck
       by_file rs after h tr (Some d) k =
@@ -234,7 +234,7 @@ module _ (m : Mach) (is : IsCombinable m) (c : Place) where
       by_act act h lost = subst (λ z. Answers c m q Trails Awaiting (wrote_at m (i ∷ next)) t (on_act c m i next (past_frame (passes_frame i.op) a) x z)) (sym h) stuck
       by_act act h (goes {vs = rs} {after = after} tr) =
           subst (λ z. Answers c m q Trails Awaiting (wrote_at m (i ∷ next)) t (on_act c m i next (past_frame (passes_frame i.op) a) x z)) (sym h)
-          (by_file rs after h tr (put_all c.setting.end i.results rs (clear (killed m i) (past_frame (passes_frame i.op) a))) refl)
+          (by_file rs after h tr (put_all c.setting.end i.results rs (clear_registers (killed m i) (past_frame (passes_frame i.op) a))) refl)
 
   -- ---- each step
 
@@ -273,7 +273,7 @@ module _ (m : Mach) (is : IsCombinable m) (c : Place) where
 
   -- Wherever the function is not stuck, the result comes to what it does, and has allocated no more.
   pub no_more : (a : File) (x : Around) (n : ℕ) (t : Tally) → Proper c m n (at m.code a x) t →
-      Comes Trails (run c m n (at m.code a x) t) c q (at q.code a x) t
+      Comes Trails (run_of_mach c m n (at m.code a x) t) c q (at q.code a x) t
   no_more a x n t proper =
       simulates c m q Trails Awaiting closed_trails n (at m.code a x) (at q.code a x) t
       (now

@@ -13,7 +13,7 @@ use Rattle.combine_rules.proofs.Registers.{Came, stays, opens, came}
 use Rattle.combine_rules.proofs.Sizes.{register_before}
 use Rattle.combine_rules.proofs.Trailing.{no_more}
 use Rattle.mach_ir.specs.Acts.{On, At}
-use Rattle.mach_ir.specs.Keeps.{IsNamedIn, NamesSymbol, NamesExternal, Keeps, Does}
+use Rattle.mach_ir.specs.Keeps.{IsNamedIn, NamesSymbol, NamesExternal, Keeps, MachSimulation}
 use Rattle.mach_ir.specs.Meaning.{after_label, from_handler, tries_at, passes_frame}
 use Rattle.mach_ir.specs.Walks.{OneOf, other, targets, may_raise, LiveAcross, IsRegister, Reached, at_entry, by_step, by_raise, goes, raises, NoAddrLive}
 use Rattle.mach_ir.specs.declared.blocks.NewBlock.{NewBlock}
@@ -170,7 +170,7 @@ module _ (m : Mach) where
                     none.none i next y (ap passes_frame al) r (register_before m r one) addr
                     (across_opened m is i next blocks e al r.number v)
 
-    does : Does m q
+    does : MachSimulation m q
     does c arguments memory doings s e =
         level.begins_at c m q refl
         (λ arguments memory a t n begun proper.

@@ -1,6 +1,6 @@
 -- Mach functions in which the allocations of each straight run are combined.
 use Rattle.std.specs.Prelude.{ℕ, ◌+◌, Bool, true, false, cond, nat_le, List, [], ◌∷◌, ◌++◌, Option, Some, None}
-use Rattle.mach_ir.specs.Blocks.{bytes_of}
+use Rattle.mach_ir.specs.Blocks.{total_block_bytes}
 use Rattle.mach_ir.specs.Forms.{reservation_most}
 use Rattle.mach_ir.specs.declared.blocks.NewBlock.{NewBlock}
 use Rattle.mach_ir.specs.declared.op.Access.TheVariants as access
@@ -19,13 +19,13 @@ use Rattle.mach_ir.specs.declared.mach.Mach.{Mach}
 -- whether an allocation of these blocks joins the open one
 abbrev pub joins : Option ℕ → List NewBlock → Bool
 joins None blocks = false
-joins (Some bytes) blocks = nat_le (bytes + bytes_of blocks) reservation_most
+joins (Some bytes) blocks = nat_le (bytes + total_block_bytes blocks) reservation_most
 
 -- the bytes of what is open after an allocation
 abbrev pub bytes_past : Option ℕ → List NewBlock → ℕ
-bytes_past None blocks = bytes_of blocks
+bytes_past None blocks = total_block_bytes blocks
 bytes_past (Some bytes) blocks =
-    cond (joins (Some bytes) blocks) (bytes + bytes_of blocks) (bytes_of blocks)
+    cond (joins (Some bytes) blocks) (bytes + total_block_bytes blocks) (total_block_bytes blocks)
 
 -- What is open after an instruction: none where it ends the straight run.
 abbrev pub open_past : Option ℕ → MachOp → Option ℕ
@@ -51,14 +51,14 @@ allocation blocks results =
     record { op = mach.Op (op.Access (access.Alloc blocks)); args = []; results = results }
 
 -- An allocation that joins the open one goes from the code. Another stays, with what goes to it.
-abbrev pub allocated : Bool → List NewBlock → List Reg → Scanned → Scanned
-allocated true blocks results after =
+abbrev pub allocation_scanned : Bool → List NewBlock → List Reg → Scanned → Scanned
+allocation_scanned true blocks results after =
     record {
       code = after.code;
       blocks = blocks ++ after.blocks;
       results = results ++ after.results;
     }
-allocated false blocks results after =
+allocation_scanned false blocks results after =
     record {
       code = allocation (blocks ++ after.blocks) (results ++ after.results) ∷ after.code;
       blocks = [];
@@ -68,12 +68,12 @@ allocated false blocks results after =
 -- an instruction of this operation, before what a scan makes of the code after it
 abbrev pub scanned_at : Option ℕ → Instr → MachOp → Scanned → Scanned
 scanned_at held i (mach.Op (op.Access (access.Alloc blocks))) after =
-    allocated (joins held blocks) blocks i.results after
+    allocation_scanned (joins held blocks) blocks i.results after
 scanned_at held i f after = record after { code = i ∷ after.code }
 
-abbrev pub scan : Option ℕ → List Instr → Scanned
-scan held [] = record { code = []; blocks = []; results = [] }
-scan held (i ∷ is) = scanned_at held i i.op (scan (open_past held i.op) is)
+abbrev pub scan_for_combining : Option ℕ → List Instr → Scanned
+scan_for_combining held [] = record { code = []; blocks = []; results = [] }
+scan_for_combining held (i ∷ is) = scanned_at held i i.op (scan_for_combining (open_past held i.op) is)
 
 -- ---- combined allocation
 
@@ -81,4 +81,4 @@ scan held (i ∷ is) = scanned_at held i i.op (scan (open_past held i.op) is)
 -- together take no more than a reservation has. The blocks and results of the later one come after
 -- those of the first.
 abbrev pub combined : Mach → Mach
-combined m = record m { code = (scan None m.code).code }
+combined m = record m { code = (scan_for_combining None m.code).code }

@@ -38,7 +38,7 @@ pub record IsNoLarger (m q : Mach) : Type 0 where
   pub open_registers : (k : ℕ) → OpenAtMost m k → OpenAtMost q k
 
 -- what a function keeps whose allocations are combined
-pub record IsKept (m q : Mach) : Type 0 where
+pub record IsCombineKept (m q : Mach) : Type 0 where
   -- it does the same, and no addr is live after a frame point where none was
   pub keeps : Keeps m q
   pub formed : WellFormed q

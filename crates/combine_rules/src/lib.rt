@@ -12,8 +12,8 @@
 ghost use Rattle.std.specs.Prelude.{◌<◌, ◌≤◌, ◌+◌, ◌⊎◌, List, Contains};
 ghost use Rattle.combine_rules.specs.Combined.{combined};
 ghost use Rattle.combine_rules.specs.Neighbours.{Allocates, AreNeighbours};
-ghost use Rattle.combine_rules.specs.Kept.{IsCombinable, IsNoLarger, IsKept};
-ghost use Rattle.mach_ir.specs.Blocks.{bytes_of};
+ghost use Rattle.combine_rules.specs.Kept.{IsCombinable, IsNoLarger, IsCombineKept};
+ghost use Rattle.mach_ir.specs.Blocks.{total_block_bytes};
 ghost use Rattle.mach_ir.specs.Forms.{reservation_most};
 ghost use Rattle.mach_ir.specs.declared.blocks.NewBlock.{NewBlock};
 ghost use Rattle.mach_ir.specs.declared.mach.Instr.{Instr};
@@ -23,13 +23,13 @@ ghost use Rattle.mach_ir.specs.declared.mach.Mach.{Mach};
 pub fn combined_neighbours()
     ensures { (m : Mach) (blocks others : List NewBlock) →
         AreNeighbours (combined m) blocks others →
-        reservation_most < bytes_of blocks + bytes_of others }
+        reservation_most < total_block_bytes blocks + total_block_bytes others }
 {}
 
 /// Law: an allocation of the result takes no more than one reservation, or it is one of the function.
 pub fn combined_fits()
     ensures { (m : Mach) (i : Instr) (blocks : List NewBlock) → Contains (combined m).code i →
-        Allocates i blocks → (bytes_of blocks ≤ reservation_most)
+        Allocates i blocks → (total_block_bytes blocks ≤ reservation_most)
         ⊎ ((j : Instr) × Contains m.code j × Allocates j blocks) }
 {}
 
@@ -41,5 +41,5 @@ pub fn combined_is_no_larger()
 
 /// Law: a function whose allocations are combined does what it did, and is kept.
 pub fn combined_is_kept()
-    ensures { (m : Mach) → IsCombinable m → IsKept m (combined m) }
+    ensures { (m : Mach) → IsCombinable m → IsCombineKept m (combined m) }
 {}

@@ -9,11 +9,11 @@ use Rattle.clap.specs.declared.builder.command.Command.{Command}
 use Rattle.clap.specs.declared.builder.command.Command.TheViews.{out-Command}
 use Rattle.command_line.specs.declared.form.CommandWord.{CommandWord}
 use Rattle.command_line.specs.declared.form.Slot.{Slot}
-use Rattle.command_line.specs.Words.{word_of}
+use Rattle.command_line.specs.Words.{command_text}
 use Rattle.command_line.specs.Program.{slot_rule}
 
 abbrev pub rules_app : CommandWord → List Rule → App
-rules_app command rules = record { top = record (new_shape (word_of command)) { rules = rules }; subs = [] }
+rules_app command rules = record { top = record (new_shape (command_text command)) { rules = rules }; subs = [] }
 
 abbrev pub slots_app : CommandWord → List Slot → App
 slots_app command slots = rules_app command (map slot_rule slots)

@@ -6,7 +6,7 @@ use Rattle.bs_words.specs.Word.{sub_word}
 use Rattle.rv_machine.specs.declared.setup.Arg.{Arg}
 use Rattle.rv_machine.specs.declared.setup.Arg.TheVariants.{Word, Symbol}
 use Rattle.bs_words.specs.Symbol.{IsSymbol}
-use Rattle.command_line.specs.Values.{Nothing, number_of, IsNumber, IsItem, number, negative, symbol, AreItems, last, more, IsItems, none, some}
+use Rattle.command_line.specs.Values.{Nothing, decimal_number, IsNumber, IsItem, number, negative, symbol, AreArguments, last, more, IsItems, none, some}
 
 abbrev NoComma : List ℕ → Type 0
 NoComma text = All (λ b. b ≢ 44) text
@@ -28,7 +28,7 @@ number-head b text digits n is e =
     All-head (λ b. (48 ≤ b) × (b ≤ 57)) b digits (All-same (λ b. (48 ≤ b) × (b ≤ 57)) (b ∷ digits) text (sym e) is.digits)
 
 same_number : (text digits : List ℕ) (n m : ℕ) → text ≡ digits → IsNumber text n → IsNumber digits m → n ≡ m
-same_number text digits n m e a b = a.value ∙ (ap number_of e ∙ sym b.value)
+same_number text digits n m e a b = a.value ∙ (ap decimal_number e ∙ sym b.value)
 
 pub tail-same : (a b : ℕ) (xs ys : List ℕ) → a ∷ xs ≡ b ∷ ys → (a ≡ b) × (xs ≡ ys)
 tail-same a b xs ys e = (cc, cc)
@@ -118,15 +118,15 @@ record First (bytes : List ℕ) (items : List Arg) : Type 0 where
   others : List Arg
   bytes_are : bytes ≡ text ++ (44 ∷ rest)
   is : IsItem text item
-  others_are : AreItems rest others
+  others_are : AreArguments rest others
   all : items ≡ item ∷ others
 
-cases : (bytes : List ℕ) (items : List Arg) → AreItems bytes items → Alone bytes items ⊎ First bytes items
+cases : (bytes : List ℕ) (items : List Arg) → AreArguments bytes items → Alone bytes items ⊎ First bytes items
 cases _ _ (last text item is) = inl (record { item = item; is = is; all = refl })
 cases _ _ (more text rest item items is r) =
     inr (record { text = text; rest = rest; item = item; others = items; bytes_are = refl; is = is; others_are = r; all = refl })
 
-items-unique : (bytes : List ℕ) (a b : List Arg) → AreItems bytes a → AreItems bytes b → a ≡ b
+items-unique : (bytes : List ℕ) (a b : List Arg) → AreArguments bytes a → AreArguments bytes b → a ≡ b
 items-unique _ _ b (last text item is) other = elim (cases text b other) [
   | inl one ↦ ap (λ x. x ∷ []) (item-unique text item one.item is one.is) ∙ sym one.all
   | inr first ↦ absurd (not_cut text first.text first.rest (item-no_comma text item is) first.bytes_are)
@@ -136,14 +136,14 @@ items-unique _ _ b (more text rest item items is r) other = elim (cases (text ++
   | inr first ↦
       let same = cut_once text first.text rest first.rest (item-no_comma text item is) (item-no_comma first.text first.item first.is) first.bytes_are in
       let P : List ℕ → Type 0 = λ t. IsItem t first.item in
-      let Q : List ℕ → Type 0 = λ t. AreItems t first.others in
+      let Q : List ℕ → Type 0 = λ t. AreArguments t first.others in
       let x : item ≡ first.item = item-unique text item first.item is (subst P (sym same.0) first.is) in
       let xs : items ≡ first.others = items-unique rest items first.others r (subst Q (sym same.1) first.others_are) in
       let joined : item ∷ items ≡ first.item ∷ first.others = cc in
       joined ∙ sym first.all
 ]
 
-not_empty : (bytes : List ℕ) (items : List Arg) → AreItems bytes items → bytes ≡ [] → ⊥
+not_empty : (bytes : List ℕ) (items : List Arg) → AreArguments bytes items → bytes ≡ [] → ⊥
 not_empty bytes items are e = elim (cases bytes items are) [
   | inl one ↦ elim one.is [
     | number n is fits f ↦ let h = is.some in let l = ap length e in omega arith
@@ -164,8 +164,8 @@ list-unique bytes a b (some are) (some are') = items-unique bytes a b are are'
 -- After the items that are done the rest of the bytes is left: its items go on with them, and where the
 -- whole is items so is the rest.
 pub record GoesOn (bytes : List ℕ) (done : List Arg) (rest : List ℕ) : Type 0 where
-  pub forth : (items : List Arg) → AreItems rest items → AreItems bytes (done ++ items)
-  pub back : (all : List Arg) → AreItems bytes all → (items : List Arg) × AreItems rest items
+  pub forth : (items : List Arg) → AreArguments rest items → AreArguments bytes (done ++ items)
+  pub back : (all : List Arg) → AreArguments bytes all → (items : List Arg) × AreArguments rest items
 
 pub start : (bytes : List ℕ) → GoesOn bytes [] bytes
 start bytes = record { forth = λ items are. are; back = λ all are. (all, are) }
@@ -177,13 +177,13 @@ step bytes done rest text others item on cut is =
     let on : GoesOn bytes done (text ++ (44 ∷ others)) = subst P cut on in
     record {
       forth = λ items are.
-          let Q : List Arg → Type 0 = λ xs. AreItems bytes xs in
+          let Q : List Arg → Type 0 = λ xs. AreArguments bytes xs in
           subst Q (sym (append_assoc done (item ∷ []) items)) (on.forth (item ∷ items) (more text others item items is are));
       back = λ all are. let left = on.back all are in elim (cases (text ++ (44 ∷ others)) left.0 left.1) [
         | inl one ↦ absurd (not_cut (text ++ (44 ∷ others)) text others (item-no_comma (text ++ (44 ∷ others)) one.item one.is) refl)
         | inr first ↦
             let same = cut_once text first.text others first.rest (item-no_comma text item is) (item-no_comma first.text first.item first.is) first.bytes_are in
-            let R : List ℕ → Type 0 = λ t. AreItems t first.others in
+            let R : List ℕ → Type 0 = λ t. AreArguments t first.others in
             (first.others, subst R (sym same.1) first.others_are)
       ];
     }

@@ -13,7 +13,7 @@ use Rattle.clap.proofs.WalkLemmas.{first_value-rows}
 use Rattle.command_line.specs.declared.form.CommandWord.{CommandWord}
 use Rattle.command_line.specs.declared.form.Slot.{Slot}
 use Rattle.command_line.specs.Program.{HasText, id_of, program}
-use Rattle.command_line.specs.Words.{word_of, slots_of, IsForm}
+use Rattle.command_line.specs.Words.{command_text, slots_of_command, IsForm}
 use Rattle.command_line.proofs.Walked.{are_taken}
 
 none_is : {X : Type 0} (x : X) → None ≡ Some x → ⊥
@@ -31,9 +31,9 @@ name_of None = refl
 name_of (Some b) = refl
 
 -- the matches of these words are of the command and its rows
-module _ (words : List Text) (command : CommandWord) (others : List Text) (begins : words ≡ word_of command ∷ others) (form : IsForm command others)
+module _ (words : List Text) (command : CommandWord) (others : List Text) (begins : words ≡ command_text command ∷ others) (form : IsForm command others)
     (m : ArgMatches) (is : subcommand_rows_of m ≡ subcommand_of program words) where
-  rows_are : subcommand_rows_of m ≡ Some (word_of command, (are_taken command others form).rows)
+  rows_are : subcommand_rows_of m ≡ Some (command_text command, (are_taken command others form).rows)
   rows_are = is ∙ (ap (subcommand_of program) begins ∙ (are_taken command others form).entered)
 
   pub entered : has_subcommand m ≡ false → ⊥
@@ -41,13 +41,13 @@ module _ (words : List Text) (command : CommandWord) (others : List Text) (begin
       let there : has_subcommand m ≡ is_some (subcommand_rows_of m) = same (out-ArgMatches m).subcommand in
       true≢false (sym (there ∙ ap is_some rows_are) ∙ none)
 
-  pub named : (name : Text) → Some name ≡ subcommand_name_of m → name ≡ word_of command
+  pub named : (name : Text) → Some name ≡ subcommand_name_of m → name ≡ command_text command
   named name e =
       let names : subcommand_name_of m ≡ option_map (λ (p : Text × List Row). p.0) (subcommand_rows_of m) = name_of (out-ArgMatches m).subcommand in
-      some_is name (word_of command) (e ∙ (names ∙ ap (option_map (λ (p : Text × List Row). p.0)) rows_are))
+      some_is name (command_text command) (e ∙ (names ∙ ap (option_map (λ (p : Text × List Row). p.0)) rows_are))
 
   pub texts_are : (given : ArgMatches) → Some (rows_of (found_of given)) ≡ option_map (λ (p : Text × List Row). p.1) (subcommand_rows_of m)
-      → (slot : Slot) → Contains (slots_of command) slot → HasText others slot (first_value (found_of given) (id_of slot))
+      → (slot : Slot) → Contains (slots_of_command command) slot → HasText others slot (first_value (found_of given) (id_of slot))
   texts_are given e slot there =
       let rows : rows_of (found_of given) ≡ (are_taken command others form).rows =
       some_is _ _ (e ∙ ap (option_map (λ (p : Text × List Row). p.1)) rows_are) in

@@ -13,11 +13,11 @@ use Rattle.command_line.specs.declared.form.Slot.TheVariants.{Plain}
 use Rattle.std.specs.Option.{ok_or}
 use Rattle.command_line.specs.declared.command.WordsError.{WordsError}
 use Rattle.command_line.specs.declared.command.WordsError.TheVariants.{ValueText}
-use Rattle.command_line.specs.Command.{Sets, given, left_out, Tells}
-use Rattle.command_line.specs.Program.{Stands, word_gives, word_lacks, Defaults, default_texts}
+use Rattle.command_line.specs.Command.{Sets, given, left_out, TellsSlot}
+use Rattle.command_line.specs.Program.{IsSlotText, word_gives, word_lacks, Defaults, default_texts}
 use Rattle.bs_words.specs.Symbol.{IsSymbol}
 use Rattle.command_line.specs.Values.{Nothing}
-use Rattle.command_line.specs.Words.{prefix_of, fills, Gives}
+use Rattle.command_line.specs.Words.{prefix_of, fills_slot, GivesSlot}
 
 one-if : (b : Bool) → b ≡ true → ◌≡◌ {A = ℕ} (cond b 1 0) 1
 one-if b e = rw e refl
@@ -53,20 +53,20 @@ once p (x ∷ xs) a b few ca cb pa pb =
       ]
     ]
 
-pub gives-unique : (slot : Slot) (others : List (List ℕ)) (v w : List ℕ) → count_by (fills slot) others ≤ 1
-    → Gives others slot v → Gives others slot w → v ≡ w
+pub gives-unique : (slot : Slot) (others : List (List ℕ)) (v w : List ℕ) → count_by (fills_slot slot) others ≤ 1
+    → GivesSlot others slot v → GivesSlot others slot w → v ≡ w
 gives-unique slot others v w few gv gw =
-    append_cancel_left (prefix_of slot) v w (once (fills slot) others _ _ few gv.0 gw.0 gv.1 gw.1)
+    append_cancel_left (prefix_of slot) v w (once (fills_slot slot) others _ _ few gv.0 gw.0 gv.1 gw.1)
 
 pub sets_nothing : {X : Type 0} (others : List (List ℕ)) (slot : Slot) (Reads : List ℕ → X → Type 0) (default : X) (v : List ℕ)
-    → count_by (fills slot) others ≤ 1 → Gives others slot v → Nothing (Reads v)
+    → count_by (fills_slot slot) others ≤ 1 → GivesSlot others slot v → Nothing (Reads v)
     → Nothing (Sets others slot Reads default)
 sets_nothing others slot Reads default v few g refuses x (given w gw r) =
     let P : List ℕ → Type 0 = λ u. Reads u x in refuses x (subst P (gives-unique slot others w v few gw g) r)
 sets_nothing others slot Reads default v few g refuses x (left_out none e) = none v g
 
 pub sets-unique : {X : Type 0} (others : List (List ℕ)) (slot : Slot) (Reads : List ℕ → X → Type 0) (default : X)
-    → count_by (fills slot) others ≤ 1 → ((v : List ℕ) (x y : X) → Reads v x → Reads v y → x ≡ y)
+    → count_by (fills_slot slot) others ≤ 1 → ((v : List ℕ) (x y : X) → Reads v x → Reads v y → x ≡ y)
     → (x y : X) → Sets others slot Reads default x → Sets others slot Reads default y → x ≡ y
 sets-unique others slot Reads default few one x y (given v gv rv) (given w gw rw') =
     let P : List ℕ → Type 0 = λ u. Reads u y in one v x y rv (subst P (gives-unique slot others w v few gw gv) rw')
@@ -92,10 +92,10 @@ pub starts_cut : (start text : List ℕ) → starts_with nat_eq text start ≡ t
 starts_cut start text e = (drop (length start) text, (starts_is Decides-eqb text start _ refl).0 e)
 
 -- what taking an option's name off a word says of the slot
-pub stripped : (slot : Slot) (s p : List ℕ) (r : Option (Bor (List ℕ))) → fills slot s ≡ starts_with nat_eq s p → prefix_of slot ≡ p
+pub stripped : (slot : Slot) (s p : List ℕ) (r : Option (Bor (List ℕ))) → fills_slot slot s ≡ starts_with nat_eq s p → prefix_of slot ≡ p
     → MatchOption r (pointwise nat_eq (take (length p) s) p ≡ false)
     (λ x. (pointwise nat_eq (take (length p) s) p ≡ true) × (x.now ≡ drop (length p) s) × (length x.now + length p ≡ length s))
-    → MatchOption r (fills slot s ≡ false) (λ value. (fills slot s ≡ true) × (s ≡ prefix_of slot ++ value.now))
+    → MatchOption r (fills_slot slot s ≡ false) (λ value. (fills_slot slot s ≡ true) × (s ≡ prefix_of slot ++ value.now))
 stripped slot s p (Some x) f q m =
     let is = strip_prefix_is Decides-eqb s p (Some x) m in
     (f ∙ (starts_is Decides-eqb s p _ refl).1 x.now is, is ∙ ap (λ t. t ++ x.now) (sym q))
@@ -105,18 +105,18 @@ stripped slot s p None f q m = elim (cases_Bool (starts_with nat_eq s p)) [
 ]
 
 -- a word that has to be there gives its value
-pub wanted_given : (slot : Slot) (others : List (List ℕ)) → 1 ≤ count_by (fills slot) others
-    → ((text : List ℕ) → fills slot text ≡ true → (value : List ℕ) × (text ≡ prefix_of slot ++ value))
-    → ((value : List ℕ) → Gives others slot value → ⊥) → ⊥
+pub wanted_given : (slot : Slot) (others : List (List ℕ)) → 1 ≤ count_by (fills_slot slot) others
+    → ((text : List ℕ) → fills_slot slot text ≡ true → (value : List ℕ) × (text ≡ prefix_of slot ++ value))
+    → ((value : List ℕ) → GivesSlot others slot value → ⊥) → ⊥
 wanted_given slot others there cut none =
-    let found = some_passes (fills slot) others there in
+    let found = some_passes (fills_slot slot) others there in
     let parts = cut found.0 found.2 in
-    let P : List ℕ → Type 0 = λ text. Contains others text × (fills slot text ≡ true) in
+    let P : List ℕ → Type 0 = λ text. Contains others text × (fills_slot slot text ≡ true) in
     none parts.0 (subst P parts.1 (found.1, found.2))
 
 -- the plain word is the one that is not refused
 pub plain_nothing : (others : List (List ℕ)) (v : List ℕ) (P : List ℕ → Type 0)
-    → count_by (fills Plain) others ≤ 1 → Gives others Plain v → (P v → ⊥) → Nothing (λ w. Gives others Plain w × P w)
+    → count_by (fills_slot Plain) others ≤ 1 → GivesSlot others Plain v → (P v → ⊥) → Nothing (λ w. GivesSlot others Plain w × P w)
 plain_nothing others v P few g refuses w both = refuses (subst P (gives-unique Plain others w v few both.0 g) both.1)
 
 first_same : (v w : List ℕ) → v ∷ [] ≡ w ∷ [] → v ≡ w
@@ -124,21 +124,21 @@ first_same v w e = cc
 
 -- what a value that was read sets, and that one that was refused sets nothing
 pub stands_sets : {X : Type 0} (others : List (List ℕ)) (slot : Slot) (Reads : List ℕ → X → Type 0) (default : X) (v : List ℕ)
-    → Defaults slot Reads default → Stands others slot v → (x : X) → Reads v x → Sets others slot Reads default x
+    → Defaults slot Reads default → IsSlotText others slot v → (x : X) → Reads v x → Sets others slot Reads default x
 stands_sets others slot Reads default v d (word_gives g) x reads = given v g reads
 stands_sets others slot Reads default v d (word_lacks none is) x reads =
     let same : v ≡ d.text = first_same v d.text (sym is ∙ d.is) in
     left_out none (d.alone x (subst (λ t. Reads t x) same reads))
 
 pub stands_nothing : {X : Type 0} (others : List (List ℕ)) (slot : Slot) (Reads : List ℕ → X → Type 0) (default : X) (v : List ℕ)
-    → count_by (fills slot) others ≤ 1 → Defaults slot Reads default → Stands others slot v → Nothing (Reads v) → Nothing (Sets others slot Reads default)
+    → count_by (fills_slot slot) others ≤ 1 → Defaults slot Reads default → IsSlotText others slot v → Nothing (Reads v) → Nothing (Sets others slot Reads default)
 stands_nothing others slot Reads default v few d (word_gives g) refuses = sets_nothing others slot Reads default v few g refuses
 stands_nothing others slot Reads default v few d (word_lacks none is) refuses =
     let same : d.text ≡ v = first_same d.text v (sym d.is ∙ is) in
     absurd (refuses default (subst (λ t. Reads t default) same d.reads))
 
 pub sets_value : {X : Type 0} (others : List (List ℕ)) (slot : Slot) (Reads : List ℕ → X → Type 0) (default : X) (v : List ℕ)
-    → Defaults slot Reads default → Stands others slot v → (o : Option X) (r : Result X WordsError) → r ≡ ok_or o ValueText
+    → Defaults slot Reads default → IsSlotText others slot v → (o : Option X) (r : Result X WordsError) → r ≡ ok_or o ValueText
     → MatchOption o (Nothing (Reads v)) (λ x. Reads v x) → IfOk r (λ x. Sets others slot Reads default x)
 sets_value {X} others slot Reads default v d g (Some x) r e reads =
     let P : Result X WordsError → Type 0 = λ t. IfOk t (λ y. Sets others slot Reads default y) in
@@ -147,55 +147,55 @@ sets_value {X} others slot Reads default v d g None r e reads =
     let P : Result X WordsError → Type 0 = λ t. IfOk t (λ y. Sets others slot Reads default y) in subst P (sym e) tt
 
 pub sets_bad : {X : Type 0} (others : List (List ℕ)) (slot : Slot) (Reads : List ℕ → X → Type 0) (default : X) (v : List ℕ)
-    → count_by (fills slot) others ≤ 1 → Defaults slot Reads default → Stands others slot v → (o : Option X) (r : Result X WordsError) → r ≡ ok_or o ValueText
+    → count_by (fills_slot slot) others ≤ 1 → Defaults slot Reads default → IsSlotText others slot v → (o : Option X) (r : Result X WordsError) → r ≡ ok_or o ValueText
     → MatchOption o (Nothing (Reads v)) (λ x. Reads v x) → r ≡ Err ValueText → Nothing (Sets others slot Reads default)
 sets_bad {X} others slot Reads default v few d g (Some x) r e reads bad =
     let clash : Ok x ≡ Err ValueText = sym e ∙ bad in cc
 sets_bad others slot Reads default v few d g None r e reads bad = stands_nothing others slot Reads default v few d g reads
 
 pub sets_each : {X Y E : Type 0} (others : List (List ℕ)) (slot : Slot) (Reads : List ℕ → X → Type 0) (default : X) (v : List ℕ) (f : Y → X)
-    → Defaults slot Reads default → Stands others slot v → (r : Result Y E) → IfOk r (λ y. Reads v (f y)) → IfOk r (λ y. Sets others slot Reads default (f y))
+    → Defaults slot Reads default → IsSlotText others slot v → (r : Result Y E) → IfOk r (λ y. Reads v (f y)) → IfOk r (λ y. Sets others slot Reads default (f y))
 sets_each others slot Reads default v f d g (Ok y) reads = stands_sets others slot Reads default v d g (f y) reads
 sets_each others slot Reads default v f d g (Err e) reads = tt
 
 -- where there is no default, a word gives the text
-pub stands_given : (others : List (List ℕ)) (slot : Slot) (v : List ℕ) → default_texts slot ≡ [] → Stands others slot v → Gives others slot v
+pub stands_given : (others : List (List ℕ)) (slot : Slot) (v : List ℕ) → default_texts slot ≡ [] → IsSlotText others slot v → GivesSlot others slot v
 stands_given others slot v empty (word_gives g) = g
 stands_given others slot v empty (word_lacks none is) = let clash : v ∷ [] ≡ [] = sym is ∙ empty in cc
 
-pub named_value : {E : Type 0} (others : List (List ℕ)) (v : List ℕ) → Gives others Plain v → (r : Result (List ℕ) E)
-    → IfOk r (λ bytes. (bytes ≡ v) × IsSymbol v) → IfOk r (λ name. Gives others Plain name × IsSymbol name)
-named_value others v g (Ok bytes) is = (subst (Gives others Plain) (sym is.0) g, subst IsSymbol (sym is.0) is.1)
+pub named_value : {E : Type 0} (others : List (List ℕ)) (v : List ℕ) → GivesSlot others Plain v → (r : Result (List ℕ) E)
+    → IfOk r (λ bytes. (bytes ≡ v) × IsSymbol v) → IfOk r (λ name. GivesSlot others Plain name × IsSymbol name)
+named_value others v g (Ok bytes) is = (subst (GivesSlot others Plain) (sym is.0) g, subst IsSymbol (sym is.0) is.1)
 named_value others v g (Err e) is = tt
 
 -- the same of what a word has to tell
 
 pub tells-unique : {X : Type 0} (others : List (List ℕ)) (slot : Slot) (Reads : List ℕ → X → Type 0)
-    → count_by (fills slot) others ≤ 1 → ((v : List ℕ) (x y : X) → Reads v x → Reads v y → x ≡ y)
-    → (x y : X) → Tells others slot Reads x → Tells others slot Reads y → x ≡ y
+    → count_by (fills_slot slot) others ≤ 1 → ((v : List ℕ) (x y : X) → Reads v x → Reads v y → x ≡ y)
+    → (x y : X) → TellsSlot others slot Reads x → TellsSlot others slot Reads y → x ≡ y
 tells-unique others slot Reads few one x y a b =
     let P : List ℕ → Type 0 = λ u. Reads u y in
     one a.value x y a.reads (subst P (gives-unique slot others b.value a.value few b.gives a.gives) b.reads)
 
 pub tells_nothing : {X : Type 0} (others : List (List ℕ)) (slot : Slot) (Reads : List ℕ → X → Type 0) (v : List ℕ)
-    → count_by (fills slot) others ≤ 1 → Gives others slot v → Nothing (Reads v)
-    → Nothing (Tells others slot Reads)
+    → count_by (fills_slot slot) others ≤ 1 → GivesSlot others slot v → Nothing (Reads v)
+    → Nothing (TellsSlot others slot Reads)
 tells_nothing others slot Reads v few g refuses x tells =
     let P : List ℕ → Type 0 = λ u. Reads u x in
     refuses x (subst P (gives-unique slot others tells.value v few tells.gives g) tells.reads)
 
 pub tells_value : {X : Type 0} (others : List (List ℕ)) (slot : Slot) (Reads : List ℕ → X → Type 0) (v : List ℕ)
-    → Gives others slot v → (o : Option X) (r : Result X WordsError) → r ≡ ok_or o ValueText
-    → MatchOption o (Nothing (Reads v)) (λ x. Reads v x) → IfOk r (λ x. Tells others slot Reads x)
+    → GivesSlot others slot v → (o : Option X) (r : Result X WordsError) → r ≡ ok_or o ValueText
+    → MatchOption o (Nothing (Reads v)) (λ x. Reads v x) → IfOk r (λ x. TellsSlot others slot Reads x)
 tells_value {X} others slot Reads v g (Some x) r e reads =
-    let P : Result X WordsError → Type 0 = λ t. IfOk t (λ y. Tells others slot Reads y) in
+    let P : Result X WordsError → Type 0 = λ t. IfOk t (λ y. TellsSlot others slot Reads y) in
     subst P (sym e) (record { value = v; gives = g; reads = reads })
 tells_value {X} others slot Reads v g None r e reads =
-    let P : Result X WordsError → Type 0 = λ t. IfOk t (λ y. Tells others slot Reads y) in subst P (sym e) tt
+    let P : Result X WordsError → Type 0 = λ t. IfOk t (λ y. TellsSlot others slot Reads y) in subst P (sym e) tt
 
 pub tells_bad : {X : Type 0} (others : List (List ℕ)) (slot : Slot) (Reads : List ℕ → X → Type 0) (v : List ℕ)
-    → count_by (fills slot) others ≤ 1 → Gives others slot v → (o : Option X) (r : Result X WordsError) → r ≡ ok_or o ValueText
-    → MatchOption o (Nothing (Reads v)) (λ x. Reads v x) → r ≡ Err ValueText → Nothing (Tells others slot Reads)
+    → count_by (fills_slot slot) others ≤ 1 → GivesSlot others slot v → (o : Option X) (r : Result X WordsError) → r ≡ ok_or o ValueText
+    → MatchOption o (Nothing (Reads v)) (λ x. Reads v x) → r ≡ Err ValueText → Nothing (TellsSlot others slot Reads)
 tells_bad {X} others slot Reads v few g (Some x) r e reads bad =
     let clash : Ok x ≡ Err ValueText = sym e ∙ bad in cc
 tells_bad others slot Reads v few g None r e reads bad = tells_nothing others slot Reads v few g reads

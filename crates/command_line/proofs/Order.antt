@@ -6,19 +6,19 @@ use Rattle.std.proofs.lemmas.List.Sorted.{IsPermutation-sym, All-permutation, Co
 use Rattle.command_line.specs.declared.form.CommandWord.{CommandWord}
 use Rattle.command_line.specs.declared.form.Slot.{Slot}
 use Rattle.command_line.specs.declared.form.Slot.TheVariants.{Plain, Args, Answers, Steps, Stack, Heap, Moves, Fuel, Jobs, Seed, Functions}
-use Rattle.command_line.specs.Command.{CommandTree, RunTree, CheckTree, Sets, given, left_out, Tells, IsRun, IsCheck, Means, IsCommand, compile, run, check, list, soak, default_jobs, default_steps, default_size, default_moves}
+use Rattle.command_line.specs.Command.{CommandTree, RunTree, CheckTree, Sets, given, left_out, TellsSlot, IsRun, IsCheck, Means, IsCommand, compile, run, check, list, soak, default_jobs, default_steps, default_size, default_moves}
 use Rattle.command_line.specs.Values.{IsSteps, IsSize, IsMoves, IsItems, IsCounted, IsSeed, IsStage, most_jobs, most_functions}
-use Rattle.command_line.specs.Words.{word_of, slots_of, wanted_of, fills, IsForm, Gives}
+use Rattle.command_line.specs.Words.{command_text, slots_of_command, wanted_of, fills_slot, IsForm, GivesSlot}
 use Rattle.command_line.proofs.Unique.{parts}
 
 form-order : (command : CommandWord) (xs ys : List (List ℕ)) → IsPermutation xs ys → IsForm command xs → IsForm command ys
 form-order command xs ys p form = record {
-  each = All-permutation (λ text. IsTrue (list_any (λ slot. fills slot text) (slots_of command))) xs ys p form.each;
-  once = λ k d h. omega (arith, sum_by-IsPermutation (λ x. cond (fills (get_or (slots_of command) k d) x) 1 0) xs ys p, form.once k d h);
-  there = λ k d h. omega (arith, sum_by-IsPermutation (λ x. cond (fills (get_or (wanted_of command) k d) x) 1 0) xs ys p, form.there k d h);
+  each = All-permutation (λ text. IsTrue (list_any (λ slot. fills_slot slot text) (slots_of_command command))) xs ys p form.each;
+  once = λ k d h. omega (arith, sum_by-IsPermutation (λ x. cond (fills_slot (get_or (slots_of_command command) k d) x) 1 0) xs ys p, form.once k d h);
+  there = λ k d h. omega (arith, sum_by-IsPermutation (λ x. cond (fills_slot (get_or (wanted_of command) k d) x) 1 0) xs ys p, form.there k d h);
 }
 
-gives-order : (xs ys : List (List ℕ)) (slot : Slot) (value : List ℕ) → IsPermutation xs ys → Gives xs slot value → Gives ys slot value
+gives-order : (xs ys : List (List ℕ)) (slot : Slot) (value : List ℕ) → IsPermutation xs ys → GivesSlot xs slot value → GivesSlot ys slot value
 gives-order xs ys slot value p g = (Contains-permutation xs ys _ p g.0, g.1)
 
 sets-order : {X : Type 0} (xs ys : List (List ℕ)) (slot : Slot) (Reads : List ℕ → X → Type 0) (default x : X)
@@ -49,7 +49,7 @@ check-order xs ys c p is = record {
 }
 
 tells-order : {X : Type 0} (xs ys : List (List ℕ)) (slot : Slot) (Reads : List ℕ → X → Type 0) (x : X)
-    → IsPermutation xs ys → Tells xs slot Reads x → Tells ys slot Reads x
+    → IsPermutation xs ys → TellsSlot xs slot Reads x → TellsSlot ys slot Reads x
 tells-order xs ys slot Reads x p is = record { value = is.value; gives = gives-order xs ys slot is.value p is.gives; reads = is.reads }
 
 means-order : (xs ys : List (List ℕ)) (command : CommandWord) (tree : CommandTree) → IsPermutation xs ys → Means xs command tree → Means ys command tree
@@ -64,7 +64,7 @@ means-order xs ys _ _ p (soak seed functions s f) =
 pub order_free : (first : List ℕ) (xs ys : List (List ℕ)) (command : CommandTree) → IsPermutation xs ys
     → IsCommand (first ∷ xs) command → IsCommand (first ∷ ys) command
 order_free first xs ys tree p is =
-    let both = parts first (word_of is.command) xs is.others is.begins in
+    let both = parts first (command_text is.command) xs is.others is.begins in
     let P : List (List ℕ) → Type 0 = λ o. IsForm is.command o in
     let Q : List (List ℕ) → Type 0 = λ o. Means o is.command tree in
     record {

@@ -11,11 +11,11 @@ use Rattle.stages.specs.declared.stage.Stage.{Stage}
 use Rattle.stages.specs.declared.stage.Stage.TheVariants as stage
 use Rattle.command_line.specs.declared.command.Moves.{Moves}
 use Rattle.command_line.specs.declared.command.Moves.TheVariants.{Seed}
-use Rattle.command_line.specs.Command.{CommandTree, CompileCommand, RunCommand, CheckCommand, ListCommand, RunTree, CheckTree, IsRun, IsCheck, Means, IsCommand, compile, run, check, list, soak, default_jobs, default_steps, default_size, default_moves, Sets, given, left_out, Tells, WithinLimits, WithinFuel, KeepsLimits}
+use Rattle.command_line.specs.Command.{CommandTree, CompileCommand, RunCommand, CheckCommand, ListCommand, RunTree, CheckTree, IsRun, IsCheck, Means, IsCommand, compile, run, check, list, soak, default_jobs, default_steps, default_size, default_moves, Sets, given, left_out, TellsSlot, WithinLimits, WithinFuel, KeepsLimits}
 use Rattle.rv_machine.specs.Places.{most_room}
-use Rattle.command_line.specs.Values.{Nothing, IsSteps, IsSize, IsMoves, never, every, seeded, SeedsMoves, seed, IsItems, IsCounted, IsSeed, IsStage, stage_word, number_of, most_steps, most_jobs, most_functions}
+use Rattle.command_line.specs.Values.{Nothing, IsSteps, IsSize, IsMoves, never, every, seeded, SeedsMoves, seed, IsItems, IsCounted, IsSeed, IsStage, stage_word, decimal_number, most_steps, most_jobs, most_functions}
 use Rattle.command_line.specs.View.{view}
-use Rattle.command_line.specs.Words.{word_of, slots_of, IsForm, WellFormed}
+use Rattle.command_line.specs.Words.{command_text, slots_of_command, IsForm, AreCommandWords}
 use Rattle.command_line.specs.declared.command.Command.{Command}
 use Rattle.command_line.specs.declared.command.WordsError.{WordsError}
 use Rattle.command_line.proofs.Cuts.{list-unique, tail-same}
@@ -62,7 +62,7 @@ stage-unique text a b e f =
 seeds-unique : (text : List ℕ) (a b : Moves) → SeedsMoves text a → SeedsMoves text b → a ≡ b
 seeds-unique text a b (seed digits n t is e) (seed digits' m t' is' e') =
     let same : digits ≡ digits' = append_cancel_left (codes "seed:") digits digits' (sym t ∙ t') in
-    let number : n ≡ m = is.number.value ∙ (ap number_of same ∙ sym is'.number.value) in
+    let number : n ≡ m = is.number.value ∙ (ap decimal_number same ∙ sym is'.number.value) in
     e ∙ (ap Seed number ∙ sym e')
 
 -- the first bytes of the texts differ
@@ -127,7 +127,7 @@ abbrev command_by : ℕ → CommandWord
 command_by n = if n == 109 then word.Compile else (if n == 110 then word.Run else (if n == 101 then word.Check
     else (if n == 115 then word.List else word.Soak)))
 
-told_command : (c : CommandWord) → command_by (get_or (word_of c) 2 0) ≡ c
+told_command : (c : CommandWord) → command_by (get_or (command_text c) 2 0) ≡ c
 told_command word.Compile = refl
 told_command word.Run = refl
 told_command word.Check = refl
@@ -135,7 +135,7 @@ told_command word.List = refl
 told_command word.Soak = refl
 
 -- a word names one command
-pub word-unique : (c d : CommandWord) → word_of c ≡ word_of d → c ≡ d
+pub word-unique : (c d : CommandWord) → command_text c ≡ command_text d → c ≡ d
 word-unique c d e = sym (told_command c) ∙ (ap (λ t. command_by (get_or t 2 0)) e ∙ told_command d)
 
 means-unique : (others : List (List ℕ)) (command : CommandWord) (c d : CommandTree) → IsForm command others
@@ -154,7 +154,7 @@ means-unique others _ _ _ form (soak m k s u) (soak n l t v) =
 
 pub command-unique : (words : List (List ℕ)) (c d : CommandTree) → IsCommand words c → IsCommand words d → c ≡ d
 command-unique words c d a b =
-    let both = parts (word_of a.command) (word_of b.command) a.others b.others (sym a.begins ∙ b.begins) in
+    let both = parts (command_text a.command) (command_text b.command) a.others b.others (sym a.begins ∙ b.begins) in
     let same : b.command ≡ a.command = sym (word-unique a.command b.command both.0) in
     let P : CommandWord → Type 0 = λ command. Means b.others command d in
     let Q : List (List ℕ) → Type 0 = λ others. Means others a.command d in
@@ -162,37 +162,37 @@ command-unique words c d a b =
 
 -- ---- from the first word
 
-pub no_words : (words : List (List ℕ)) → words ≡ [] → WellFormed words → ⊥
-no_words words e form = let h : word_of form.command ∷ form.others ≡ [] = sym form.begins ∙ e in cc
+pub no_words : (words : List (List ℕ)) → words ≡ [] → AreCommandWords words → ⊥
+no_words words e form = let h : command_text form.command ∷ form.others ≡ [] = sym form.begins ∙ e in cc
 
 pub not_named : (words : List (List ℕ)) (first : List ℕ) (others : List (List ℕ)) → words ≡ first ∷ others
-    → ((command : CommandWord) → first ≢ word_of command) → WellFormed words → ⊥
+    → ((command : CommandWord) → first ≢ command_text command) → AreCommandWords words → ⊥
 not_named words first others e none form =
-    none form.command (parts first (word_of form.command) others form.others (sym e ∙ form.begins)).0
+    none form.command (parts first (command_text form.command) others form.others (sym e ∙ form.begins)).0
 
 pub form_of : (command : CommandWord) (words : List (List ℕ)) (first : List ℕ) (others : List (List ℕ)) → words ≡ first ∷ others
-    → first ≡ word_of command → WellFormed words → IsForm command others
+    → first ≡ command_text command → AreCommandWords words → IsForm command others
 form_of command words first others e named form =
-    let both = parts first (word_of form.command) others form.others (sym e ∙ form.begins) in
+    let both = parts first (command_text form.command) others form.others (sym e ∙ form.begins) in
     let same : command ≡ form.command = word-unique command form.command (sym named ∙ both.0) in
     let P : CommandWord → Type 0 = λ c. IsForm c others in
     let Q : List (List ℕ) → Type 0 = λ o. IsForm form.command o in
     subst P (sym same) (subst Q (sym both.1) form.form)
 
 pub well_formed : (command : CommandWord) (words : List (List ℕ)) (first : List ℕ) (others : List (List ℕ)) → words ≡ first ∷ others
-    → first ≡ word_of command → IsForm command others → WellFormed words
+    → first ≡ command_text command → IsForm command others → AreCommandWords words
 well_formed command words first others e named form =
     record { command = command; others = others; begins = e ∙ ap (λ w. w ∷ others) named; form = form }
 
 pub is_command : (command : CommandWord) (words : List (List ℕ)) (first : List ℕ) (others : List (List ℕ)) (tree : CommandTree) → words ≡ first ∷ others
-    → first ≡ word_of command → IsForm command others → Means others command tree → IsCommand words tree
+    → first ≡ command_text command → IsForm command others → Means others command tree → IsCommand words tree
 is_command command words first others tree e named form means =
     record { command = command; others = others; begins = e ∙ ap (λ w. w ∷ others) named; form = form; means = means }
 
 pub no_command : (command : CommandWord) (words : List (List ℕ)) (first : List ℕ) (others : List (List ℕ)) → words ≡ first ∷ others
-    → first ≡ word_of command → Nothing (Means others command) → Nothing (IsCommand words)
+    → first ≡ command_text command → Nothing (Means others command) → Nothing (IsCommand words)
 no_command command words first others e named none tree is =
-    let both = parts first (word_of is.command) others is.others (sym e ∙ is.begins) in
+    let both = parts first (command_text is.command) others is.others (sym e ∙ is.begins) in
     let same : is.command ≡ command = sym (word-unique command is.command (sym named ∙ both.0)) in
     let P : CommandWord → Type 0 = λ c. Means is.others c tree in
     let Q : List (List ℕ) → Type 0 = λ o. Means o command tree in
@@ -207,10 +207,10 @@ nothing_at others command w e none = let P : CommandWord → Type 0 = λ c. Noth
 pub form_at : (others : List (List ℕ)) (command w : CommandWord) → command ≡ w → IsForm command others → IsForm w others
 form_at others command w e form = let P : CommandWord → Type 0 = λ c. IsForm c others in subst P e form
 
-pub stands_at : (H : Slot → Type 0) (command w : CommandWord) → command ≡ w → ((slot : Slot) → Contains (slots_of command) slot → H slot)
-    → (slot : Slot) → Contains (slots_of w) slot → H slot
+pub stands_at : (H : Slot → Type 0) (command w : CommandWord) → command ≡ w → ((slot : Slot) → Contains (slots_of_command command) slot → H slot)
+    → (slot : Slot) → Contains (slots_of_command w) slot → H slot
 stands_at H command w e stands =
-    let P : CommandWord → Type 0 = λ c. (slot : Slot) → Contains (slots_of c) slot → H slot in subst P e stands
+    let P : CommandWord → Type 0 = λ c. (slot : Slot) → Contains (slots_of_command c) slot → H slot in subst P e stands
 
 -- what the words after a command's may mean, one by one
 pub no_compile : (others : List (List ℕ)) → Nothing (Sets others Jobs (IsCounted most_jobs) default_jobs) → Nothing (Means others word.Compile)
@@ -222,13 +222,13 @@ no_run others none _ (run r is) = none r is
 pub no_check : (others : List (List ℕ)) → Nothing (IsCheck others) → Nothing (Means others word.Check)
 no_check others none _ (check c is) = none c is
 
-pub no_list : (others : List (List ℕ)) → Nothing (Tells others Plain IsStage) → Nothing (Means others word.List)
+pub no_list : (others : List (List ℕ)) → Nothing (TellsSlot others Plain IsStage) → Nothing (Means others word.List)
 no_list others none _ (list stage is) = none stage is
 
-pub no_seed : (others : List (List ℕ)) → Nothing (Tells others slot.Seed IsSeed) → Nothing (Means others word.Soak)
+pub no_seed : (others : List (List ℕ)) → Nothing (TellsSlot others slot.Seed IsSeed) → Nothing (Means others word.Soak)
 no_seed others none _ (soak m k s f) = none m s
 
-pub no_functions : (others : List (List ℕ)) → Nothing (Tells others Functions (IsCounted most_functions)) → Nothing (Means others word.Soak)
+pub no_functions : (others : List (List ℕ)) → Nothing (TellsSlot others Functions (IsCounted most_functions)) → Nothing (Means others word.Soak)
 no_functions others none _ (soak m k s f) = none k f
 
 -- ---- what is known of a run
@@ -273,7 +273,7 @@ pub command_within : (words : List (List ℕ)) (c : CommandTree) → IsCommand w
 command_within words c is = means_within is.others is.command c is.means
 
 pub command_of : (command : CommandWord) (words : List (List ℕ)) (first : List ℕ) (others : List (List ℕ)) (r : Result Command WordsError)
-    → words ≡ first ∷ others → first ≡ word_of command → IsForm command others
+    → words ≡ first ∷ others → first ≡ command_text command → IsForm command others
     → IfOk r (λ c. Means others command (view c)) → IfOk r (λ c. IsCommand words (view c))
 command_of command words first others (Ok c) e named form means = is_command command words first others (view c) e named form means
 command_of command words first others (Err why) e named form means = tt
@@ -288,7 +288,7 @@ limits_of words (Ok c) is = command_within words (view c) is
 limits_of words (Err why) is = tt
 
 -- the words of a command have the form of one
-pub command-formed : (words : List (List ℕ)) (command : CommandTree) → IsCommand words command → WellFormed words
+pub command-formed : (words : List (List ℕ)) (command : CommandTree) → IsCommand words command → AreCommandWords words
 command-formed words command is = record { command = is.command; others = is.others; begins = is.begins; form = is.form }
 
 -- ---- moves by the three texts in turn

@@ -21,7 +21,7 @@ use Rattle.command_line.specs.declared.form.CommandWord.{CommandWord}
 use Rattle.command_line.specs.declared.form.CommandWord.TheVariants as word
 use Rattle.command_line.specs.declared.form.Slot.{Slot}
 use Rattle.command_line.specs.declared.form.Slot.TheVariants.{Plain, Args, Answers, Steps, Stack, Heap, Moves, Fuel, Jobs, Seed, Functions}
-use Rattle.command_line.specs.Words.{word_of, slots_of, prefix_of, fills, IsForm, Gives}
+use Rattle.command_line.specs.Words.{command_text, slots_of_command, prefix_of, fills_slot, IsForm, GivesSlot}
 use Rattle.command_line.proofs.Gives.{starts_cut, wanted_given}
 use Rattle.command_line.specs.Program.{id_of, default_texts, option_rule, slot_rule, program, word_gives, word_lacks, HasText, AreTaken}
 
@@ -74,7 +74,7 @@ built_rule Plain = built_plain
 built_rule slot = built_option (id_of slot) (default_texts slot)
 
 abbrev rules_at : CommandWord → List Rule
-rules_at command = map built_rule (slots_of command)
+rules_at command = map built_rule (slots_of_command command)
 
 abbrev level_shape : Text → List Rule → Shape
 level_shape name rules = record (new_shape name) {
@@ -99,7 +99,7 @@ abbrev ForEach : (Slot → Type 0) → List Slot → Type 0
 ForEach P [] = Unit {0}
 ForEach P (slot ∷ slots) = P slot × ForEach P slots
 
-known_each : (command : CommandWord) → ForEach (Known (rules_at command)) (slots_of command)
+known_each : (command : CommandWord) → ForEach (Known (rules_at command)) (slots_of_command command)
 known_each word.Compile = (option Jobs (λ v. refl) (λ v. refl) refl, tt)
 known_each word.Run = (
   plain refl refl,
@@ -142,7 +142,7 @@ simple : is_simple program ≡ true
 simple = refl
 
 entered_is : (command : CommandWord) (others : List Text)
-    → entered whole (Some (word_of command, others)) ≡ Some (word_of command, rows_after (rules_at command) [] others)
+    → entered whole (Some (command_text command, others)) ≡ Some (command_text command, rows_after (rules_at command) [] others)
 entered_is word.Compile others = refl
 entered_is word.Run others = refl
 entered_is word.Check others = refl
@@ -150,7 +150,7 @@ entered_is word.List others = refl
 entered_is word.Soak others = refl
 
 entered_passes_is : (command : CommandWord) (others : List Text)
-    → entered_passes whole (Some (word_of command, others)) ≡ level_passes (level_shape (word_of command) (rules_at command)) [] nothing_held others false
+    → entered_passes whole (Some (command_text command, others)) ≡ level_passes (level_shape (command_text command) (rules_at command)) [] nothing_held others false
 entered_passes_is word.Compile others = refl
 entered_passes_is word.Run others = refl
 entered_passes_is word.Check others = refl
@@ -160,7 +160,7 @@ entered_passes_is word.Soak others = refl
 -- ---- the first word
 
 stopped_at : (command : CommandWord) (others : List Text)
-    → ◌≡◌ {A = Walk} (walk [] (names_of whole) nothing_held (word_of command ∷ others)) (record (walk_from nothing_held) { stopped = Some (word_of command, others) })
+    → ◌≡◌ {A = Walk} (walk [] (names_of whole) nothing_held (command_text command ∷ others)) (record (walk_from nothing_held) { stopped = Some (command_text command, others) })
 unfolding walked
 stopped_at word.Compile others = sym (walk_stopped [] (names_of whole) (walk_from nothing_held) (codes "compile") [] others)
 stopped_at word.Run others = sym (walk_stopped [] (names_of whole) (walk_from nothing_held) (codes "run") [] others)
@@ -175,7 +175,7 @@ stopped_passes w name seen [] = refl
 stopped_passes w name seen (x ∷ xs) = stopped_passes w name (seen ++ x ∷ []) xs
 
 top_passes : (command : CommandWord) (others : List Text)
-    → walk_passes whole.top (names_of whole) (walk_from nothing_held) (word_of command ∷ others) ≡ true
+    → walk_passes whole.top (names_of whole) (walk_from nothing_held) (command_text command ∷ others) ≡ true
 unfolding walked walk_passes
 top_passes word.Compile others = stopped_passes (walk_from nothing_held) (codes "compile") [] others
 top_passes word.Run others = stopped_passes (walk_from nothing_held) (codes "run") [] others
@@ -184,7 +184,7 @@ top_passes word.List others = stopped_passes (walk_from nothing_held) (codes "li
 top_passes word.Soak others = stopped_passes (walk_from nothing_held) (codes "soak") [] others
 
 pub subcommand_is : (command : CommandWord) (others : List Text)
-    → subcommand_of program (word_of command ∷ others) ≡ Some (word_of command, rows_after (rules_at command) [] others)
+    → subcommand_of program (command_text command ∷ others) ≡ Some (command_text command, rows_after (rules_at command) [] others)
 subcommand_is command others = ap (λ (w : Walk). entered whole w.stopped) (stopped_at command others) ∙ entered_is command others
 
 abbrev taken_by : Walk → Bool → Bool
@@ -192,7 +192,7 @@ taken_by w passes = is_simple program && (entered_passes whole w.stopped
     && (passes && (settle_passes [] false w.held && (true && is_valid whole.top (finished [] w.held) (is_some (entered whole w.stopped))))))
 
 pub is_taken : (command : CommandWord) (others : List Text)
-    → level_passes (level_shape (word_of command) (rules_at command)) [] nothing_held others false ≡ true → takes program (word_of command ∷ others) ≡ true
+    → level_passes (level_shape (command_text command) (rules_at command)) [] nothing_held others false ≡ true → takes program (command_text command ∷ others) ≡ true
 is_taken command others e =
     ap₂ taken_by (stopped_at command others) (top_passes command others)
     ∙ ap (λ b. b && true) (entered_passes_is command others ∙ e)
@@ -263,12 +263,12 @@ record NoFlag (text : Text) : Type 0 where
   long : long_of text ≡ None
   short : short_of text ≡ None
 
-no_flag : (text : Text) → fills Plain text ≡ true → NoFlag text
+no_flag : (text : Text) → fills_slot Plain text ≡ true → NoFlag text
 no_flag [] e = record { dashes = refl; long = refl; short = refl }
 no_flag (x ∷ xs) e = elim (cases_Bool (nat_eq x 45)) [
   | inl dash ↦
       let same : x ≡ 45 = eqb-true x 45 dash in
-      let P : ℕ → Type 0 = λ b. fills Plain (b ∷ xs) ≡ true in
+      let P : ℕ → Type 0 = λ b. fills_slot Plain (b ∷ xs) ≡ true in
       let clash : false ≡ true = subst P same e in absurd (both_ways false refl clash)
   | inr other ↦ record { dashes = rw other refl; long = rw other refl; short = rw other refl }
 ]
@@ -285,7 +285,7 @@ key word = key_of (long_of word) word
 abbrev row_for : Text → Row
 row_for word = row_with (key word).0 (key word).1
 
-key_is : (rules : List Rule) (slot : Slot) (v : Text) → Known rules slot → fills slot (prefix_of slot ++ v) ≡ true
+key_is : (rules : List Rule) (slot : Slot) (v : Text) → Known rules slot → fills_slot slot (prefix_of slot ++ v) ≡ true
     → ◌≡◌ {A = Text × Text} (key (prefix_of slot ++ v)) (id_of slot, v)
 key_is rules slot v (option _ long dashes found) fits = ap (λ o. key_of o (prefix_of slot ++ v)) (long v)
 key_is rules _ v (plain found by_id) fits = ap (λ o. key_of o v) (no_flag v fits).long
@@ -296,8 +296,8 @@ record Cut (rules : List Rule) (all : List Text) (text : Text) : Type 0 where
   value : Text
   known : Known rules slot
   is : text ≡ prefix_of slot ++ value
-  fits : fills slot (prefix_of slot ++ value) ≡ true
-  few : count_by (fills slot) all ≤ 1
+  fits : fills_slot slot (prefix_of slot ++ value) ≡ true
+  few : count_by (fills_slot slot) all ≤ 1
 
 cut_key : (rules : List Rule) (all : List Text) (text : Text) (cut : Cut rules all text) → ◌≡◌ {A = Text × Text} (key text) (id_of cut.slot, cut.value)
 cut_key rules all text cut = ap key cut.is ∙ key_is rules cut.slot cut.value cut.known cut.fits
@@ -401,7 +401,7 @@ module _ (rules : List Rule) (name : Text) where
 
   -- a word of a slot that has no row yet
   at_slot : (slot : Slot) (v : Text) (kept : List Row) (pending : Option (Text × List Text)) (position : ℕ) (rows : List Row)
-      → Known rules slot → fills slot (prefix_of slot ++ v) ≡ true
+      → Known rules slot → fills_slot slot (prefix_of slot ++ v) ≡ true
       → settled_rows rules pending kept ≡ rows → settle_passes rules false (held_at kept pending) ≡ true
       → (has_row (id_of Plain) rows ≡ false → position ≡ 1) → has_row (id_of slot) rows ≡ false
       → At rules (walked rules [] (stand kept pending position) (prefix_of slot ++ v)) (rows ++ row_with (id_of slot) v ∷ [])
@@ -484,20 +484,20 @@ own_slot : (rules : List Rule) (all : List Text) (text : Text) (cut : Cut rules 
 own_slot rules all text cut slot same =
     slot-unique cut.slot slot (sym (ap (λ (k : Text × Text). k.0) (cut_key rules all text cut)) ∙ (bytes_eq-Decides (key text).0 (id_of slot)).0 same)
 
-own_fills : (rules : List Rule) (all : List Text) (text : Text) (cut : Cut rules all text) → fills cut.slot text ≡ true
-own_fills rules all text cut = ap (fills cut.slot) cut.is ∙ cut.fits
+own_fills : (rules : List Rule) (all : List Text) (text : Text) (cut : Cut rules all text) → fills_slot cut.slot text ≡ true
+own_fills rules all text cut = ap (fills_slot cut.slot) cut.is ∙ cut.fits
 
 counted_row : (rules : List Rule) (all done : List Text) → AllCut rules all done → (slot : Slot) → has_row (id_of slot) (map row_for done) ≡ true
-    → 1 ≤ count_by (fills slot) done
+    → 1 ≤ count_by (fills_slot slot) done
 counted_row rules all [] cuts slot e = absurd (both_ways false refl e)
 counted_row rules all (x ∷ xs) cuts slot e = elim (cases_Bool (bytes_eq (key x).0 (id_of slot))) [
   | inl same ↦
-      let P : Slot → Type 0 = λ s. fills s x ≡ true in
-      let passes : fills slot x ≡ true = subst P (own_slot rules all x cuts.0 slot same) (own_fills rules all x cuts.0) in
-      omega (arith, count-cons (fills slot) x xs, one-if (fills slot x) passes)
+      let P : Slot → Type 0 = λ s. fills_slot s x ≡ true in
+      let passes : fills_slot slot x ≡ true = subst P (own_slot rules all x cuts.0 slot same) (own_fills rules all x cuts.0) in
+      omega (arith, count-cons (fills_slot slot) x xs, one-if (fills_slot slot x) passes)
   | inr other ↦
       let rest : has_row (id_of slot) (map row_for xs) ≡ true = sym (ap (λ b. b || has_row (id_of slot) (map row_for xs)) other) ∙ e in
-      omega (arith, count-cons (fills slot) x xs, counted_row rules all xs cuts.1 slot rest)
+      omega (arith, count-cons (fills_slot slot) x xs, counted_row rules all xs cuts.1 slot rest)
 ]
 
 cut-push : (rules : List Rule) (all done : List Text) (x : Text) → AllCut rules all done → Cut rules all x → AllCut rules all (done ++ x ∷ [])
@@ -512,14 +512,14 @@ fresh_words rules all (x ∷ xs) done e dones cuts =
     let new : has_row (key x).0 (map row_for done) ≡ false = elim (cases_Bool (has_row (key x).0 (map row_for done))) [
       | inl old ↦
           let before : has_row (id_of slot) (map row_for done) ≡ true = sym (ap (λ (k : Text × Text). has_row k.0 (map row_for done)) is) ∙ old in
-          let sum : count_by (fills slot) all ≡ count_by (fills slot) done + count_by (fills slot) (x ∷ xs) =
-          ap (count_by (fills slot)) e ∙ count-append (fills slot) done (x ∷ xs) in
+          let sum : count_by (fills_slot slot) all ≡ count_by (fills_slot slot) done + count_by (fills_slot slot) (x ∷ xs) =
+          ap (count_by (fills_slot slot)) e ∙ count-append (fills_slot slot) done (x ∷ xs) in
           absurd (omega (
             arith,
             sum,
             counted_row rules all done dones slot before,
-            count-cons (fills slot) x xs,
-            one-if (fills slot x) (own_fills rules all x cuts.0),
+            count-cons (fills_slot slot) x xs,
+            one-if (fills_slot slot x) (own_fills rules all x cuts.0),
             cuts.0.few,
           ))
       | inr no' ↦ no'
@@ -528,7 +528,7 @@ fresh_words rules all (x ∷ xs) done e dones cuts =
 
 -- ---- the form gives each word its slot
 
-cut_value : (slot : Slot) (text : Text) → fills slot text ≡ true → (value : Text) × (text ≡ prefix_of slot ++ value)
+cut_value : (slot : Slot) (text : Text) → fills_slot slot text ≡ true → (value : Text) × (text ≡ prefix_of slot ++ value)
 cut_value Plain text e = (text, refl)
 cut_value Args text e = starts_cut (prefix_of Args) text e
 cut_value Answers text e = starts_cut (prefix_of Answers) text e
@@ -542,19 +542,19 @@ cut_value Seed text e = starts_cut (prefix_of Seed) text e
 cut_value Functions text e = starts_cut (prefix_of Functions) text e
 
 abbrev Fit : List Rule → List Text → Slot → Type 0
-Fit rules all slot = Known rules slot × (count_by (fills slot) all ≤ 1)
+Fit rules all slot = Known rules slot × (count_by (fills_slot slot) all ≤ 1)
 
-fit_each : (rules : List Rule) (all : List Text) (slots : List Slot) → ForEach (Known rules) slots → All (λ slot. count_by (fills slot) all ≤ 1) slots
+fit_each : (rules : List Rule) (all : List Text) (slots : List Slot) → ForEach (Known rules) slots → All (λ slot. count_by (fills_slot slot) all ≤ 1) slots
     → ForEach (Fit rules all) slots
 fit_each rules all [] known few = tt
 fit_each rules all (s ∷ ss) known few =
-    let P : Slot → Type 0 = λ slot. count_by (fills slot) all ≤ 1 in
+    let P : Slot → Type 0 = λ slot. count_by (fills_slot slot) all ≤ 1 in
     ((known.0, All-head P s ss few), fit_each rules all ss known.1 (All-tail P s ss few))
 
 some_fit : (rules : List Rule) (all : List Text) (slots : List Slot) → ForEach (Fit rules all) slots → (text : Text)
-    → list_any (λ slot. fills slot text) slots ≡ true → Cut rules all text
+    → list_any (λ slot. fills_slot slot text) slots ≡ true → Cut rules all text
 some_fit rules all [] fits text e = absurd (both_ways false refl e)
-some_fit rules all (s ∷ ss) fits text e = elim (cases_Bool (fills s text)) [
+some_fit rules all (s ∷ ss) fits text e = elim (cases_Bool (fills_slot s text)) [
   | inl passes ↦
       let parts = cut_value s text passes in
       record {
@@ -562,24 +562,24 @@ some_fit rules all (s ∷ ss) fits text e = elim (cases_Bool (fills s text)) [
         value = parts.0;
         known = fits.0.0;
         is = parts.1;
-        fits = sym (ap (fills s) parts.1) ∙ passes;
+        fits = sym (ap (fills_slot s) parts.1) ∙ passes;
         few = fits.0.1;
       }
-  | inr other ↦ some_fit rules all ss fits.1 text (sym (ap (λ b. b || list_any (λ slot. fills slot text) ss) other) ∙ e)
+  | inr other ↦ some_fit rules all ss fits.1 text (sym (ap (λ b. b || list_any (λ slot. fills_slot slot text) ss) other) ∙ e)
 ]
 
-all_cut : (command : CommandWord) (all words : List Text) → ForEach (Fit (rules_at command) all) (slots_of command)
-    → All (λ text. IsTrue (list_any (λ slot. fills slot text) (slots_of command))) words → AllCut (rules_at command) all words
+all_cut : (command : CommandWord) (all words : List Text) → ForEach (Fit (rules_at command) all) (slots_of_command command)
+    → All (λ text. IsTrue (list_any (λ slot. fills_slot slot text) (slots_of_command command))) words → AllCut (rules_at command) all words
 all_cut command all [] fits each = tt
 all_cut command all (x ∷ xs) fits each =
-    let P : Text → Type 0 = λ text. IsTrue (list_any (λ slot. fills slot text) (slots_of command)) in
-    (some_fit (rules_at command) all (slots_of command) fits x (All-head P x xs each), all_cut command all xs fits (All-tail P x xs each))
+    let P : Text → Type 0 = λ text. IsTrue (list_any (λ slot. fills_slot slot text) (slots_of_command command)) in
+    (some_fit (rules_at command) all (slots_of_command command) fits x (All-head P x xs each), all_cut command all xs fits (All-tail P x xs each))
 
 -- ---- what the rows of the words say of a slot
 
 abbrev LookedUp : List Text → Slot → Option Text → Type 0
-LookedUp words slot (Some v) = Gives words slot v
-LookedUp words slot None = (v : Text) → Gives words slot v → ⊥
+LookedUp words slot (Some v) = GivesSlot words slot v
+LookedUp words slot None = (v : Text) → GivesSlot words slot v → ⊥
 
 Contains-cases : (x : Text) (xs : List Text) (y : Text) → Contains (x ∷ xs) y → (x ≡ y) ⊎ Contains xs y
 Contains-cases x xs y c = elim c.0 as (λ k. k < length (x ∷ xs) → get_or (x ∷ xs) k y ≡ y → (x ≡ y) ⊎ Contains xs y) [
@@ -601,20 +601,20 @@ lookup rules all (x ∷ xs) cuts slot known = elim (cases_Bool (bytes_eq (key x)
       let cut = cuts.0 in
       let own = own_slot rules all x cut slot same in
       let value : (key x).1 ≡ cut.value = ap (λ (k : Text × Text). k.1) (cut_key rules all x cut) in
-      let P : Slot → Type 0 = λ s. (x ≡ prefix_of s ++ cut.value) × (fills s (prefix_of s ++ cut.value) ≡ true) in
+      let P : Slot → Type 0 = λ s. (x ≡ prefix_of s ++ cut.value) × (fills_slot s (prefix_of s ++ cut.value) ≡ true) in
       let at : P slot = subst P own (cut.is, cut.fits) in
-      let G : Gives (x ∷ xs) slot cut.value = ((0, omega arith, at.0), at.1) in
+      let G : GivesSlot (x ∷ xs) slot cut.value = ((0, omega arith, at.0), at.1) in
       let found : first_of (id_of slot) (map row_for (x ∷ xs)) ≡ Some cut.value = rw same (ap Some value) in
       subst (LookedUp (x ∷ xs) slot) (sym found) G
   | inr other ↦
       let passed : first_of (id_of slot) (map row_for (x ∷ xs)) ≡ first_of (id_of slot) (map row_for xs) = rw other refl in
-      let head : (v : Text) → x ≡ prefix_of slot ++ v → fills slot (prefix_of slot ++ v) ≡ true → ⊥ = λ v e f.
+      let head : (v : Text) → x ≡ prefix_of slot ++ v → fills_slot slot (prefix_of slot ++ v) ≡ true → ⊥ = λ v e f.
       let k : ◌≡◌ {A = Text × Text} (key x) (id_of slot, v) = ap key e ∙ key_is rules slot v known f in
       both_ways _ other ((bytes_eq-Decides (key x).0 (id_of slot)).1 (ap (λ (k : Text × Text). k.0) k)) in
       subst (LookedUp (x ∷ xs) slot) (sym passed) (go head (first_of (id_of slot) (map row_for xs)) (lookup rules all xs cuts.1 slot known))
 ]
   where
-    go : ((v : Text) → x ≡ prefix_of slot ++ v → fills slot (prefix_of slot ++ v) ≡ true → ⊥) → (o : Option Text) → LookedUp xs slot o → LookedUp (x ∷ xs) slot o
+    go : ((v : Text) → x ≡ prefix_of slot ++ v → fills_slot slot (prefix_of slot ++ v) ≡ true → ⊥) → (o : Option Text) → LookedUp xs slot o → LookedUp (x ∷ xs) slot o
     go head (Some v) g = ((suc g.0.0, omega (arith, g.0.1), g.0.2), g.1)
     go head None none = λ v g. elim (Contains-cases x xs (prefix_of slot ++ v) g.0) [
       | inl here ↦ head v here g.1
@@ -772,7 +772,7 @@ defaults_pass word.Check = refl
 defaults_pass word.List = refl
 defaults_pass word.Soak = refl
 
-valid_at : (command : CommandWord) (rows : List Row) → is_valid (level_shape (word_of command) (rules_at command)) rows false ≡ true
+valid_at : (command : CommandWord) (rows : List Row) → is_valid (level_shape (command_text command) (rules_at command)) rows false ≡ true
 valid_at word.Compile rows = refl
 valid_at word.Run rows = refl
 valid_at word.Check rows = refl
@@ -788,12 +788,12 @@ each_at P (s ∷ ss) each slot there = elim (slot_cases s ss slot there) [
 
 -- a slot that has no default has to be there
 abbrev Wanted : List Text → Slot → Type 0
-Wanted others slot = default_texts slot ≡ [] → 1 ≤ count_by (fills slot) others
+Wanted others slot = default_texts slot ≡ [] → 1 ≤ count_by (fills_slot slot) others
 
 full : (x : Text) (xs : List Text) → x ∷ xs ≡ [] → ⊥
 full x xs e = cc
 
-wanted_each : (command : CommandWord) (others : List Text) → IsForm command others → ForEach (Wanted others) (slots_of command)
+wanted_each : (command : CommandWord) (others : List Text) → IsForm command others → ForEach (Wanted others) (slots_of_command command)
 wanted_each word.Compile others form = (λ e. absurd (full _ [] e), tt)
 wanted_each word.Run others form = (
   λ _. form.there 0 Plain (lit< tt),
@@ -812,7 +812,7 @@ wanted_each word.Check others form = (λ _. form.there 0 Plain (lit< tt), (λ e.
 wanted_each word.List others form = (λ _. form.there 0 Plain (lit< tt), tt)
 wanted_each word.Soak others form = (λ _. form.there 0 Seed (lit< tt), (λ _. form.there 1 Functions (lit< tt), tt))
 
-stands_by : (command : CommandWord) (others : List Text) (slot : Slot) → Contains (slots_of command) slot → Wanted others slot → (o : Option Text)
+stands_by : (command : CommandWord) (others : List Text) (slot : Slot) → Contains (slots_of_command command) slot → Wanted others slot → (o : Option Text)
     → first_of (id_of slot) (map row_for others) ≡ o → LookedUp others slot o
     → HasText others slot (first_of (id_of slot) (fold with_default (map row_for others) (rules_at command)))
 stands_by command others slot there wanted (Some v) e g =
@@ -823,23 +823,23 @@ stands_by command others slot there wanted None e none =
     elim (default_form slot) [
       | inl empty ↦ absurd (wanted_given slot others (wanted empty) (cut_value slot) none)
       | inr some ↦
-          (some.0, some_default slot some.0 some.1 (slots_of command) there (map row_for others) row, word_lacks none some.1)
+          (some.0, some_default slot some.0 some.1 (slots_of_command command) there (map row_for others) row, word_lacks none some.1)
     ]
 
 pub are_taken : (command : CommandWord) (others : List Text) → IsForm command others → AreTaken command others
 are_taken command others form =
     let rules = rules_at command in
     let known = known_each command in
-    let fits = fit_each rules others (slots_of command) known form.once in
+    let fits = fit_each rules others (slots_of_command command) known form.once in
     let cuts = all_cut command others others fits form.each in
     let fresh = fresh_words rules others others [] refl tt cuts in
     let begin : At rules (walk_from nothing_held) (map row_for []) =
     record { kept = []; pending = None; position = 1; is = refl; rows_are = refl; passes = refl; first = λ _. refl } in
-    let gone = goes rules (word_of command) others others [] (walk_from nothing_held) begin cuts fresh in
+    let gone = goes rules (command_text command) others others [] (walk_from nothing_held) begin cuts fresh in
     let at = gone.0 in
     let rows_are : rows_after rules [] others ≡ fold with_default (map row_for others) rules =
     ap (λ (w : Walk). finished rules w.held) at.is ∙ ap (λ rows. fold with_default rows rules) at.rows_are in
-    let passes : level_passes (level_shape (word_of command) rules) [] nothing_held others false ≡ true =
+    let passes : level_passes (level_shape (command_text command) rules) [] nothing_held others false ≡ true =
     ap₂ (λ a b. a && b) gone.1 (ap₂ (λ a b. a && b) (ap (λ (w : Walk). settle_passes rules false w.held) at.is ∙ at.passes)
     (ap₂ (λ a b. a && b) (defaults_pass command) (valid_at command (rows_after rules [] others)))) in
     record {
@@ -848,6 +848,6 @@ are_taken command others form =
       entered = subcommand_is command others;
       stands = λ slot there.
           subst (λ rows. HasText others slot (first_of (id_of slot) rows)) (sym rows_are)
-          (stands_by command others slot there (each_at (Wanted others) (slots_of command) (wanted_each command others form) slot there) (first_of (id_of slot) (map row_for others)) refl
-          (lookup rules others others cuts slot (each_at (Known rules) (slots_of command) known slot there)));
+          (stands_by command others slot there (each_at (Wanted others) (slots_of_command command) (wanted_each command others form) slot there) (first_of (id_of slot) (map row_for others)) refl
+          (lookup rules others others cuts slot (each_at (Known rules) (slots_of_command command) known slot there)));
     }

@@ -12,7 +12,7 @@ use Rattle.command_line.specs.declared.command.Moves.TheVariants.{Never}
 use Rattle.rv_machine.specs.Places.{most_room}
 use Rattle.bs_words.specs.Symbol.{IsSymbol}
 use Rattle.command_line.specs.Values.{IsSteps, IsSize, IsMoves, IsItems, IsCounted, IsSeed, IsStage, most_steps, most_jobs, most_functions}
-use Rattle.command_line.specs.Words.{word_of, IsForm, Gives}
+use Rattle.command_line.specs.Words.{command_text, IsForm, GivesSlot}
 
 -- What a run is to do.
 pub record RunTree : Type 0 where
@@ -53,24 +53,24 @@ abbrev pub default_jobs : ℕ
 default_jobs = 1
 
 -- The words give the slot a value, from which x is read.
-pub record Tells {X : Type 0} (others : List (List ℕ)) (slot : Slot) (Reads : List ℕ → X → Type 0) (x : X) : Type 0 where
+pub record TellsSlot {X : Type 0} (others : List (List ℕ)) (slot : Slot) (Reads : List ℕ → X → Type 0) (x : X) : Type 0 where
   pub value : List ℕ
-  pub gives : Gives others slot value
+  pub gives : GivesSlot others slot value
   pub reads : Reads value x
 
 -- The words set the slot to x: x is read from the value that they give, or they give none and x is the default.
 pub data Sets {X : Type 0} (others : List (List ℕ)) (slot : Slot) (Reads : List ℕ → X → Type 0) (default x : X) : Type 0 where
   given : (value : List ℕ)
-      → Gives others slot value
+      → GivesSlot others slot value
       → Reads value x
       → Sets others slot Reads default x
-  left_out : ((value : List ℕ) → Gives others slot value → ⊥)
+  left_out : ((value : List ℕ) → GivesSlot others slot value → ⊥)
       → x ≡ default
       → Sets others slot Reads default x
 
 -- The words after `run` are this run.
 pub record IsRun (others : List (List ℕ)) (run : RunTree) : Type 0 where
-  pub entry : Gives others Plain run.entry
+  pub entry : GivesSlot others Plain run.entry
   pub entry_name : IsSymbol run.entry
   pub args : Sets others Args IsItems [] run.args
   pub answers : Sets others Answers IsItems [] run.answers
@@ -81,7 +81,7 @@ pub record IsRun (others : List (List ℕ)) (run : RunTree) : Type 0 where
 
 -- The words after `check` are this run of a text.
 pub record IsCheck (others : List (List ℕ)) (check : CheckTree) : Type 0 where
-  pub entry : Gives others Plain check.entry
+  pub entry : GivesSlot others Plain check.entry
   pub entry_name : IsSymbol check.entry
   pub args : Sets others Args IsItems [] check.args
   pub answers : Sets others Answers IsItems [] check.answers
@@ -92,17 +92,17 @@ pub data Means (others : List (List ℕ)) : CommandWord → CommandTree → Type
   compile : (jobs : ℕ) → Sets others Jobs (IsCounted most_jobs) default_jobs jobs → Means others word.Compile (CompileCommand jobs)
   run : (r : RunTree) → IsRun others r → Means others word.Run (RunCommand r)
   check : (c : CheckTree) → IsCheck others c → Means others word.Check (CheckCommand c)
-  list : (stage : Stage) → Tells others Plain IsStage stage → Means others word.List (ListCommand stage)
+  list : (stage : Stage) → TellsSlot others Plain IsStage stage → Means others word.List (ListCommand stage)
   soak : (seed functions : ℕ)
-      → Tells others slot.Seed IsSeed seed
-      → Tells others Functions (IsCounted most_functions) functions
+      → TellsSlot others slot.Seed IsSeed seed
+      → TellsSlot others Functions (IsCounted most_functions) functions
       → Means others word.Soak (SoakCommand seed functions)
 
 -- The words are this command.
 pub record IsCommand (words : List (List ℕ)) (tree : CommandTree) : Type 0 where
   pub command : CommandWord
   pub others : List (List ℕ)
-  pub begins : words ≡ word_of command ∷ others
+  pub begins : words ≡ command_text command ∷ others
   pub form : IsForm command others
   pub means : Means others command tree
 

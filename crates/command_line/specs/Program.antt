@@ -7,7 +7,7 @@ use Rattle.command_line.specs.declared.form.CommandWord.{CommandWord}
 use Rattle.command_line.specs.declared.form.CommandWord.TheVariants as word
 use Rattle.command_line.specs.declared.form.Slot.{Slot}
 use Rattle.command_line.specs.declared.form.Slot.TheVariants.{Plain, Args, Answers, Steps, Stack, Heap, Moves, Fuel, Jobs, Seed, Functions}
-use Rattle.command_line.specs.Words.{word_of, slots_of, Gives}
+use Rattle.command_line.specs.Words.{command_text, slots_of_command, GivesSlot}
 
 -- ---- what the parser is given
 
@@ -45,7 +45,7 @@ slot_rule Plain = new_rule (id_of Plain)
 slot_rule slot = option_rule (id_of slot) (default_texts slot)
 
 abbrev pub command_shape : CommandWord → Shape
-command_shape command = record (new_shape (word_of command)) { rules = map slot_rule (slots_of command) }
+command_shape command = record (new_shape (command_text command)) { rules = map slot_rule (slots_of_command command) }
 
 abbrev pub command_app : CommandWord → App
 command_app command = record { top = command_shape command; subs = [] }
@@ -73,13 +73,13 @@ program = record {
 -- ---- what it makes of words
 
 -- the text that stands for a slot's value: the one that a word gives, or else the default
-pub data Stands (others : List (List ℕ)) (slot : Slot) (text : List ℕ) : Type 0 where
-  word_gives : Gives others slot text → Stands others slot text
-  word_lacks : ((value : List ℕ) → Gives others slot value → ⊥) → default_texts slot ≡ text ∷ [] → Stands others slot text
+pub data IsSlotText (others : List (List ℕ)) (slot : Slot) (text : List ℕ) : Type 0 where
+  word_gives : GivesSlot others slot text → IsSlotText others slot text
+  word_lacks : ((value : List ℕ) → GivesSlot others slot value → ⊥) → default_texts slot ≡ text ∷ [] → IsSlotText others slot text
 
 -- this option is the text that stands for the slot's value
 abbrev pub HasText : List (List ℕ) → Slot → Option (List ℕ) → Type 0
-HasText others slot found = (text : List ℕ) × (found ≡ Some text) × Stands others slot text
+HasText others slot found = (text : List ℕ) × (found ≡ Some text) × IsSlotText others slot text
 
 -- the text that stands for an option that is left out is read as the default, and as nothing else
 pub record Defaults {X : Type 0} (slot : Slot) (Reads : List ℕ → X → Type 0) (default : X) : Type 0 where
@@ -90,7 +90,7 @@ pub record Defaults {X : Type 0} (slot : Slot) (Reads : List ℕ → X → Type 
 
 -- Words of the form are taken, as the command with its slots' texts.
 pub record AreTaken (command : CommandWord) (others : List (List ℕ)) : Type 0 where
-  pub taken : takes program (word_of command ∷ others) ≡ true
+  pub taken : takes program (command_text command ∷ others) ≡ true
   pub rows : List Row
-  pub entered : subcommand_of program (word_of command ∷ others) ≡ Some (word_of command, rows)
-  pub stands : (slot : Slot) → Contains (slots_of command) slot → HasText others slot (first_of (id_of slot) rows)
+  pub entered : subcommand_of program (command_text command ∷ others) ≡ Some (command_text command, rows)
+  pub stands : (slot : Slot) → Contains (slots_of_command command) slot → HasText others slot (first_of (id_of slot) rows)

@@ -21,14 +21,14 @@ abbrev pub most_steps : ℕ
 most_steps = 1000000000000
 
 -- the number that digits write
-abbrev pub number_of : List ℕ → ℕ
-number_of digits = fold (λ n digit. 10 * n + (digit - 48)) 0 digits
+abbrev pub decimal_number : List ℕ → ℕ
+decimal_number digits = fold (λ n digit. 10 * n + (digit - 48)) 0 digits
 
 -- decimal digits that write this number; zeros may lead
 pub record IsNumber (bytes : List ℕ) (n : ℕ) : Type 0 where
   pub some : 1 ≤ length bytes
   pub digits : All (λ b. (48 ≤ b) × (b ≤ 57)) bytes
-  pub value : n ≡ number_of bytes
+  pub value : n ≡ decimal_number bytes
 
 -- a number of instructions, or of units of fuel
 pub record IsSteps (bytes : List ℕ) (n : ℕ) : Type 0 where
@@ -104,12 +104,12 @@ pub data IsItem (text : List ℕ) (item : Arg) : Type 0 where
       → text ≡ 64 ∷ name → IsSymbol name → All (λ b. b ≢ 44) name → item ≡ Symbol name → IsItem text item
 
 -- one item or more, with a comma between each two
-pub data AreItems : List ℕ → List Arg → Type 0 where
-  last : (text : List ℕ) (item : Arg) → IsItem text item → AreItems text (item ∷ [])
+pub data AreArguments : List ℕ → List Arg → Type 0 where
+  last : (text : List ℕ) (item : Arg) → IsItem text item → AreArguments text (item ∷ [])
   more : (text rest : List ℕ) (item : Arg) (items : List Arg)
-      → IsItem text item → AreItems rest items → AreItems (text ++ (44 ∷ rest)) (item ∷ items)
+      → IsItem text item → AreArguments rest items → AreArguments (text ++ (44 ∷ rest)) (item ∷ items)
 
 -- items, or no byte for no item
 pub data IsItems (bytes : List ℕ) (items : List Arg) : Type 0 where
   none : bytes ≡ [] → items ≡ [] → IsItems bytes items
-  some : AreItems bytes items → IsItems bytes items
+  some : AreArguments bytes items → IsItems bytes items

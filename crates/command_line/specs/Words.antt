@@ -10,20 +10,20 @@ use Rattle.command_line.specs.declared.form.Slot.TheVariants.{Plain, Args, Answe
 -- ---- the table of commands
 
 -- the first word
-abbrev pub word_of : CommandWord → List ℕ
-word_of word.Compile = codes "compile"
-word_of word.Run = codes "run"
-word_of word.Check = codes "check"
-word_of word.List = codes "list"
-word_of word.Soak = codes "soak"
+abbrev pub command_text : CommandWord → List ℕ
+command_text word.Compile = codes "compile"
+command_text word.Run = codes "run"
+command_text word.Check = codes "check"
+command_text word.List = codes "list"
+command_text word.Soak = codes "soak"
 
 -- what the other words may be for
-abbrev pub slots_of : CommandWord → List Slot
-slots_of word.Compile = Jobs ∷ []
-slots_of word.Run = Plain ∷ Args ∷ Answers ∷ Steps ∷ Stack ∷ Heap ∷ Moves ∷ []
-slots_of word.Check = Plain ∷ Args ∷ Answers ∷ Fuel ∷ []
-slots_of word.List = Plain ∷ []
-slots_of word.Soak = Seed ∷ Functions ∷ []
+abbrev pub slots_of_command : CommandWord → List Slot
+slots_of_command word.Compile = Jobs ∷ []
+slots_of_command word.Run = Plain ∷ Args ∷ Answers ∷ Steps ∷ Stack ∷ Heap ∷ Moves ∷ []
+slots_of_command word.Check = Plain ∷ Args ∷ Answers ∷ Fuel ∷ []
+slots_of_command word.List = Plain ∷ []
+slots_of_command word.Soak = Seed ∷ Functions ∷ []
 
 -- what a word has to be there for
 abbrev pub wanted_of : CommandWord → List Slot
@@ -50,25 +50,25 @@ prefix_of Functions = codes "--functions="
 -- ---- the form
 
 -- whether a word is for the slot: a plain word does not begin with `-`
-abbrev pub fills : Slot → List ℕ → Bool
-fills Plain text = not (starts_with nat_eq text (codes "-"))
-fills slot text = starts_with nat_eq text (prefix_of slot)
+abbrev pub fills_slot : Slot → List ℕ → Bool
+fills_slot Plain text = not (starts_with nat_eq text (codes "-"))
+fills_slot slot text = starts_with nat_eq text (prefix_of slot)
 
 -- The words after the first have the form that a command wants: each is for one of its slots, no two
 -- are for the same, and what is wanted is there. Their order is free.
 pub record IsForm (command : CommandWord) (others : List (List ℕ)) : Type 0 where
-  pub each : All (λ text. IsTrue (list_any (λ slot. fills slot text) (slots_of command))) others
-  pub once : All (λ slot. count_by (fills slot) others ≤ 1) (slots_of command)
-  pub there : All (λ slot. 1 ≤ count_by (fills slot) others) (wanted_of command)
+  pub each : All (λ text. IsTrue (list_any (λ slot. fills_slot slot text) (slots_of_command command))) others
+  pub once : All (λ slot. count_by (fills_slot slot) others ≤ 1) (slots_of_command command)
+  pub there : All (λ slot. 1 ≤ count_by (fills_slot slot) others) (wanted_of command)
 
 -- The words have the form of a command.
-pub record WellFormed (words : List (List ℕ)) : Type 0 where
+pub record AreCommandWords (words : List (List ℕ)) : Type 0 where
   pub command : CommandWord
   pub others : List (List ℕ)
-  pub begins : words ≡ word_of command ∷ others
+  pub begins : words ≡ command_text command ∷ others
   pub form : IsForm command others
 
 -- one of the words gives the slot this value
-abbrev pub Gives : List (List ℕ) → Slot → List ℕ → Type 0
-Gives others slot value =
-    Contains others (prefix_of slot ++ value) × (fills slot (prefix_of slot ++ value) ≡ true)
+abbrev pub GivesSlot : List (List ℕ) → Slot → List ℕ → Type 0
+GivesSlot others slot value =
+    Contains others (prefix_of slot ++ value) × (fills_slot slot (prefix_of slot ++ value) ≡ true)

@@ -4,7 +4,7 @@ ghost use Rattle.std.specs.List.{list_any, list_all};
 ghost use Rattle.command_line.specs.declared.form.CommandWord.{CommandWord};
 ghost use Rattle.command_line.specs.Program.{id_of};
 ghost use Rattle.command_line.specs.View.{texts};
-ghost use Rattle.command_line.specs.Words.{word_of, slots_of, wanted_of, prefix_of, fills, IsForm};
+ghost use Rattle.command_line.specs.Words.{command_text, slots_of_command, wanted_of, prefix_of, fills_slot, IsForm};
 
 /// The command that a first word names.
 #[derive(Clone, Copy)]
@@ -56,8 +56,8 @@ static SOAK_SLOTS: [Slot; 2] = [Slot::Seed, Slot::Functions];
 impl CommandWord {
     pub(crate) fn named(word: &[u8]) -> Option<CommandWord>
         ensures { MatchOption result
-            ((command : CommandWord) → word.now ≢ word_of command)
-            (λ command. word.now ≡ word_of command) }
+            ((command : CommandWord) → word.now ≢ command_text command)
+            (λ command. word.now ≡ command_text command) }
     {
         if word == b"compile".as_slice() {
             Some(CommandWord::Compile)
@@ -76,7 +76,7 @@ impl CommandWord {
 
     /// The word that names the command.
     pub(crate) fn word<'a>(self) -> &'a str
-        ensures { result.now ≡ word_of self }
+        ensures { result.now ≡ command_text self }
     {
         match self {
             CommandWord::Compile => "compile",
@@ -89,7 +89,7 @@ impl CommandWord {
 
     /// What the other words may be for.
     pub(crate) fn slots(self) -> &'static [Slot]
-        ensures { result.now ≡ slots_of self }
+        ensures { result.now ≡ slots_of_command self }
     {
         match self {
             CommandWord::Compile => &COMPILE_SLOTS,
@@ -116,8 +116,8 @@ impl Slot {
     /// The value that the word gives this slot, if it is for it.
     fn value_in(self, word: &[u8]) -> Option<&[u8]>
         ensures { MatchOption result
-            (fills self word.now ≡ false)
-            (λ value. (fills self word.now ≡ true) × (word.now ≡ prefix_of self ++ value.now)) }
+            (fills_slot self word.now ≡ false)
+            (λ value. (fills_slot self word.now ≡ true) × (word.now ≡ prefix_of self ++ value.now)) }
     {
         match self {
             Slot::Plain => {
@@ -141,14 +141,14 @@ impl Slot {
     }
 
     fn fills(self, word: &[u8]) -> bool
-        ensures { result ≡ fills self word.now }
+        ensures { result ≡ fills_slot self word.now }
     {
         self.value_in(word).is_some()
     }
 
     /// The number of words that are for this slot.
     fn count(self, others: &[String]) -> usize
-        ensures { result ≡ count_by (fills self) (texts others.now) }
+        ensures { result ≡ count_by (fills_slot self) (texts others.now) }
     {
         others
             .iter()
@@ -177,7 +177,7 @@ impl Slot {
 }
 
 fn fills_some(slots: &[Slot], word: &[u8]) -> bool
-    ensures { result ≡ list_any (λ slot. fills slot word.now) slots.now }
+    ensures { result ≡ list_any (λ slot. fills_slot slot word.now) slots.now }
 {
     slots.iter().any(|slot| slot.fills(word))
 }
@@ -185,21 +185,21 @@ fn fills_some(slots: &[Slot], word: &[u8]) -> bool
 fn each_fills(slots: &[Slot], others: &[String]) -> bool
     ensures { result
         ≡ list_all (λ word.
-        list_any (λ slot. fills slot (string_bytes word)) slots.now) others.now }
+        list_any (λ slot. fills_slot slot (string_bytes word)) slots.now) others.now }
 {
     others.iter().all(|word| fills_some(slots, word.as_bytes()))
 }
 
 fn each_once(slots: &[Slot], others: &[String]) -> bool
     ensures { result
-        ≡ list_all (λ slot. nat_le (count_by (fills slot) (texts others.now)) 1) slots.now }
+        ≡ list_all (λ slot. nat_le (count_by (fills_slot slot) (texts others.now)) 1) slots.now }
 {
     slots.iter().all(|slot| slot.count(others) <= 1)
 }
 
 fn each_there(slots: &[Slot], others: &[String]) -> bool
     ensures { result
-        ≡ list_all (λ slot. nat_le 1 (count_by (fills slot) (texts others.now))) slots.now }
+        ≡ list_all (λ slot. nat_le 1 (count_by (fills_slot slot) (texts others.now))) slots.now }
 {
     slots.iter().all(|slot| slot.count(others) >= 1)
 }

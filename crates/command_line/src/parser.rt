@@ -5,7 +5,7 @@ ghost use Rattle.clap.specs.Words.{app_of, new_rule, rule_of, subcommand_of, sub
 ghost use Rattle.command_line.specs.declared.command.WordsError.{WordsError};
 ghost use Rattle.command_line.specs.Program.{option_rule, slot_rule, command_app, command_shape, top_app, program};
 ghost use Rattle.command_line.specs.View.{texts};
-ghost use Rattle.command_line.specs.Words.{WellFormed};
+ghost use Rattle.command_line.specs.Words.{AreCommandWords};
 
 use crate::command::WordsError;
 use crate::form::{CommandWord, Slot};
@@ -109,7 +109,7 @@ fn parser<'a>(alloc: Global) -> Result<Command<'a>, AllocError>
 
 /// What the parser makes of words of the form, which it refuses for want of memory alone.
 pub(crate) fn matches_of(alloc: Global, words: &[String]) -> Result<ArgMatches<'_>, WordsError>
-    requires { WellFormed (texts words.now) }
+    requires { AreCommandWords (texts words.now) }
     ensures matches { IfOk result (λ matches.
         subcommand_rows_of matches ≡ subcommand_of program (texts words.now)) }
     ensures formed { ¬ IsErrOf result WordsError.Words }

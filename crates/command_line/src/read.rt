@@ -7,9 +7,9 @@ ghost use Rattle.command_line.specs.declared.form.CommandWord.{CommandWord};
 ghost use Rattle.command_line.specs.declared.form.Slot.{Slot};
 ghost use Rattle.bs_words.specs.Symbol.{IsSymbol};
 ghost use Rattle.command_line.specs.Values.{IsSteps, IsSize, IsMoves, IsItems, IsCounted, IsSeed, IsStage, Nothing, most_jobs, most_functions};
-ghost use Rattle.command_line.specs.Words.{fills, word_of, slots_of, WellFormed, IsForm, Gives};
-ghost use Rattle.command_line.specs.Program.{HasText, Stands, Defaults, id_of, program};
-ghost use Rattle.command_line.specs.Command.{CommandTree, Sets, Tells, IsRun, IsCheck, Means, IsCommand, KeepsLimits};
+ghost use Rattle.command_line.specs.Words.{fills_slot, command_text, slots_of_command, AreCommandWords, IsForm, GivesSlot};
+ghost use Rattle.command_line.specs.Program.{HasText, IsSlotText, Defaults, id_of, program};
+ghost use Rattle.command_line.specs.Command.{CommandTree, Sets, TellsSlot, IsRun, IsCheck, Means, IsCommand, KeepsLimits};
 ghost use Rattle.command_line.specs.Command.{default_jobs, default_steps, default_size, default_moves};
 ghost use Rattle.command_line.specs.View.{texts, view, run_view, check_view};
 
@@ -32,7 +32,7 @@ const MOST_FUNCTIONS: u32 = 1_000;
 /// The text that stands for the slot's value, by the matches. The words are named by the contract alone.
 fn text_for<'a>(others: &[String], given: &ArgMatches<'a>, slot: Slot) -> &'a str
     requires { HasText (texts others.now) slot (first_value (found_of given.now) (id_of slot)) }
-    ensures { Stands (texts others.now) slot result.now }
+    ensures { IsSlotText (texts others.now) slot result.now }
 {
     let _others = others;
     match given.get_str(slot.id()) {
@@ -43,12 +43,12 @@ fn text_for<'a>(others: &[String], given: &ArgMatches<'a>, slot: Slot) -> &'a st
 
 /// The name of the function that is called.
 fn entry(alloc: Global, others: &[String], given: &ArgMatches<'_>) -> Result<Name, WordsError>
-    requires once { count_by (fills Slot.Plain) (texts others.now) ≤ 1 }
+    requires once { count_by (fills_slot Slot.Plain) (texts others.now) ≤ 1 }
     requires stands { HasText (texts others.now) Slot.Plain
         (first_value (found_of given.now) (id_of Slot.Plain)) }
-    ensures value { IfOk result (λ name. Gives (texts others.now) Slot.Plain name × IsSymbol name) }
+    ensures value { IfOk result (λ name. GivesSlot (texts others.now) Slot.Plain name × IsSymbol name) }
     ensures bad { IsErrOf result WordsError.ValueText
-        → Nothing (λ name. Gives (texts others.now) Slot.Plain name × IsSymbol name) }
+        → Nothing (λ name. GivesSlot (texts others.now) Slot.Plain name × IsSymbol name) }
     ensures formed { ¬ IsErrOf result WordsError.Words }
 {
     values::name(alloc, text_for(others, given, Slot::Plain).as_bytes())
@@ -61,7 +61,7 @@ fn items(
     given: &ArgMatches<'_>,
     slot: Slot,
 ) -> Result<List<Arg>, WordsError>
-    requires once { count_by (fills slot) (texts others.now) ≤ 1 }
+    requires once { count_by (fills_slot slot) (texts others.now) ≤ 1 }
     requires stands { HasText (texts others.now) slot
         (first_value (found_of given.now) (id_of slot)) }
     requires left_out { Defaults slot IsItems [] }
@@ -76,7 +76,7 @@ fn items(
 
 /// The most instructions, or units of fuel.
 fn steps(others: &[String], given: &ArgMatches<'_>, slot: Slot) -> Result<u64, WordsError>
-    requires once { count_by (fills slot) (texts others.now) ≤ 1 }
+    requires once { count_by (fills_slot slot) (texts others.now) ≤ 1 }
     requires stands { HasText (texts others.now) slot
         (first_value (found_of given.now) (id_of slot)) }
     requires left_out { Defaults slot IsSteps default_steps }
@@ -91,7 +91,7 @@ fn steps(others: &[String], given: &ArgMatches<'_>, slot: Slot) -> Result<u64, W
 
 /// The bytes of the stack or of half of the heap.
 fn size(others: &[String], given: &ArgMatches<'_>, slot: Slot) -> Result<u32, WordsError>
-    requires once { count_by (fills slot) (texts others.now) ≤ 1 }
+    requires once { count_by (fills_slot slot) (texts others.now) ≤ 1 }
     requires stands { HasText (texts others.now) slot
         (first_value (found_of given.now) (id_of slot)) }
     requires left_out { Defaults slot IsSize default_size }
@@ -106,7 +106,7 @@ fn size(others: &[String], given: &ArgMatches<'_>, slot: Slot) -> Result<u32, Wo
 
 /// When the mover asks, and where it puts blocks.
 fn moves(others: &[String], given: &ArgMatches<'_>) -> Result<Moves, WordsError>
-    requires once { count_by (fills Slot.Moves) (texts others.now) ≤ 1 }
+    requires once { count_by (fills_slot Slot.Moves) (texts others.now) ≤ 1 }
     requires stands { HasText (texts others.now) Slot.Moves
         (first_value (found_of given.now) (id_of Slot.Moves)) }
     ensures value { IfOk result (λ moves.
@@ -122,7 +122,7 @@ fn moves(others: &[String], given: &ArgMatches<'_>) -> Result<Moves, WordsError>
 /// The run that the words after `run` are.
 fn run(alloc: Global, others: &[String], given: &ArgMatches<'_>) -> Result<RunWords, WordsError>
     requires form { IsForm CommandWord.Run (texts others.now) }
-    requires stands { (slot : Slot) → Contains (slots_of CommandWord.Run) slot
+    requires stands { (slot : Slot) → Contains (slots_of_command CommandWord.Run) slot
         → HasText (texts others.now) slot (first_value (found_of given.now) (id_of slot)) }
     ensures value { IfOk result (λ run. IsRun (texts others.now) (run_view run)) }
     ensures bad { IsErrOf result WordsError.ValueText
@@ -143,7 +143,7 @@ fn run(alloc: Global, others: &[String], given: &ArgMatches<'_>) -> Result<RunWo
 /// The run of a text that the words after `check` are.
 fn check(alloc: Global, others: &[String], given: &ArgMatches<'_>) -> Result<CheckWords, WordsError>
     requires form { IsForm CommandWord.Check (texts others.now) }
-    requires stands { (slot : Slot) → Contains (slots_of CommandWord.Check) slot
+    requires stands { (slot : Slot) → Contains (slots_of_command CommandWord.Check) slot
         → HasText (texts others.now) slot (first_value (found_of given.now) (id_of slot)) }
     ensures value { IfOk result (λ check. IsCheck (texts others.now) (check_view check)) }
     ensures bad { IsErrOf result WordsError.ValueText
@@ -160,7 +160,7 @@ fn check(alloc: Global, others: &[String], given: &ArgMatches<'_>) -> Result<Che
 
 /// The most functions that are compiled at a time.
 fn jobs(others: &[String], given: &ArgMatches<'_>) -> Result<u32, WordsError>
-    requires once { count_by (fills Slot.Jobs) (texts others.now) ≤ 1 }
+    requires once { count_by (fills_slot Slot.Jobs) (texts others.now) ≤ 1 }
     requires stands { HasText (texts others.now) Slot.Jobs
         (first_value (found_of given.now) (id_of Slot.Jobs)) }
     ensures value { IfOk result (λ n.
@@ -175,12 +175,12 @@ fn jobs(others: &[String], given: &ArgMatches<'_>) -> Result<u32, WordsError>
 
 /// The stage whose text is written.
 fn stage(others: &[String], given: &ArgMatches<'_>) -> Result<Stage, WordsError>
-    requires once { count_by (fills Slot.Plain) (texts others.now) ≤ 1 }
+    requires once { count_by (fills_slot Slot.Plain) (texts others.now) ≤ 1 }
     requires stands { HasText (texts others.now) Slot.Plain
         (first_value (found_of given.now) (id_of Slot.Plain)) }
-    ensures value { IfOk result (λ stage. Tells (texts others.now) Slot.Plain IsStage stage) }
+    ensures value { IfOk result (λ stage. TellsSlot (texts others.now) Slot.Plain IsStage stage) }
     ensures bad { IsErrOf result WordsError.ValueText
-        → Nothing (Tells (texts others.now) Slot.Plain IsStage) }
+        → Nothing (TellsSlot (texts others.now) Slot.Plain IsStage) }
     ensures formed { ¬ IsErrOf result WordsError.Words }
 {
     let text = text_for(others, given, Slot::Plain);
@@ -189,12 +189,12 @@ fn stage(others: &[String], given: &ArgMatches<'_>) -> Result<Stage, WordsError>
 
 /// What the generator of a soak's text starts from.
 fn seed(others: &[String], given: &ArgMatches<'_>) -> Result<u64, WordsError>
-    requires once { count_by (fills Slot.Seed) (texts others.now) ≤ 1 }
+    requires once { count_by (fills_slot Slot.Seed) (texts others.now) ≤ 1 }
     requires stands { HasText (texts others.now) Slot.Seed
         (first_value (found_of given.now) (id_of Slot.Seed)) }
-    ensures value { IfOk result (λ n. Tells (texts others.now) Slot.Seed IsSeed n) }
+    ensures value { IfOk result (λ n. TellsSlot (texts others.now) Slot.Seed IsSeed n) }
     ensures bad { IsErrOf result WordsError.ValueText
-        → Nothing (Tells (texts others.now) Slot.Seed IsSeed) }
+        → Nothing (TellsSlot (texts others.now) Slot.Seed IsSeed) }
     ensures formed { ¬ IsErrOf result WordsError.Words }
 {
     let text = text_for(others, given, Slot::Seed);
@@ -203,13 +203,13 @@ fn seed(others: &[String], given: &ArgMatches<'_>) -> Result<u64, WordsError>
 
 /// How many functions a soak's text has.
 fn functions(others: &[String], given: &ArgMatches<'_>) -> Result<u32, WordsError>
-    requires once { count_by (fills Slot.Functions) (texts others.now) ≤ 1 }
+    requires once { count_by (fills_slot Slot.Functions) (texts others.now) ≤ 1 }
     requires stands { HasText (texts others.now) Slot.Functions
         (first_value (found_of given.now) (id_of Slot.Functions)) }
     ensures value { IfOk result (λ n.
-        Tells (texts others.now) Slot.Functions (IsCounted most_functions) n) }
+        TellsSlot (texts others.now) Slot.Functions (IsCounted most_functions) n) }
     ensures bad { IsErrOf result WordsError.ValueText
-        → Nothing (Tells (texts others.now) Slot.Functions (IsCounted most_functions)) }
+        → Nothing (TellsSlot (texts others.now) Slot.Functions (IsCounted most_functions)) }
     ensures formed { ¬ IsErrOf result WordsError.Words }
 {
     let text = text_for(others, given, Slot::Functions);
@@ -219,7 +219,7 @@ fn functions(others: &[String], given: &ArgMatches<'_>) -> Result<u32, WordsErro
 /// The soak that the words after `soak` are.
 fn soak(others: &[String], given: &ArgMatches<'_>) -> Result<Command, WordsError>
     requires form { IsForm CommandWord.Soak (texts others.now) }
-    requires stands { (slot : Slot) → Contains (slots_of CommandWord.Soak) slot
+    requires stands { (slot : Slot) → Contains (slots_of_command CommandWord.Soak) slot
         → HasText (texts others.now) slot (first_value (found_of given.now) (id_of slot)) }
     ensures value { IfOk result (λ command.
         Means (texts others.now) CommandWord.Soak (view command)) }
@@ -241,7 +241,7 @@ fn meant(
     given: &ArgMatches<'_>,
 ) -> Result<Command, WordsError>
     requires form { IsForm command (texts others.now) }
-    requires stands { (slot : Slot) → Contains (slots_of command) slot
+    requires stands { (slot : Slot) → Contains (slots_of_command command) slot
         → HasText (texts others.now) slot (first_value (found_of given.now) (id_of slot)) }
     ensures value { IfOk result (λ tree. Means (texts others.now) command (view tree)) }
     ensures bad { IsErrOf result WordsError.ValueText
@@ -266,7 +266,7 @@ fn taken(
     others: &[String],
     matches: &ArgMatches<'_>,
 ) -> Result<Command, WordsError>
-    requires form { (command : CommandWord) × (texts words.now ≡ word_of command ∷ texts others.now)
+    requires form { (command : CommandWord) × (texts words.now ≡ command_text command ∷ texts others.now)
         × IsForm command (texts others.now) }
     requires matches { subcommand_rows_of matches.now ≡ subcommand_of program (texts words.now) }
     ensures command { IfOk result (λ command. IsCommand (texts words.now) (view command)) }
@@ -316,8 +316,8 @@ pub fn read_words(alloc: Global, words: &[String]) -> Result<Command, WordsError
     ensures only { IfOk result (λ command.
         (other : CommandTree) → IsCommand (texts words.now) other → other ≡ view command) }
     ensures limits { IfOk result (λ command. KeepsLimits (view command)) }
-    ensures misformed { IsErrOf result WordsError.Words → ¬ WellFormed (texts words.now) }
-    ensures formed { ¬ IsErrOf result WordsError.Words → WellFormed (texts words.now) }
+    ensures misformed { IsErrOf result WordsError.Words → ¬ AreCommandWords (texts words.now) }
+    ensures formed { ¬ IsErrOf result WordsError.Words → AreCommandWords (texts words.now) }
     ensures bad { IsErrOf result WordsError.ValueText
         → Nothing (IsCommand (texts words.now)) }
 {

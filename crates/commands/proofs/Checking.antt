@@ -2,10 +2,10 @@
 use Rattle.std.proofs.Common.{ℕ, ◌<◌, All, List}
 use Rattle.bs_fault.specs.Limits.{longest_text}
 use Rattle.command_line.specs.Command.{IsCommand, CheckCommand, CheckTree}
-use Rattle.commands.specs.Compile.{Reads}
-use Rattle.commands.specs.Effects.{Side, Effects, IsKept, Got, GotPart, IsRead}
+use Rattle.commands.specs.Compile.{ReadsText}
+use Rattle.commands.specs.Effects.{Side, Effects, IsUntouched, Got, GotPart, IsRead}
 use Rattle.commands.specs.Ends as ends
-use Rattle.commands.specs.Ends.{checked, unchecked, no_memory, Ends, written, out_fault}
+use Rattle.commands.specs.Ends.{checked, unchecked, no_memory, CommandEnds, written, out_fault}
 use Rattle.commands.specs.Refusal.{IsTextUnread, IsCheckFailure, IsCheckRefusalRead, ReportsCheckRefusal, failure_of_unread}
 use Rattle.commands.specs.declared.text.Unread.{Unread}
 use Rattle.commands.specs.declared.text.Unread.TheVariants as unread
@@ -16,11 +16,11 @@ use Rattle.text_commands.specs.declared.check.CheckRefusal.{CheckRefusal}
 use Rattle.text_commands.specs.declared.check.CheckRefusal.TheVariants.{Fault, UnknownEntry, ArgumentUnfit, TooLarge, OutOfMemory}
 
 pub Ends-checked : (words : List (List ℕ)) (e : Effects) (check : CheckTree) (lines : List ℕ) → IsCommand words (CheckCommand check)
-    → Reads (λ text. IsCheckOf check text lines) e.source → Got e.out lines → IsKept e.err → Ends words e 0
+    → ReadsText (λ text. IsCheckOf check text lines) e.source → Got e.out lines → IsUntouched e.err → CommandEnds words e 0
 Ends-checked words e check lines is r got kept = written lines (checked check lines is r) got kept
 
 pub Ends-checked-cut : (words : List (List ℕ)) (e : Effects) (check : CheckTree) (lines : List ℕ) → IsCommand words (CheckCommand check)
-    → Reads (λ text. IsCheckOf check text lines) e.source → GotPart e.out lines → IsKept e.err → Ends words e 6
+    → ReadsText (λ text. IsCheckOf check text lines) e.source → GotPart e.out lines → IsUntouched e.err → CommandEnds words e 6
 Ends-checked-cut words e check lines is r part kept = out_fault lines (checked check lines is r) part kept
 
 -- why nothing is reported of a source of which no text was read
@@ -40,9 +40,9 @@ failure_read check s read OutOfMemory are r why = tt
 pub Ends-unchecked : (words : List (List ℕ)) (e : Effects) (check : CheckTree) (r : CheckRefusal) (result : ℕ)
     → IsCommand words (CheckCommand check)
     → IsCheckRefusalRead check e.source r
-    → IsKept e.out
+    → IsUntouched e.out
     → ReportsCheckRefusal e.err r result
-    → Ends words e result
+    → CommandEnds words e result
 Ends-unchecked words e check (Fault told) result is why kept tells = Ends-told-or words e 3 result _ (unchecked check 3 _ is (ends.fault told why)) kept tells
 Ends-unchecked words e check UnknownEntry result is why kept tells = Ends-told words e 2 result _ (unchecked check 2 _ is (ends.no_entry why)) kept tells
 Ends-unchecked words e check ArgumentUnfit result is why kept tells = Ends-told words e 2 result _ (unchecked check 2 _ is (ends.unfit why)) kept tells

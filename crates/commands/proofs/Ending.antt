@@ -6,13 +6,13 @@ use Rattle.bs_io.specs.Faults.{Risen}
 use Rattle.bs_io.specs.Whole.{AppendsPart}
 use Rattle.command_line.specs.Command.{IsCommand, AsksToCompile, RunCommand, RunTree}
 use Rattle.bs_fault.specs.Limits.{longest_text}
-use Rattle.commands.specs.Effects.{Side, Effects, IsKept, Got, GotPart, Reports, IsRead}
-use Rattle.commands.specs.Ends.{Output, spelling, outcome, Cause, fault, too_large, no_memory, Ends, written, refused, out_fault, err_fault}
-use Rattle.commands.specs.Compile.{Reads}
+use Rattle.commands.specs.Effects.{Side, Effects, IsUntouched, Got, GotPart, ReportsLine, IsRead}
+use Rattle.commands.specs.Ends.{Output, spelling, outcome, Cause, fault, too_large, no_memory, CommandEnds, written, refused, out_fault, err_fault}
+use Rattle.commands.specs.Compile.{ReadsText}
 use Rattle.commands.specs.Refusal.{IsTextUnread, IsRefusalRead, IsRefusalFrom, refusal_of_unread, ReportsRefusal, WritesOutcome, CutsOutcome, ReportsOr}
 use Rattle.commands.specs.declared.text.Unread.{Unread}
 use Rattle.commands.specs.declared.text.Unread.TheVariants as unread
-use Rattle.text_commands.specs.Refusal.{SpellsImageOf, IsRefusalOf}
+use Rattle.text_commands.specs.Refusal.{SpellsImageOf, IsTextRefusal}
 use Rattle.text_commands.specs.declared.compile.Refusal as text
 use Rattle.text_commands.specs.declared.compile.Refusal.TheVariants.{Fault, TooLarge, OutOfMemory}
 
@@ -35,35 +35,35 @@ GotPart-part s piece (count, short, appended) rose = record {
 -- a line was written, or could not be
 pub Ends-told : (words : List (List ℕ)) (e : Effects) (status result : ℕ) (line : List ℕ)
     → Cause words e.source status line
-    → IsKept e.out
-    → Reports e.err line status result
-    → Ends words e result
+    → IsUntouched e.out
+    → ReportsLine e.err line status result
+    → CommandEnds words e result
 Ends-told words e status result line cause kept (inl (same, got)) =
-    subst (Ends words e) (sym same) (refused status line cause kept got)
+    subst (CommandEnds words e) (sym same) (refused status line cause kept got)
 Ends-told words e status result line cause kept (inr (same, part)) =
-    subst (Ends words e) (sym same) (err_fault status line cause kept part)
+    subst (CommandEnds words e) (sym same) (err_fault status line cause kept part)
 
 -- the same where there may be no memory for the line
 pub Ends-told-or : (words : List (List ℕ)) (e : Effects) (status result : ℕ) (line : List ℕ)
     → Cause words e.source status line
-    → IsKept e.out
+    → IsUntouched e.out
     → ReportsOr e.err line status result
-    → Ends words e result
+    → CommandEnds words e result
 Ends-told-or words e status result line cause kept (inl told) = Ends-told words e status result line cause kept told
 Ends-told-or words e status result line cause kept (inr told) = Ends-told words e 9 result _ no_memory kept told
 
 -- ---- compile
 
 -- what is written is the spelling of an image of the text that was read
-spells : (words : List (List ℕ)) (s : Side) (bytes : List ℕ) → AsksToCompile words → Reads (λ text. SpellsImageOf text bytes) s → Output words s bytes
+spells : (words : List (List ℕ)) (s : Side) (bytes : List ℕ) → AsksToCompile words → ReadsText (λ text. SpellsImageOf text bytes) s → Output words s bytes
 spells words s bytes is r =
     subst (Output words s) (sym r.holds.spelled)
     (spelling r.holds.image is (record { text = r.text; are_bytes = r.are_bytes; read = r.read; holds = r.holds.is_image }))
 
-pub Ends-written : (words : List (List ℕ)) (e : Effects) (bytes : List ℕ) → AsksToCompile words → Reads (λ text. SpellsImageOf text bytes) e.source → Got e.out bytes → IsKept e.err → Ends words e 0
+pub Ends-written : (words : List (List ℕ)) (e : Effects) (bytes : List ℕ) → AsksToCompile words → ReadsText (λ text. SpellsImageOf text bytes) e.source → Got e.out bytes → IsUntouched e.err → CommandEnds words e 0
 Ends-written words e bytes is r got kept = written bytes (spells words e.source bytes is r) got kept
 
-pub Ends-cut : (words : List (List ℕ)) (e : Effects) (bytes : List ℕ) → AsksToCompile words → Reads (λ text. SpellsImageOf text bytes) e.source → GotPart e.out bytes → IsKept e.err → Ends words e 6
+pub Ends-cut : (words : List (List ℕ)) (e : Effects) (bytes : List ℕ) → AsksToCompile words → ReadsText (λ text. SpellsImageOf text bytes) e.source → GotPart e.out bytes → IsUntouched e.err → CommandEnds words e 6
 Ends-cut words e bytes is r part kept = out_fault bytes (spells words e.source bytes is r) part kept
 
 -- what a source is refused for of which no text was read
@@ -72,7 +72,7 @@ refusal_unread s unread.ReadFault rose = rose
 refusal_unread s unread.OutOfMemory why = tt
 
 -- what a text that was read is refused for
-pub refusal_read : (s : Side) (read : List ℕ) (r : text.Refusal) → All (λ b. b < 256) read → IsRead longest_text s read → IsRefusalOf read r → IsRefusalRead s r
+pub refusal_read : (s : Side) (read : List ℕ) (r : text.Refusal) → All (λ b. b < 256) read → IsRead longest_text s read → IsTextRefusal read r → IsRefusalRead s r
 refusal_read s read (Fault told) are r why = record { text = read; are_bytes = are; read = r; holds = why }
 refusal_read s read (TooLarge large) are r why = record { text = read; are_bytes = are; read = r; holds = why }
 refusal_read s read OutOfMemory are r why = tt
@@ -81,17 +81,17 @@ refusal_read s read OutOfMemory are r why = tt
 pub Ends-refused : (words : List (List ℕ)) (e : Effects) (r : text.Refusal) (result : ℕ)
     → AsksToCompile words
     → IsRefusalRead e.source r
-    → IsKept e.out
+    → IsUntouched e.out
     → ReportsRefusal e.err r result
-    → Ends words e result
+    → CommandEnds words e result
 Ends-refused words e (Fault told) result is why kept tells = Ends-told-or words e 3 result _ (fault told is why) kept tells
 Ends-refused words e (TooLarge large) result is why kept tells = Ends-told-or words e 8 result _ (too_large large is why) kept tells
 Ends-refused words e OutOfMemory result is why kept tells = Ends-told words e 9 result _ no_memory kept tells
 
 -- ---- run
 
-pub Ends-run : (words : List (List ℕ)) (e : Effects) (run : RunTree) → IsCommand words (RunCommand run) → WritesOutcome run e.source e.out → IsKept e.err → Ends words e 0
+pub Ends-run : (words : List (List ℕ)) (e : Effects) (run : RunTree) → IsCommand words (RunCommand run) → WritesOutcome run e.source e.out → IsUntouched e.err → CommandEnds words e 0
 Ends-run words e run is w kept = written w.text (outcome run w.text is w.is_outcome) w.got kept
 
-pub Ends-run-cut : (words : List (List ℕ)) (e : Effects) (run : RunTree) → IsCommand words (RunCommand run) → CutsOutcome run e.source e.out → IsKept e.err → Ends words e 6
+pub Ends-run-cut : (words : List (List ℕ)) (e : Effects) (run : RunTree) → IsCommand words (RunCommand run) → CutsOutcome run e.source e.out → IsUntouched e.err → CommandEnds words e 6
 Ends-run-cut words e run is w kept = out_fault w.text (outcome run w.text is w.is_outcome) w.got kept

@@ -2,10 +2,10 @@
 use Rattle.std.proofs.Common.{ℕ, ◌<◌, All, List}
 use Rattle.command_line.specs.Command.{IsCommand, ListCommand}
 use Rattle.bs_fault.specs.Limits.{longest_text}
-use Rattle.commands.specs.Compile.{Reads}
-use Rattle.commands.specs.Effects.{Side, Effects, IsKept, Got, GotPart, IsRead}
+use Rattle.commands.specs.Compile.{ReadsText}
+use Rattle.commands.specs.Effects.{Side, Effects, IsUntouched, Got, GotPart, IsRead}
 use Rattle.commands.specs.Ends as ends
-use Rattle.commands.specs.Ends.{listed, unlisted, no_memory, Ends, written, out_fault}
+use Rattle.commands.specs.Ends.{listed, unlisted, no_memory, CommandEnds, written, out_fault}
 use Rattle.commands.specs.Refusal.{IsTextUnread, IsListFailure, IsListRefusalRead, ReportsRefusal, refusal_of_unread}
 use Rattle.commands.specs.declared.text.Unread.{Unread}
 use Rattle.commands.specs.declared.text.Unread.TheVariants as unread
@@ -16,11 +16,11 @@ use Rattle.text_commands.specs.declared.compile.Refusal.{Refusal}
 use Rattle.text_commands.specs.declared.compile.Refusal.TheVariants.{Fault, TooLarge, OutOfMemory}
 
 pub Ends-listed : (words : List (List ℕ)) (e : Effects) (stage : Stage) (bytes : List ℕ) → IsCommand words (ListCommand stage)
-    → Reads (λ text. IsListingOf stage text bytes) e.source → Got e.out bytes → IsKept e.err → Ends words e 0
+    → ReadsText (λ text. IsListingOf stage text bytes) e.source → Got e.out bytes → IsUntouched e.err → CommandEnds words e 0
 Ends-listed words e stage bytes is r got kept = written bytes (listed stage bytes is r) got kept
 
 pub Ends-listed-cut : (words : List (List ℕ)) (e : Effects) (stage : Stage) (bytes : List ℕ) → IsCommand words (ListCommand stage)
-    → Reads (λ text. IsListingOf stage text bytes) e.source → GotPart e.out bytes → IsKept e.err → Ends words e 6
+    → ReadsText (λ text. IsListingOf stage text bytes) e.source → GotPart e.out bytes → IsUntouched e.err → CommandEnds words e 6
 Ends-listed-cut words e stage bytes is r part kept = out_fault bytes (listed stage bytes is r) part kept
 
 -- why nothing is listed of a source of which no text was read
@@ -38,9 +38,9 @@ list_refusal_read stage s read OutOfMemory are r why = tt
 pub Ends-unlisted : (words : List (List ℕ)) (e : Effects) (stage : Stage) (r : Refusal) (result : ℕ)
     → IsCommand words (ListCommand stage)
     → IsListRefusalRead stage e.source r
-    → IsKept e.out
+    → IsUntouched e.out
     → ReportsRefusal e.err r result
-    → Ends words e result
+    → CommandEnds words e result
 Ends-unlisted words e stage (Fault told) result is why kept tells = Ends-told-or words e 3 result _ (unlisted stage 3 _ is (ends.fault told why)) kept tells
 Ends-unlisted words e stage (TooLarge large) result is why kept tells = Ends-told-or words e 8 result _ (unlisted stage 8 _ is (ends.too_large large why.0 why.1)) kept tells
 Ends-unlisted words e stage OutOfMemory result is why kept tells = Ends-told words e 9 result _ no_memory kept tells

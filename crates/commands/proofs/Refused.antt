@@ -3,19 +3,19 @@ use Rattle.std.proofs.Common.{◌≡◌, sym, subst, ◌∙◌, List, Result, Ok
 use Rattle.std.specs.Prelude.{ℕ, IfErr}
 use Rattle.command_line.specs.Command.{RunTree}
 use Rattle.image_form.specs.Image.{AreTables, tables_bytes}
-use Rattle.image_codec.specs.Reading.{reading, NoImage, IsRefusalOf}
+use Rattle.image_codec.specs.Reading.{image_reading, NoImage, IsRefusalOf}
 use Rattle.image_form.specs.Tables.{Tables}
 use Rattle.image_form.specs.declared.fault.ImageError.{ImageError}
 use Rattle.image_form.specs.declared.fault.ImageError.TheVariants as image_error
 use Rattle.commands.proofs.Spelled.{no_spelling}
-use Rattle.commands.specs.Effects.{Side, IsRead, IsKept}
+use Rattle.commands.specs.Effects.{Side, IsRead, IsUntouched}
 use Rattle.commands.specs.Refusal.{IsLoadRefusal, IsRunRefusal, IsRunRefusalFrom, IsUnread, refusal_of_image}
 use Rattle.commands.specs.Run.{ReadsImage, longest_image}
 use Rattle.commands.specs.declared.run.RunRefusal.{RunRefusal}
 use Rattle.commands.specs.declared.run.RunRefusal.TheVariants as refusal
 
 -- where nothing was read, nothing is written
-pub not_read : (run : RunTree) (source out : Side) → IsKept out → (r : RunRefusal) → IsUnread source r → IsRunRefusalFrom run source out r
+pub not_read : (run : RunTree) (source out : Side) → IsUntouched out → (r : RunRefusal) → IsUnread source r → IsRunRefusalFrom run source out r
 not_read run source out kept refusal.ReadFault p = (kept, p)
 not_read run source out kept (refusal.Image why) p = elim p [ ]
 not_read run source out kept refusal.UnknownEntry p = elim p [ ]
@@ -24,14 +24,14 @@ not_read run source out kept refusal.WriteFault p = elim p [ ]
 not_read run source out kept refusal.OutOfMemory p = kept
 
 -- nor where what was read is no image
-pub not_image : (run : RunTree) (source out : Side) (bytes slice : List ℕ) → IsKept out → IsRead longest_image source bytes → slice ≡ bytes
+pub not_image : (run : RunTree) (source out : Side) (bytes slice : List ℕ) → IsUntouched out → IsRead longest_image source bytes → slice ≡ bytes
     → (why : ImageError) → IsRefusalOf slice why → IsRunRefusalFrom run source out (refusal_of_image why)
 not_image run source out bytes slice kept read same (image_error.Refused why) p =
-    (kept, record { bytes = bytes; read = read; no_image = no_spelling bytes why (subst (λ (b : List ℕ). NoImage b × (reading b ≡ Err why)) same p) })
+    (kept, record { bytes = bytes; read = read; no_image = no_spelling bytes why (subst (λ (b : List ℕ). NoImage b × (image_reading b ≡ Err why)) same p) })
 not_image run source out bytes slice kept read same image_error.OutOfMemory p = kept
 
 -- nor where the image is not loaded
-pub not_loaded : (run : RunTree) (image : Tables) (out : Side) → IsKept out → (r : RunRefusal) → IsLoadRefusal run image r → IsRunRefusal run image out r
+pub not_loaded : (run : RunTree) (image : Tables) (out : Side) → IsUntouched out → (r : RunRefusal) → IsLoadRefusal run image r → IsRunRefusal run image out r
 not_loaded run image out kept refusal.ReadFault p = p
 not_loaded run image out kept (refusal.Image why) p = p
 not_loaded run image out kept refusal.UnknownEntry p = (kept, p)

@@ -18,7 +18,7 @@ use Rattle.rv_machine.specs.declared.setup.LoadError.{LoadError}
 use Rattle.rv_machine.specs.declared.setup.LoadError.TheVariants.{UnknownEntry, ArgumentUnfit, OutOfMemory}
 use Rattle.rv_machine.specs.declared.setup.Setup.{Setup}
 use Rattle.commands.specs.Refusal.{IsLoadRefusal, refusal_of_load}
-use Rattle.commands.specs.Run.{IsLoaded, IsRunText, IsUnfit, words_of_answers, schedule_of}
+use Rattle.commands.specs.Run.{IsLoaded, IsRunText, IsUnfit, words_of_answers, schedule_of_moves}
 
 -- A machine is where the run of a setup begins.
 pub record Begun (image : Tables) (setup : Setup) (h : Hart) : Type 0 where
@@ -102,7 +102,7 @@ loaded image setup h run answers entry_is args_are stack_is heap_is begins answe
 
 -- the text that a loaded machine's run writes
 pub text-of : (image : Tables) (h : Hart) (run : RunTree) (schedule : Schedule) (answers : List ℕ) → AreTables image → IsLoaded run image h answers
-    → runtime.schedule_of schedule ≡ schedule_of run.moves → IsRunText run image (outcome_text (run_of h answers schedule run.steps))
+    → runtime.schedule_of schedule ≡ schedule_of_moves run.moves → IsRunText run image (outcome_text (run_of h answers schedule run.steps))
 text-of image h run schedule answers tables l moves_are = record {
   entry = l.entry;
   args = l.args;

@@ -16,26 +16,26 @@ use Rattle.rv_machine.specs.Run.{machine_run}
 use Rattle.rv_machine.specs.Text as machine
 use Rattle.text_commands.specs.Check.{HasNoEntry, IsUnfitFor, IsTooLargeToCheck}
 use Rattle.text_commands.specs.Compile.{IsTooLarge}
-use Rattle.text_commands.specs.Lines.{end_text}
+use Rattle.text_commands.specs.Lines.{run_outcome_text}
 use Rattle.text_commands.specs.Trial.{IsTrial}
-use Rattle.commands.specs.Effects.{Effects, IsKept, Got, GotPart}
-use Rattle.commands.specs.Ends.{soaked, unsoaked, no_memory, Ends, written, out_fault}
+use Rattle.commands.specs.Effects.{Effects, IsUntouched, Got, GotPart}
+use Rattle.commands.specs.Ends.{soaked, unsoaked, no_memory, CommandEnds, written, out_fault}
 use Rattle.commands.specs.Refusal.{IsSoakRefusal, ReportsSoakRefusal}
-use Rattle.commands.specs.Run.{IsRunText, IsUnfit, schedule_of}
+use Rattle.commands.specs.Run.{IsRunText, IsUnfit, schedule_of_moves}
 use Rattle.commands.specs.Soak.{soak_text, soak_entry, soak_check, soak_run, IsSoakOf}
 use Rattle.commands.specs.declared.soak.SoakRefusal.{SoakRefusal}
 use Rattle.commands.specs.declared.soak.SoakRefusal.TheVariants.{TooLarge, OutOfMemory}
 use Rattle.commands.proofs.Drawn.{drawn_bytes, entry_named, entry_suited, row_named, row_suited}
 use Rattle.commands.proofs.Ending.{Ends-told, Ends-told-or}
 
-module _ (words : List (List ℕ)) (e : Effects) (seed functions : ℕ) (is : IsCommand words (SoakCommand seed functions)) (unread : IsKept e.source) where
-  pub Ends-soaked : (lines : List ℕ) → IsSoakOf seed functions lines → Got e.out lines → IsKept e.err → Ends words e 0
+module _ (words : List (List ℕ)) (e : Effects) (seed functions : ℕ) (is : IsCommand words (SoakCommand seed functions)) (unread : IsUntouched e.source) where
+  pub Ends-soaked : (lines : List ℕ) → IsSoakOf seed functions lines → Got e.out lines → IsUntouched e.err → CommandEnds words e 0
   Ends-soaked lines told got kept = written lines (soaked seed functions lines is told unread) got kept
 
-  pub Ends-soaked-cut : (lines : List ℕ) → IsSoakOf seed functions lines → GotPart e.out lines → IsKept e.err → Ends words e 6
+  pub Ends-soaked-cut : (lines : List ℕ) → IsSoakOf seed functions lines → GotPart e.out lines → IsUntouched e.err → CommandEnds words e 6
   Ends-soaked-cut lines told part kept = out_fault lines (soaked seed functions lines is told unread) part kept
 
-  pub Ends-unsoaked : (r : SoakRefusal) (result : ℕ) → IsSoakRefusal seed functions r → IsKept e.out → ReportsSoakRefusal e.err r result → Ends words e result
+  pub Ends-unsoaked : (r : SoakRefusal) (result : ℕ) → IsSoakRefusal seed functions r → IsUntouched e.out → ReportsSoakRefusal e.err r result → CommandEnds words e result
   Ends-unsoaked (TooLarge large) result why kept tells = Ends-told-or words e 8 result _ (unsoaked seed functions large is why unread) kept tells
   Ends-unsoaked OutOfMemory result why kept tells = Ends-told words e 9 result _ no_memory kept tells
 
@@ -44,11 +44,11 @@ module _ (words : List (List ℕ)) (e : Effects) (seed functions : ℕ) (is : Is
 pub trial_fed : (check : CheckTree) (text : List ℕ) (image : Tables) (outcome : List ℕ) → IsTrial check text image outcome → (words : List ℕ) × (outcome ≡ words ++ 10 ∷ [])
 trial_fed check text image outcome t =
     let run = cmm_run t.is_image.file (layout_of image) t.entry t.args t.answers check.fuel in
-    (machine.calls_text run.calls ++ end_text run.outcome, t.told ∙ sym (append_assoc (machine.calls_text run.calls) (end_text run.outcome) (codes "\n")))
+    (machine.calls_text run.calls ++ run_outcome_text run.outcome, t.told ∙ sym (append_assoc (machine.calls_text run.calls) (run_outcome_text run.outcome) (codes "\n")))
 
 pub run_fed : (run : RunTree) (image : Tables) (text : List ℕ) → IsRunText run image text → (words : List ℕ) × (text ≡ words ++ 10 ∷ [])
 run_fed run image text t =
-    let seen = machine_run image t.entry t.args t.answers run.stack run.heap (schedule_of run.moves) run.steps in
+    let seen = machine_run image t.entry t.args t.answers run.stack run.heap (schedule_of_moves run.moves) run.steps in
     (machine.calls_text seen.calls ++ machine.end_text seen.end, t.told)
 
 -- ---- what is drawn has no fault, and its last function takes the words

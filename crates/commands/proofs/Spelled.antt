@@ -7,13 +7,13 @@ use Rattle.bs_fault.specs.declared.image.ImageRefusal.{ImageRefusal}
 use Rattle.image_codec.proofs.ImageLaws.{is_read}
 use Rattle.image_form.proofs.Lengths.{length-le32, length-words}
 use Rattle.image_form.specs.Image.{AreTables, tables_bytes, section_bytes, table_bytes, func_bytes, sym_bytes, ext_bytes, desc_bytes, le32, magic, table_limit, code_limit}
-use Rattle.image_codec.specs.Reading.{reading, NoImage}
+use Rattle.image_codec.specs.Reading.{image_reading, NoImage}
 use Rattle.image_form.specs.Tables.{Tables}
 use Rattle.commands.specs.Run.{IsSpelling, IsNoImage, longest_image}
 
 -- an image is read from its spelling
-pub read_of : (bytes : List ℕ) (image : Tables) → IsSpelling bytes image → reading bytes ≡ Ok image
-read_of bytes image s = ap reading s.spelled ∙ is_read image s.is_image
+pub read_of : (bytes : List ℕ) (image : Tables) → IsSpelling bytes image → image_reading bytes ≡ Ok image
+read_of bytes image s = ap image_reading s.spelled ∙ is_read image s.is_image
 
 -- bytes spell one image
 pub one_image : (bytes : List ℕ) (a b : Tables) → IsSpelling bytes a → IsSpelling bytes b → a ≡ b
@@ -64,5 +64,5 @@ spelling_short bytes image s =
     let same : length bytes ≡ length (tables_bytes image) = ap length s.spelled in
     omega arith
 
-pub no_spelling : (bytes : List ℕ) (refusal : ImageRefusal) → NoImage bytes × (reading bytes ≡ Err refusal) → IsNoImage bytes refusal
+pub no_spelling : (bytes : List ℕ) (refusal : ImageRefusal) → NoImage bytes × (image_reading bytes ≡ Err refusal) → IsNoImage bytes refusal
 no_spelling bytes refusal h = record { none = λ image s. (let e = sym (read_of bytes image s) ∙ h.1 in cc); first = h.1 }

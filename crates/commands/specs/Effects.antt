@@ -36,8 +36,8 @@ abbrev pub Rose : Side → Type 0
 Rose side = Risen side.faults_before side.faults_after
 
 -- nothing was read from it, or written to it
-abbrev pub IsKept : Side → Type 0
-IsKept side = Keeps side.before side.after
+abbrev pub IsUntouched : Side → Type 0
+IsUntouched side = Keeps side.before side.after
 
 -- it got these bytes, and nothing else
 abbrev pub Got : Side → List ℕ → Type 0
@@ -53,8 +53,8 @@ pub record GotPart (side : Side) (bytes : List ℕ) : Type 0 where
   pub rose : Rose side
 
 -- a line was written to it whole, and the status is its own; or not whole, and the status is 6
-abbrev pub Reports : Side → List ℕ → ℕ → ℕ → Type 0
-Reports side line status result =
+abbrev pub ReportsLine : Side → List ℕ → ℕ → ℕ → Type 0
+ReportsLine side line status result =
     ((result ≡ status) × Got side line) ⊎ ((result ≡ 6) × GotPart side line)
 
 -- These are the bytes that were read: all that there were, up to one past the limit.
@@ -64,5 +64,5 @@ pub record IsRead (limit : ℕ) (source : Side) (bytes : List ℕ) : Type 0 wher
 
 -- nothing is on out, and err got this line
 pub record Refused (e : Effects) (line : List ℕ) : Type 0 where
-  pub out_kept : IsKept e.out
+  pub out_kept : IsUntouched e.out
   pub told : Got e.err line

@@ -7,7 +7,7 @@ use Rattle.bs_fault.specs.declared.image.ImageRefusal.{ImageRefusal}
 use Rattle.bs_fault.specs.declared.large.Large.{Large}
 use Rattle.bs_fault.specs.declared.usage.Usage.TheVariants.{Words, ValueText, UnknownEntry, ArgumentUnfit}
 use Rattle.command_line.specs.Command.{IsCommand, AsksToCompile, CommandTree, RunCommand, CheckCommand, ListCommand, SoakCommand, RunTree, CheckTree}
-use Rattle.command_line.specs.Words.{WellFormed}
+use Rattle.command_line.specs.Words.{AreCommandWords}
 use Rattle.cmm_front.specs.FileOf.{HasFault}
 use Rattle.stages.specs.Image.{IsOfImage}
 use Rattle.image_form.specs.Image.{tables_bytes}
@@ -16,8 +16,8 @@ use Rattle.stages.specs.declared.stage.Stage.{Stage}
 use Rattle.text_commands.specs.Check.{IsCheckOf, HasNoEntry, IsUnfitFor, IsTooLargeToCheck}
 use Rattle.text_commands.specs.Compile.{IsImageOf, IsTooLarge}
 use Rattle.text_commands.specs.Listing.{IsListingOf}
-use Rattle.commands.specs.Compile.{Reads}
-use Rattle.commands.specs.Effects.{Effects, Side, Rose, IsKept, Got, GotPart}
+use Rattle.commands.specs.Compile.{ReadsText}
+use Rattle.commands.specs.Effects.{Effects, Side, Rose, IsUntouched, Got, GotPart}
 use Rattle.commands.specs.Lines.{read_fault_line, no_memory_line}
 use Rattle.commands.specs.Run.{IsOutcomeOf, ReadsNoImage, NamesNoEntry, GivesUnfit}
 use Rattle.commands.specs.Soak.{soak_text, IsSoakOf}
@@ -27,7 +27,7 @@ pub data Output (words : List (List ℕ)) (source : Side) : List ℕ → Type 0 
   -- `compile`: the one spelling of an image of the text
   spelling : (image : Tables)
       → AsksToCompile words
-      → Reads (λ text. IsImageOf text image) source
+      → ReadsText (λ text. IsImageOf text image) source
       → Output words source (tables_bytes image)
   -- `run`: the outcome of the run of the image
   outcome : (run : RunTree) (text : List ℕ)
@@ -37,39 +37,39 @@ pub data Output (words : List (List ℕ)) (source : Side) : List ℕ → Type 0 
   -- `check`: the outcome of the run of the text, and what it needs of stack, heap and fuel
   checked : (check : CheckTree) (lines : List ℕ)
       → IsCommand words (CheckCommand check)
-      → Reads (λ text. IsCheckOf check text lines) source
+      → ReadsText (λ text. IsCheckOf check text lines) source
       → Output words source lines
   -- `list`: the text of that stage of the text
   listed : (stage : Stage) (bytes : List ℕ)
       → IsCommand words (ListCommand stage)
-      → Reads (λ text. IsListingOf stage text bytes) source
+      → ReadsText (λ text. IsListingOf stage text bytes) source
       → Output words source bytes
   -- `soak`: what is reported of the text that is drawn; nothing was read
   soaked : (seed functions : ℕ) (lines : List ℕ)
       → IsCommand words (SoakCommand seed functions)
       → IsSoakOf seed functions lines
-      → IsKept source
+      → IsUntouched source
       → Output words source lines
 
 -- Why `check` has no output, in the order in which the causes are looked for.
 pub data CheckCause (check : CheckTree) (source : Side) : ℕ → List ℕ → Type 0 where
   fault : (told : Fault)
-      → Reads (λ text. HasFault text told) source
+      → ReadsText (λ text. HasFault text told) source
       → CheckCause check source 3 (fault_line told)
-  no_entry : Reads (HasNoEntry check) source → CheckCause check source 2 (usage_line UnknownEntry)
-  unfit : Reads (IsUnfitFor check) source → CheckCause check source 2 (usage_line ArgumentUnfit)
+  no_entry : ReadsText (HasNoEntry check) source → CheckCause check source 2 (usage_line UnknownEntry)
+  unfit : ReadsText (IsUnfitFor check) source → CheckCause check source 2 (usage_line ArgumentUnfit)
   too_large : (large : Large)
-      → Reads (λ text. IsTooLargeToCheck check text large) source
+      → ReadsText (λ text. IsTooLargeToCheck check text large) source
       → CheckCause check source 8 (large_line large)
 
 -- Why `list` has no output. The size of the image is a cause for a stage of the image alone.
 pub data ListCause (stage : Stage) (source : Side) : ℕ → List ℕ → Type 0 where
   fault : (told : Fault)
-      → Reads (λ text. HasFault text told) source
+      → ReadsText (λ text. HasFault text told) source
       → ListCause stage source 3 (fault_line told)
   too_large : (large : Large)
       → IsOfImage stage
-      → Reads (λ text. IsTooLarge text large) source
+      → ReadsText (λ text. IsTooLarge text large) source
       → ListCause stage source 8 (large_line large)
 
 -- the command has input
@@ -81,10 +81,10 @@ HasInput _ = ⊤
 pub data Cause (words : List (List ℕ)) (source : Side) : ℕ → List ℕ → Type 0 where
   -- the words do not have the form of a command, or have a value that no command has; nothing was
   -- read
-  no_command : (WellFormed words → ⊥) → IsKept source → Cause words source 2 (usage_line Words)
-  no_value : WellFormed words
+  no_command : (AreCommandWords words → ⊥) → IsUntouched source → Cause words source 2 (usage_line Words)
+  no_value : AreCommandWords words
       → ((command : CommandTree) → IsCommand words command → ⊥)
-      → IsKept source
+      → IsUntouched source
       → Cause words source 2 (usage_line ValueText)
   read_fault : (command : CommandTree)
       → IsCommand words command
@@ -94,11 +94,11 @@ pub data Cause (words : List (List ℕ)) (source : Side) : ℕ → List ℕ → 
   -- `compile`
   fault : (told : Fault)
       → AsksToCompile words
-      → Reads (λ text. HasFault text told) source
+      → ReadsText (λ text. HasFault text told) source
       → Cause words source 3 (fault_line told)
   too_large : (large : Large)
       → AsksToCompile words
-      → Reads (λ text. IsTooLarge text large) source
+      → ReadsText (λ text. IsTooLarge text large) source
       → Cause words source 8 (large_line large)
   -- `run`
   no_image : (run : RunTree) (refusal : ImageRefusal)
@@ -127,33 +127,33 @@ pub data Cause (words : List (List ℕ)) (source : Side) : ℕ → List ℕ → 
   unsoaked : (seed functions : ℕ) (large : Large)
       → IsCommand words (SoakCommand seed functions)
       → IsTooLarge (soak_text seed functions) large
-      → IsKept source
+      → IsUntouched source
       → Cause words source 8 (large_line large)
   no_memory : Cause words source 9 no_memory_line
 
 -- How a call ends.
-pub data Ends (words : List (List ℕ)) (e : Effects) : ℕ → Type 0 where
+pub data CommandEnds (words : List (List ℕ)) (e : Effects) : ℕ → Type 0 where
   -- out has the whole output, and err nothing
   written : (bytes : List ℕ)
       → Output words e.source bytes
       → Got e.out bytes
-      → IsKept e.err
-      → Ends words e 0
+      → IsUntouched e.err
+      → CommandEnds words e 0
   -- err has the line, and out nothing
   refused : (status : ℕ) (line : List ℕ)
       → Cause words e.source status line
-      → IsKept e.out
+      → IsUntouched e.out
       → Got e.err line
-      → Ends words e status
+      → CommandEnds words e status
   -- a write failed: out has the front of the output, and err nothing
   out_fault : (bytes : List ℕ)
       → Output words e.source bytes
       → GotPart e.out bytes
-      → IsKept e.err
-      → Ends words e 6
+      → IsUntouched e.err
+      → CommandEnds words e 6
   -- or err has the front of the line, and out nothing
   err_fault : (status : ℕ) (line : List ℕ)
       → Cause words e.source status line
-      → IsKept e.out
+      → IsUntouched e.out
       → GotPart e.err line
-      → Ends words e 6
+      → CommandEnds words e 6

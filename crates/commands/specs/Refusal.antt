@@ -19,8 +19,8 @@ use Rattle.text_commands.specs.declared.check.CheckRefusal.TheVariants as checke
 use Rattle.text_commands.specs.Compile.{IsTooLarge}
 use Rattle.text_commands.specs.declared.compile.Refusal as text
 use Rattle.text_commands.specs.declared.compile.Refusal.TheVariants.{Fault, TooLarge, OutOfMemory}
-use Rattle.commands.specs.Compile.{Reads}
-use Rattle.commands.specs.Effects.{Side, Rose, Reports, IsKept, Got, GotPart}
+use Rattle.commands.specs.Compile.{ReadsText}
+use Rattle.commands.specs.Effects.{Side, Rose, ReportsLine, IsUntouched, Got, GotPart}
 use Rattle.commands.specs.Lines.{no_memory_line}
 use Rattle.commands.specs.Run.{IsRunText, IsOutcomeOf, IsUnfit, ReadsNoImage, NamesNoEntry, GivesUnfit}
 use Rattle.commands.specs.Soak.{soak_text}
@@ -46,8 +46,8 @@ IsTextUnread source unread.OutOfMemory = ⊤
 
 -- why the text that was read has no image; want of memory may come before all is read
 abbrev pub IsRefusalRead : Side → text.Refusal → Type 0
-IsRefusalRead source (Fault told) = Reads (λ text. HasFault text told) source
-IsRefusalRead source (TooLarge large) = Reads (λ text. IsTooLarge text large) source
+IsRefusalRead source (Fault told) = ReadsText (λ text. HasFault text told) source
+IsRefusalRead source (TooLarge large) = ReadsText (λ text. IsTooLarge text large) source
 IsRefusalRead source OutOfMemory = ⊤
 
 -- what is answered where no text was read
@@ -64,9 +64,9 @@ IsRefusalFrom source (Text why) = IsRefusalRead source why
 
 -- why nothing is listed of the text that was read
 abbrev pub IsListRefusalRead : Stage → Side → text.Refusal → Type 0
-IsListRefusalRead stage source (Fault told) = Reads (λ text. HasFault text told) source
+IsListRefusalRead stage source (Fault told) = ReadsText (λ text. HasFault text told) source
 IsListRefusalRead stage source (TooLarge large) =
-    IsOfImage stage × Reads (λ text. IsTooLarge text large) source
+    IsOfImage stage × ReadsText (λ text. IsTooLarge text large) source
 IsListRefusalRead stage source OutOfMemory = ⊤
 
 -- why nothing is listed of a source
@@ -85,11 +85,11 @@ IsSoakRefusal seed functions soak.OutOfMemory = ⊤
 
 -- why nothing is reported of a run of the text that was read
 abbrev pub IsCheckRefusalRead : CheckTree → Side → check.CheckRefusal → Type 0
-IsCheckRefusalRead check source (checked.Fault told) = Reads (λ text. HasFault text told) source
-IsCheckRefusalRead check source checked.UnknownEntry = Reads (HasNoEntry check) source
-IsCheckRefusalRead check source checked.ArgumentUnfit = Reads (IsUnfitFor check) source
+IsCheckRefusalRead check source (checked.Fault told) = ReadsText (λ text. HasFault text told) source
+IsCheckRefusalRead check source checked.UnknownEntry = ReadsText (HasNoEntry check) source
+IsCheckRefusalRead check source checked.ArgumentUnfit = ReadsText (IsUnfitFor check) source
 IsCheckRefusalRead check source (checked.TooLarge large) =
-    Reads (λ text. IsTooLargeToCheck check text large) source
+    ReadsText (λ text. IsTooLargeToCheck check text large) source
 IsCheckRefusalRead check source checked.OutOfMemory = ⊤
 
 -- what is answered where no text was read
@@ -141,10 +141,10 @@ abbrev pub IsRunRefusal : RunTree → Tables → Side → RunRefusal → Type 0
 IsRunRefusal run image out refusal.ReadFault = ⊥
 IsRunRefusal run image out (refusal.Image why) = ⊥
 IsRunRefusal run image out refusal.UnknownEntry =
-    IsKept out × (func_named run.entry image.funcs ≡ None)
-IsRunRefusal run image out refusal.ArgumentUnfit = IsKept out × IsUnfit run image
+    IsUntouched out × (func_named run.entry image.funcs ≡ None)
+IsRunRefusal run image out refusal.ArgumentUnfit = IsUntouched out × IsUnfit run image
 IsRunRefusal run image out refusal.WriteFault = CutsRun run image out
-IsRunRefusal run image out refusal.OutOfMemory = IsKept out
+IsRunRefusal run image out refusal.OutOfMemory = IsUntouched out
 
 -- the outcome of the run of the image that was read is on out
 pub record WritesOutcome (run : RunTree) (source out : Side) : Type 0 where
@@ -159,12 +159,12 @@ pub record CutsOutcome (run : RunTree) (source out : Side) : Type 0 where
 
 -- why a source has no outcome, or not the whole of it on out
 abbrev pub IsRunRefusalFrom : RunTree → Side → Side → RunRefusal → Type 0
-IsRunRefusalFrom run source out refusal.ReadFault = IsKept out × Rose source
-IsRunRefusalFrom run source out (refusal.Image why) = IsKept out × ReadsNoImage source why
-IsRunRefusalFrom run source out refusal.UnknownEntry = IsKept out × NamesNoEntry run source
-IsRunRefusalFrom run source out refusal.ArgumentUnfit = IsKept out × GivesUnfit run source
+IsRunRefusalFrom run source out refusal.ReadFault = IsUntouched out × Rose source
+IsRunRefusalFrom run source out (refusal.Image why) = IsUntouched out × ReadsNoImage source why
+IsRunRefusalFrom run source out refusal.UnknownEntry = IsUntouched out × NamesNoEntry run source
+IsRunRefusalFrom run source out refusal.ArgumentUnfit = IsUntouched out × GivesUnfit run source
 IsRunRefusalFrom run source out refusal.WriteFault = CutsOutcome run source out
-IsRunRefusalFrom run source out refusal.OutOfMemory = IsKept out
+IsRunRefusalFrom run source out refusal.OutOfMemory = IsUntouched out
 
 -- why nothing was read
 abbrev pub IsUnread : Side → RunRefusal → Type 0
@@ -179,23 +179,23 @@ IsUnread source refusal.OutOfMemory = ⊤
 
 -- the line was reported, or that there is no memory for it
 abbrev pub ReportsOr : Side → List ℕ → ℕ → ℕ → Type 0
-ReportsOr err line status result = Reports err line status result ⊎ Reports err no_memory_line 9 result
+ReportsOr err line status result = ReportsLine err line status result ⊎ ReportsLine err no_memory_line 9 result
 
 -- the line of a text that has no image
 abbrev pub ReportsRefusal : Side → text.Refusal → ℕ → Type 0
 ReportsRefusal err (Fault told) result = ReportsOr err (fault_line told) 3 result
 ReportsRefusal err (TooLarge large) result = ReportsOr err (large_line large) 8 result
-ReportsRefusal err OutOfMemory result = Reports err no_memory_line 9 result
+ReportsRefusal err OutOfMemory result = ReportsLine err no_memory_line 9 result
 
 -- the line of a text that is drawn, of which nothing is reported
 abbrev pub ReportsSoakRefusal : Side → SoakRefusal → ℕ → Type 0
 ReportsSoakRefusal err (soak.TooLarge large) result = ReportsOr err (large_line large) 8 result
-ReportsSoakRefusal err soak.OutOfMemory result = Reports err no_memory_line 9 result
+ReportsSoakRefusal err soak.OutOfMemory result = ReportsLine err no_memory_line 9 result
 
 -- the line of a text of whose run nothing is reported
 abbrev pub ReportsCheckRefusal : Side → check.CheckRefusal → ℕ → Type 0
 ReportsCheckRefusal err (checked.Fault told) result = ReportsOr err (fault_line told) 3 result
-ReportsCheckRefusal err checked.UnknownEntry result = Reports err (usage_line UnknownEntry) 2 result
-ReportsCheckRefusal err checked.ArgumentUnfit result = Reports err (usage_line ArgumentUnfit) 2 result
+ReportsCheckRefusal err checked.UnknownEntry result = ReportsLine err (usage_line UnknownEntry) 2 result
+ReportsCheckRefusal err checked.ArgumentUnfit result = ReportsLine err (usage_line ArgumentUnfit) 2 result
 ReportsCheckRefusal err (checked.TooLarge large) result = ReportsOr err (large_line large) 8 result
-ReportsCheckRefusal err checked.OutOfMemory result = Reports err no_memory_line 9 result
+ReportsCheckRefusal err checked.OutOfMemory result = ReportsLine err no_memory_line 9 result

@@ -5,11 +5,11 @@ use Rattle.command_line.specs.Command.{RunTree}
 use Rattle.command_line.specs.declared.command.Moves.{Moves}
 use Rattle.command_line.specs.declared.command.Moves.TheVariants.{Never, Every, Seed}
 use Rattle.image_form.specs.Image.{AreTables, tables_bytes}
-use Rattle.image_codec.specs.Reading.{reading}
+use Rattle.image_codec.specs.Reading.{image_reading}
 use Rattle.image_form.specs.Tables.{Tables, Func}
 use Rattle.mover_plans.specs.Schedules.{never, every, seeded}
 use Rattle.rv_machine.specs.Hart.{Hart}
-use Rattle.rv_machine.specs.Loading.{func_named, word_of_arg, before, words_of_args}
+use Rattle.rv_machine.specs.Loading.{func_named, word_of_arg, before_words, words_of_args}
 use Rattle.rv_machine.specs.Run.{Schedule, machine_run}
 use Rattle.rv_machine.specs.Start.{start}
 use Rattle.rv_machine.specs.Text.{outcome_text}
@@ -24,13 +24,13 @@ longest_image = 620691524
 abbrev pub words_of_answers : Tables → List Arg → Option (List ℕ)
 words_of_answers image [] = Some []
 words_of_answers image (answer ∷ answers) =
-    before (word_of_arg image answer) (words_of_answers image answers)
+    before_words (word_of_arg image answer) (words_of_answers image answers)
 
 -- when the mover asks, and where it puts the blocks
-abbrev pub schedule_of : Moves → Schedule
-schedule_of Never = never
-schedule_of Every = every
-schedule_of (Seed seed) = seeded seed
+abbrev pub schedule_of_moves : Moves → Schedule
+schedule_of_moves Never = never
+schedule_of_moves Every = every
+schedule_of_moves (Seed seed) = seeded seed
 
 -- These bytes are those of an image.
 pub record IsSpelling (bytes : List ℕ) (image : Tables) : Type 0 where
@@ -62,7 +62,7 @@ pub record IsRunText (run : RunTree) (image : Tables) (text : List ℕ) : Type 0
   pub answered : words_of_answers image run.answers ≡ Some answers
   pub told : text
       ≡ outcome_text
-      (machine_run image entry args answers run.stack run.heap (schedule_of run.moves) run.steps)
+      (machine_run image entry args answers run.stack run.heap (schedule_of_moves run.moves) run.steps)
 
 -- The text is the outcome of this run of the image that was read.
 pub record IsOutcomeOf (run : RunTree) (source : Side) (text : List ℕ) : Type 0 where
@@ -75,7 +75,7 @@ pub record IsOutcomeOf (run : RunTree) (source : Side) (text : List ℕ) : Type 
 -- No image has these bytes, and this is the first fault in them.
 pub record IsNoImage (bytes : List ℕ) (refusal : ImageRefusal) : Type 0 where
   pub none : (image : Tables) → IsSpelling bytes image → ⊥
-  pub first : reading bytes ≡ Err refusal
+  pub first : image_reading bytes ≡ Err refusal
 
 -- The bytes that were read are no image's.
 pub record ReadsNoImage (source : Side) (refusal : ImageRefusal) : Type 0 where

@@ -3,9 +3,9 @@ ghost use Rattle.std.specs.Prelude.{◌≡◌, ◌<◌, ℕ, List, All, IfOk, If
 ghost use Rattle.bs_words.specs.Contents.{contents};
 ghost use Rattle.command_line.specs.Command.{IsCommand, CheckCommand};
 ghost use Rattle.command_line.specs.View.{check_view};
-ghost use Rattle.commands.specs.Compile.{Reads};
+ghost use Rattle.commands.specs.Compile.{ReadsText};
 ghost use Rattle.commands.specs.Effects.{side, effects};
-ghost use Rattle.commands.specs.Ends.{Ends};
+ghost use Rattle.commands.specs.Ends.{CommandEnds};
 ghost use Rattle.commands.specs.Refusal.{IsCheckFailure, failure_of_unread};
 ghost use Rattle.commands.specs.declared.check.CheckFailure.TheVariants.{Text};
 ghost use Rattle.text_commands.specs.Check.{IsCheckOf};
@@ -60,7 +60,7 @@ pub fn check<R: Threads + Sync, S: Source, K: Sink, E: Sink, G: Gate + Sync>(
 ) -> u8
     ensures { (line : List (List ℕ))
         → IsCommand line (CheckCommand (check_view words.now))
-        → Ends line
+        → CommandEnds line
         (effects (side S.left S.faults source.old source.new)
         (side K.held K.faults out.old out.new) (side E.held E.faults err.old err.new))
         result }
@@ -85,7 +85,7 @@ fn check_source<R: Threads + Sync, S: Source, G: Gate + Sync>(
     gate: &G,
 ) -> Result<bs_words::List<u8>, CheckFailure>
     ensures told { IfOk result (λ lines.
-        Reads (λ text. IsCheckOf (check_view words.now) text (contents lines))
+        ReadsText (λ text. IsCheckOf (check_view words.now) text (contents lines))
         (side S.left S.faults source.old source.new)) }
     ensures failed { IfErr result (λ r.
         IsCheckFailure (check_view words.now) (side S.left S.faults source.old source.new)

@@ -1,11 +1,11 @@
 //! The command `compile`: a Cmm text in, an image out.
 ghost use Rattle.std.specs.Prelude.{◌≡◌, ◌<◌, ◌≤◌, All, IfOk, IfErr};
 ghost use Rattle.bs_words.specs.Contents.{contents};
-ghost use Rattle.commands.specs.Compile.{Reads};
+ghost use Rattle.commands.specs.Compile.{ReadsText};
 ghost use Rattle.commands.specs.Effects.{side};
 ghost use Rattle.commands.specs.Refusal.{IsRefusalFrom, refusal_of_unread};
 ghost use Rattle.commands.specs.declared.compile.Refusal.TheVariants.{Text};
-ghost use Rattle.text_commands.specs.Refusal.{SpellsImageOf, IsRefusalOf};
+ghost use Rattle.text_commands.specs.Refusal.{SpellsImageOf, IsTextRefusal};
 
 use crate::text::{Unread, read_text};
 use bs_io::Source;
@@ -60,7 +60,7 @@ pub fn compile_source<R: Threads + Sync, S: Source, G: Gate + Sync>(
     requires some_jobs { 1 ≤ jobs }
     requires few_jobs { jobs ≤ 64 }
     ensures image { IfOk result (λ bytes.
-        Reads (λ text. SpellsImageOf text (contents bytes))
+        ReadsText (λ text. SpellsImageOf text (contents bytes))
         (side S.left S.faults source.old source.new)) }
     ensures refused { IfErr result (λ r.
         IsRefusalFrom (side S.left S.faults source.old source.new) r) }
@@ -81,7 +81,7 @@ fn compile_bytes<R: Threads + Sync, G: Gate + Sync>(
     requires few_jobs { jobs ≤ 64 }
     ensures are_bytes { All (λ b. b < 256) text.now }
     ensures image { IfOk result (λ bytes. SpellsImageOf text.now (contents bytes)) }
-    ensures refused { IfErr result (λ r. IsRefusalOf text.now r) }
+    ensures refused { IfErr result (λ r. IsTextRefusal text.now r) }
 {
     compile_text(rt, alloc, text, jobs, gate)
 }

@@ -1,5 +1,5 @@
 //! The lines on err, and the statuses.
-ghost use Rattle.commands.specs.Effects.{side, Reports};
+ghost use Rattle.commands.specs.Effects.{side, ReportsLine};
 ghost use Rattle.bs_fault.specs.FaultLines.{fault_line};
 ghost use Rattle.bs_fault.specs.Lines.{large_line, image_line};
 ghost use Rattle.commands.specs.Refusal.{ReportsOr, ReportsRefusal, ReportsCheckRefusal, ReportsSoakRefusal};
@@ -36,7 +36,7 @@ pub const NO_MEMORY: u8 = 9;
 
 /// Writes a whole line to err and answers `status`, or 6 where the line cannot be written whole.
 pub fn tell<E: Sink>(err: &mut E, line: &[u8], status: u8) -> u8
-    ensures { Reports (side E.held E.faults err.old err.new) line.now status result }
+    ensures { ReportsLine (side E.held E.faults err.old err.new) line.now status result }
 {
     match write_all(err, line) {
         Ok(()) => status,

@@ -2,9 +2,9 @@
 ghost use Rattle.std.specs.Prelude.{◌<◌, ℕ, List, All, IfOk, IfErr};
 ghost use Rattle.bs_words.specs.Contents.{contents};
 ghost use Rattle.command_line.specs.Command.{IsCommand, ListCommand};
-ghost use Rattle.commands.specs.Compile.{Reads};
+ghost use Rattle.commands.specs.Compile.{ReadsText};
 ghost use Rattle.commands.specs.Effects.{side, effects};
-ghost use Rattle.commands.specs.Ends.{Ends};
+ghost use Rattle.commands.specs.Ends.{CommandEnds};
 ghost use Rattle.commands.specs.Refusal.{IsListFailure};
 ghost use Rattle.text_commands.specs.Listing.{IsListingOf, IsListRefusal};
 
@@ -29,7 +29,7 @@ pub fn list<R: Threads + Sync, S: Source, K: Sink, E: Sink>(
 ) -> u8
     ensures { (line : List (List ℕ))
         → IsCommand line (ListCommand stage)
-        → Ends line
+        → CommandEnds line
         (effects (side S.left S.faults source.old source.new)
         (side K.held K.faults out.old out.new) (side E.held E.faults err.old err.new))
         result }
@@ -53,7 +53,7 @@ fn list_source<R: Threads + Sync, S: Source>(
     source: &mut S,
 ) -> Result<bs_words::List<u8>, Refusal>
     ensures listed { IfOk result (λ bytes.
-        Reads (λ text. IsListingOf stage text (contents bytes))
+        ReadsText (λ text. IsListingOf stage text (contents bytes))
         (side S.left S.faults source.old source.new)) }
     ensures refused { IfErr result (λ r.
         IsListFailure stage (side S.left S.faults source.old source.new) r) }

@@ -9,7 +9,7 @@ ghost use Rattle.rv_machine.specs.Loading.{IsRoom};
 ghost use Rattle.commands.specs.Effects.{side, IsRead};
 ghost use Rattle.commands.specs.Refusal.{WritesRun, WritesOutcome, IsRunRefusal, IsRunRefusalFrom, IsUnread};
 ghost use Rattle.commands.specs.Refusal.{IsLoadRefusal, refusal_of_image, refusal_of_load};
-ghost use Rattle.commands.specs.Run.{IsLoaded, words_of_answers, longest_image, schedule_of};
+ghost use Rattle.commands.specs.Run.{IsLoaded, words_of_answers, longest_image, schedule_of_moves};
 ghost use Rattle.commands.specs.declared.run.RunRefusal.TheVariants.{WriteFault, OutOfMemory};
 ghost use Rattle.mover_runtime.specs.Schedules as runtime;
 
@@ -194,7 +194,7 @@ fn load_run(alloc: Global, run: RunWords, image: &Image) -> Result<Loaded<'_>, R
 
 /// The schedule that the words ask for.
 fn schedule_for(moves: Moves) -> Schedule
-    ensures { runtime.schedule_of result ≡ schedule_of moves }
+    ensures { runtime.schedule_of result ≡ schedule_of_moves moves }
 {
     match moves {
         Moves::Never => Schedule::Never,

@@ -6,8 +6,8 @@ ghost use Rattle.command_line.specs.View.{run_view, check_view};
 ghost use Rattle.image_form.specs.Image.{IsImage, tables_bytes};
 ghost use Rattle.image_form.specs.Tables.{tables};
 ghost use Rattle.text_commands.specs.Trial.{IsTrial};
-ghost use Rattle.commands.specs.Effects.{Side, IsKept, side, effects};
-ghost use Rattle.commands.specs.Ends.{Ends};
+ghost use Rattle.commands.specs.Effects.{Side, IsUntouched, side, effects};
+ghost use Rattle.commands.specs.Ends.{CommandEnds};
 ghost use Rattle.commands.specs.Refusal.{IsSoakRefusal};
 ghost use Rattle.commands.specs.Run.{IsRunText};
 ghost use Rattle.commands.specs.declared.soak.SoakRefusal.TheVariants.{OutOfMemory};
@@ -64,8 +64,8 @@ pub fn soak<R: Threads + Sync, K: Sink, E: Sink, G: Gate + Sync>(
     requires few { functions ≤ 1000 }
     ensures { (line : List (List ℕ)) (source : Side)
         → IsCommand line (SoakCommand seed functions)
-        → IsKept source
-        → Ends line
+        → IsUntouched source
+        → CommandEnds line
         (effects source (side K.held K.faults out.old out.new)
         (side E.held E.faults err.old err.new))
         result }

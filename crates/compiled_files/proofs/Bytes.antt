@@ -8,7 +8,7 @@ use Rattle.cmm_data.specs.Placement.{data_bytes}
 use Rattle.cmm_tree.specs.Tree.{FileTree}
 use Rattle.image_form.specs.Image.{stub_words}
 use Rattle.image_form.specs.Tables.{Tables}
-use Rattle.layout_rules.specs.Laid.{IsLaid, address_of_value, cell_bytes, data_of, entries_from}
+use Rattle.layout_rules.specs.Laid.{IsLaid, address_of_value, cell_bytes, data_of, function_entries_from}
 use Rattle.rv_pieces.specs.declared.piece.Pieces.{Pieces}
 
 abbrev pub AreSmall : List ℕ → Type 0
@@ -55,4 +55,4 @@ data_small file entries =
 
 pub bytes_small : (file : FileTree) (image : Tables) (ps : List Pieces) → IsLaid file ps image → AreSmall image.bytes
 bytes_small file image ps laid =
-    subst AreSmall (sym (ap (λ (t : Tables). t.bytes) laid.is)) (data_small file (entries_from stub_words ps laid.forms))
+    subst AreSmall (sym (ap (λ (t : Tables). t.bytes) laid.is)) (data_small file (function_entries_from stub_words ps laid.forms))

@@ -21,8 +21,8 @@ use Rattle.layout_rules.specs.Conditions.{CanBeLaid}
 use Rattle.layout_rules.specs.Laid.{IsLaid}
 use Rattle.lin_ir.specs.Descriptors.{NamesLives}
 use Rattle.lin_ir.specs.Formed.{GoesDown, WellFormed}
-use Rattle.lin_ir.specs.Keeps.{Keeps}
-use Rattle.lin_ir.specs.Meaning.{Locations, NamedAt, State, put_all, start, step}
+use Rattle.lin_ir.specs.Keeps.{LinearKeeps}
+use Rattle.lin_ir.specs.Meaning.{Locations, NamedAt, State, put_all, linear_start, step}
 use Rattle.lin_ir.specs.Walks.{Reached}
 use Rattle.lin_ir.specs.declared.descr.Descr.{Descr}
 use Rattle.lin_ir.specs.declared.lin.Lin.{Lin}
@@ -31,7 +31,7 @@ use Rattle.lin_ir.specs.declared.lin.Spot.{Spot}
 use Rattle.linear_rules.proofs.Walked.{Tail, reached_tail, tail_stands}
 use Rattle.made_functions.specs.Chained.{IsChained}
 use Rattle.mach_ir.specs.Acts.{Around}
-use Rattle.mach_ir.specs.Runs.{Place}
+use Rattle.mach_ir.specs.Runs.{ActivationSetting}
 use Rattle.moving_laws.specs.Values.{HasFunctions}
 use Rattle.rv_pieces.specs.declared.piece.Pieces.{Pieces}
 use Rattle.selection_rules.specs.Select.{selected}
@@ -40,21 +40,21 @@ use Rattle.line_stands.specs.Parts.{PartStands}
 use Rattle.line_calls.proofs.Every.{every_branch, every_entry, every_line}
 use Rattle.line_calls.specs.Laws.{frame_in}
 use Rattle.line_calls.specs.Points.{IsReadyFor, before_service}
-use Rattle.emit_rules.specs.Entry.{entry, frame_of}
-use Rattle.emit_rules.specs.Units.{is_branch, is_free, owed_before}
+use Rattle.emit_rules.specs.Entry.{entry_pieces, frame_of}
+use Rattle.emit_rules.specs.Units.{is_branch, is_free_exit, owed_before}
 use Rattle.linear_machine.specs.Arrival.{ArrivesIn}
 use Rattle.linear_machine.specs.Follows.{IsAt, IsEntered, needs_of, used}
 use Rattle.linear_machine.specs.Relation.{Below, Laid}
 use Rattle.linear_machine.specs.View.{Fixed, View}
 use Rattle.linking.specs.Assembled.{Setup}
 use Rattle.linking.specs.Pace.{IsReached, Words, at_start, by_step}
-use Rattle.linking.specs.Program.{place_in, setting_in}
+use Rattle.linking.specs.Program.{activation_in, setting_in}
 use Rattle.linking_machine.specs.Compiled.{IsCompiled}
-use Rattle.linking_machine.specs.Emitted.{BeginsFree, FollowsLine, IsEmitted}
+use Rattle.linking_machine.specs.Emitted.{BeginsFree, FollowsLine, IsImageEmitted}
 use Rattle.linking_machine.specs.Standing.{fixed_of}
 use Rattle.linking_machine.proofs.Compiled.{bases_hold, compiled_correct, compiled_in_need}
 use Rattle.linking_stages.specs.Stages.{linear_program}
-use Rattle.function_stands.specs.Compiled.{IsImageOf}
+use Rattle.function_stands.specs.Compiled.{IsImageOfPieces}
 use Rattle.function_stands.specs.Functions.{FunctionStands, entry_place}
 use Rattle.function_stands.proofs.Acting.{some_word}
 use Rattle.function_stands.proofs.Entries.{entry_offset}
@@ -62,10 +62,10 @@ use Rattle.function_stands.proofs.Whole.{function_stands}
 use Rattle.accepted_files.proofs.Defined.{given_data}
 use Rattle.laid_files.proofs.Has.{has_functions}
 use Rattle.first_statics.proofs.First.{data_ends, first_lies, first_stands}
-use Rattle.frame_names.specs.Names.{names_by}
+use Rattle.frame_names.specs.Names.{locations_named_by}
 use Rattle.frame_names.proofs.Names.{exact_names}
-use Rattle.compiled_files.specs.Forward.{LiesForward, first_part, words_of}
-use Rattle.compiled_files.specs.Image.{function_words}
+use Rattle.compiled_files.specs.Forward.{LiesForward, first_part, laid_words}
+use Rattle.compiled_files.specs.Image.{function_word_count}
 use Rattle.compiled_files.specs.Stages.{AreChained, most_nodes, selected_in}
 use Rattle.compiled_files.proofs.Bytes.{bytes_small}
 use Rattle.compiled_files.proofs.Forward.{forward}
@@ -89,7 +89,7 @@ never_put end [] f = refl
 never_put end (v ∷ []) f = refl
 never_put end (v ∷ w ∷ vs) f = refl
 
-never_begins : (c : Place) (arguments : List Value) (memory : Memory) (u : State) → start c no_lines arguments memory ≡ Some u → ⊥
+never_begins : (c : ActivationSetting) (arguments : List Value) (memory : Memory) (u : State) → linear_start c no_lines arguments memory ≡ Some u → ⊥
 never_begins c [] memory u e = absurd (cc)
 never_begins c (v ∷ []) memory u e = absurd (cc)
 never_begins c (v ∷ w ∷ vs) memory u e = absurd (cc)
@@ -140,13 +140,13 @@ owes_or false x = inl refl
 -- ---- where a run begins
 
 record HasBegun (m : Lin) : Type 0 where
-  place : Place
+  place : ActivationSetting
   arguments : List Value
   memory : Memory
   state : State
-  begins : start place m arguments memory ≡ Some state
+  begins : linear_start place m arguments memory ≡ Some state
 
-has_begun : (lins : ℕ → Lin) (named : ℕ → NamedAt) (f : ℕ) (c : Place) {u : State} → IsReached State (linear_program lins named) f c u → HasBegun (lins f)
+has_begun : (lins : ℕ → Lin) (named : ℕ → NamedAt) (f : ℕ) (c : ActivationSetting) {u : State} → IsReached State (linear_program lins named) f c u → HasBegun (lins f)
 has_begun lins named f c (at_start {arguments = arguments} {memory = memory} {s = s} e) =
     record { place = c; arguments = arguments; memory = memory; state = s; begins = e }
 has_begun lins named f c (by_step r l) = has_begun lins named f c r
@@ -162,7 +162,7 @@ module _ (text : List ℕ) (file : FileTree) (is : IsFileOf text file) (bytes : 
   end : data_end file ≡ data_start + length image.bytes
   end = data_ends file ps image laid_out
 
-  image_of : IsImageOf image file ps setting
+  image_of : IsImageOfPieces image file ps setting
   image_of = record { can = can; laid = laid_out; short = tables.code.short; symbols = λ name. refl; end = end }
 
   has : HasFunctions image
@@ -172,7 +172,7 @@ module _ (text : List ℕ) (file : FileTree) (is : IsFileOf text file) (bytes : 
   entry_at f = entry_place image f
 
   abbrev words : ℕ
-  words = function_words image
+  words = function_word_count image
 
   -- ---- each function
 
@@ -187,7 +187,7 @@ module _ (text : List ℕ) (file : FileTree) (is : IsFileOf text file) (bytes : 
       by : (o : Option FunctionTree) → slice_get (functions file) f ≡ o → Function f
       by (Some tree) there =
           let it = chained f tree there in
-          let named = names_by it.descrs it.lin in
+          let named = locations_named_by it.descrs it.lin in
           let names = exact_names it.chained.lines.regular it.chained.exact in
           of_file tree there it.lin it.descrs it.pieces it.chained named names
           (function_stands image file ps setting f tree it.lin it.descrs it.pieces named image_of it.there it.chained names has)
@@ -231,11 +231,11 @@ module _ (text : List ℕ) (file : FileTree) (is : IsFileOf text file) (bytes : 
       }
   lies f (past long none) = no_lines_lie (entry_at f) words
 
-  keeps : (f : ℕ) (x : Function f) (tree : FunctionTree) → slice_get (functions file) f ≡ Some tree → Keeps (selected tree) (lin_of x) (named_of x)
+  keeps : (f : ℕ) (x : Function f) (tree : FunctionTree) → slice_get (functions file) f ≡ Some tree → LinearKeeps (selected tree) (lin_of x) (named_of x)
   keeps f (of_file of there m ds p c named names stands) tree e =
       let both : Some of ≡ Some tree = sym there ∙ e in
       let same : of ≡ tree = cc in
-      subst (λ (t : FunctionTree). Keeps (selected t) m named) same (c.lines.keeps named names)
+      subst (λ (t : FunctionTree). LinearKeeps (selected t) m named) same (c.lines.keeps named names)
   keeps f (past long none) tree e = absurd (let both : None ≡ Some tree = sym none ∙ e in cc)
 
   formed : (f : ℕ) (x : Function f) → HasBegun (lin_of x) → WellFormed (lin_of x)
@@ -248,8 +248,8 @@ module _ (text : List ℕ) (file : FileTree) (is : IsFileOf text file) (bytes : 
     abbrev s : Fixed
     s = fixed_of image has bases_hold run
 
-    abbrev place : Place
-    place = place_in file (layout_of image) f below
+    abbrev place : ActivationSetting
+    place = activation_in file (layout_of image) f below
 
     line_at : (x : Function f) (rest : List Line) (held : Locations) (a : Around) → Reached (lin_of x) rest a.tries →
         ((i : Line) (next : List Line) → rest ≡ i ∷ next → IsReadyFor i a) →
@@ -260,9 +260,9 @@ module _ (text : List ℕ) (file : FileTree) (is : IsFileOf text file) (bytes : 
         ⊎ BeginsFree (laid_of x) (lin_of x) Nowhere rest
     line_at x [] held a reached finds at = inl (record { words = 0; few = omega arith; so = record { follows = tt; calls = tt }; takes = inl refl })
     line_at (past long none) (i ∷ next) held a reached finds at = absurd (no_tail (reached_tail no_lines reached))
-    line_at (of_file tree there m ds p ch named names stands) (i ∷ next) held a reached finds at = by_free (is_free i.op next) refl
+    line_at (of_file tree there m ds p ch named names stands) (i ∷ next) held a reached finds at = by_free (is_free_exit i.op next) refl
       where
-        by_free : (t : Bool) → is_free i.op next ≡ t →
+        by_free : (t : Bool) → is_free_exit i.op next ≡ t →
             FollowsLine (owed_before (i ∷ next)) (first_part stands.laid (i ∷ next)) s stands.laid Nowhere entry_at c v
             (used stands.laid (record { rest = i ∷ next; file = held; around = a }))
             (step place named m (record { rest = i ∷ next; file = held; around = a }))
@@ -293,7 +293,7 @@ module _ (text : List ℕ) (file : FileTree) (is : IsFileOf text file) (bytes : 
                   behind at);
             })
 
-    entry_follows : (x : Function f) (arguments : List Value) (memory : Memory) (u : State) → start place (lin_of x) arguments memory ≡ Some u →
+    entry_follows : (x : Function f) (arguments : List Value) (memory : Memory) (u : State) → linear_start place (lin_of x) arguments memory ≡ Some u →
         IsEntered s entry_at f arguments memory c v →
         ArrivesIn 0 ((laid_of x).part (length (lin_of x).code) - entry_at f) s (needs_of (laid_of x) c u) v (IsAt s (laid_of x) Nowhere c u)
     entry_follows (past long none) arguments memory u e entered = absurd (never_begins place arguments memory u e)
@@ -303,22 +303,22 @@ module _ (text : List ℕ) (file : FileTree) (is : IsFileOf text file) (bytes : 
         let k = laid.part (length m.code) - entry_at f in
         let behind : laid.part (length m.code) ≡ entry_at f + k = omega (arith, low) in
         every_entry Nowhere s stands.names laid entry_at f c place m v arguments memory k stands.small
-        (subst (λ (to : ℕ). PartStands s stands.names (entry_at f) to (entry (frame_in laid))) behind (stands.entered s refl)) behind
+        (subst (λ (to : ℕ). PartStands s stands.names (entry_at f) to (entry_pieces (frame_in laid))) behind (stands.entered s refl)) behind
         ch.lines.regular.seated.params entered u e
 
   -- ---- and all
 
   abbrev paced : Words State
-  paced = words_of lins laid_in entry_at (λ f. (lies f (functions_are f)).down.order)
+  paced = laid_words lins laid_in entry_at (λ f. (lies f (functions_are f)).down.order)
 
-  emitted : IsEmitted file image lins named_in paced laid_in entry_at (λ f. Nowhere) has bases_hold
+  emitted : IsImageEmitted file image lins named_in paced laid_in entry_at (λ f. Nowhere) has bases_hold
   emitted = record {
     frames = λ f. frame_is f (functions_are f);
     owed = λ f u. refl;
     lines = λ run f below c v u reached walk low at.
         line_at run f below c v (functions_are f) u.rest u.file u.around walk
-        (λ i next e. ready lins named_in f (place_in file (layout_of image) f below)
-        (formed f (functions_are f) (has_begun lins named_in f (place_in file (layout_of image) f below) reached)) u i next reached e) at;
+        (λ i next e. ready lins named_in f (activation_in file (layout_of image) f below)
+        (formed f (functions_are f) (has_begun lins named_in f (activation_in file (layout_of image) f below) reached)) u i next reached e) at;
     begins = λ run f below c v arguments memory u e low entered. entry_follows run f below c v (functions_are f) arguments memory u e entered;
     entries = record {
       places = entry_offset image file ps setting image_of;

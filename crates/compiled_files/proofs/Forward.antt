@@ -7,10 +7,10 @@ use Rattle.bs_words.specs.declared.types.Loc.{Loc}
 use Rattle.bs_words.specs.declared.values.Value.{Value}
 use Rattle.cmm_meaning.specs.State.{Callee, Inside, Outside}
 use Rattle.mach_ir.specs.Acts.{Act, Around, Target, On}
-use Rattle.mach_ir.specs.Runs.{Place, Step, entered}
+use Rattle.mach_ir.specs.Runs.{ActivationSetting, Step, entry_around}
 use Rattle.mach_ir.specs.Walks.{OneOf, this, other}
 use Rattle.lin_ir.specs.Formed.{is_exit, is_label}
-use Rattle.lin_ir.specs.Meaning.{Locations, NamedAt, State, after_label, at_code, at_handler, are_vals, begun, clear, code_at, destroyed_by, flow_act, lin_act, on_act, on_values, passes_frame, past_frame, put_all, unless_misnamed, values, wrote}
+use Rattle.lin_ir.specs.Meaning.{Locations, NamedAt, State, after_label, at_code, at_handler, are_vals, begin_linear, clear_destroyed, code_at, destroyed_by, flow_act, lin_act, on_act, on_values, passes_frame, past_frame, put_all, unless_misnamed, values, wrote}
 use Rattle.lin_ir.specs.Walks.{Reached, goes, raises, targets, tries_after}
 use Rattle.lin_ir.specs.declared.lin.Flow.TheVariants as flow
 use Rattle.lin_ir.specs.declared.lin.Lin.{Lin}
@@ -21,11 +21,11 @@ use Rattle.linear_rules.proofs.Walked.{Tail, tail_label, tail_target, reached_ta
 use Rattle.tidy_rules.proofs.Ends.{tail_length}
 use Rattle.tidy_rules.proofs.Turns.{Turns, goes_in, exits_in, jumps_in, unwinds_in, pushes_in, asks_in, replaces_in, ends_in, raising_in, stuck_in, turns}
 use Rattle.linear_machine.specs.Relation.{Laid}
-use Rattle.linking.specs.Pace.{GoesForward, StepForward, left_behind}
+use Rattle.linking.specs.Pace.{ProgramGoesForward, StepForward, left_behind}
 use Rattle.linking_stages.specs.Stages.{linear_program}
 use Rattle.linking_stages.proofs.Walking.{reached_walks}
 use Rattle.linking_machine.proofs.Linked.{owed_once}
-use Rattle.compiled_files.specs.Forward.{LiesForward, first_part, rank, words_upto, words_of}
+use Rattle.compiled_files.specs.Forward.{LiesForward, first_part, line_rank, words_upto, laid_words}
 
 -- ---- words of lines by their rank
 
@@ -139,7 +139,7 @@ module _ (laid : Laid) (rises : (fewer more : ℕ) → fewer ≤ more → laid.p
 
 module _ (m : Lin) (laid : Laid) (entry words : ℕ) (lies : LiesForward m laid entry words) where
   abbrev r : ℕ → ℕ
-  r = rank m lies.down.order
+  r = line_rank m lies.down.order
 
   abbrev place_ahead : List Line → ℕ
   place_ahead code = words_upto laid r (r (length code)) (length m.code)
@@ -204,7 +204,7 @@ module _ (m : Lin) (laid : Laid) (entry words : ℕ) (lies : LiesForward m laid 
   handler_within : (tries : List ℕ) → place_ahead (at_handler m.code tries) ≤ words
   handler_within tries = all_ahead (at_handler m.code tries)
 
-  module _ (c : Place) (i : Line) (next : List Line) (a : Around) (here : Reached m (i ∷ next) a.tries) where
+  module _ (c : ActivationSetting) (i : Line) (next : List Line) (a : Around) (here : Reached m (i ∷ next) a.tries) where
     wrote_forward : (left : ℕ) (rest : List Line) (after : Around) (o : Option Locations) → place_ahead rest ≤ left →
         StepForward State words ahead left (wrote rest after o)
     wrote_forward left rest after None h = tt
@@ -221,7 +221,7 @@ module _ (m : Lin) (laid : Laid) (entry words : ℕ) (lies : LiesForward m laid 
     module _ (inside : is_exit i.op ≡ false) (f : Locations) where
       act_forward : {x : Act} (left : ℕ) → Leaves left → Turns i.op a.tries x → StepForward State words ahead left (on_act c m i next f a x)
       act_forward left h (goes_in {vs = vs} {to = to} {after = after} o e) =
-          wrote_forward left (code_at m.code next to) after (put_all c.setting.end i.results vs (clear (destroyed_by i.op) f))
+          wrote_forward left (code_at m.code next to) after (put_all c.setting.end i.results vs (clear_destroyed (destroyed_by i.op) f))
           (h (code_at m.code next to) (lower i next a.tries here inside to o))
       act_forward left h (exits_in {l = l} b o e) = all_ahead (after_label l m.code)
       act_forward left h (jumps_in r e) = handler_within a.tries
@@ -270,7 +270,7 @@ module _ (m : Lin) (laid : Laid) (entry words : ℕ) (lies : LiesForward m laid 
         misnamed_forward (not (passes_frame i.op) || are_vals c.setting.end names f) left _
         (op_forward (past_frame (passes_frame i.op) names f) vs left h i.op refl)
 
-  code_forward : (c : Place) (named : NamedAt) (rest : List Line) (f : Locations) (a : Around) → Reached m rest a.tries →
+  code_forward : (c : ActivationSetting) (named : NamedAt) (rest : List Line) (f : Locations) (a : Around) → Reached m rest a.tries →
       StepForward State words ahead (place_ahead rest - first_part laid rest) (at_code c named m rest f a)
   code_forward c named [] f a here = tt
   code_forward c named (i ∷ next) f a here =
@@ -283,10 +283,10 @@ module _ (m : Lin) (laid : Laid) (entry words : ℕ) (lies : LiesForward m laid 
       let few = tail_length (reached_tail m here) in
       upto_own laid lies.rises r (length next) (length m.code) (omega (arith, few))
 
-  start_within : (memory : Memory) (o : Option Locations) (s : State) → begun m memory o ≡ Some s → laid.part (length m.code) - entry + ahead s ≤ words
+  start_within : (memory : Memory) (o : Option Locations) (s : State) → begin_linear m memory o ≡ Some s → laid.part (length m.code) - entry + ahead s ≤ words
   start_within memory None s e = absurd (let no : None ≡ Some s = e in cc)
   start_within memory (Some f) s e =
-      let same : record { rest = m.code; file = f; around = entered memory } ≡ s = cc in
+      let same : record { rest = m.code; file = f; around = entry_around memory } ≡ s = cc in
       let low = lies.begins in
       let high = lies.ends in
       let up = lies.rises 0 (length m.code) (omega arith) in
@@ -297,7 +297,7 @@ module _ (m : Lin) (laid : Laid) (entry words : ℕ) (lies : LiesForward m laid 
 module _ (lins : ℕ → Lin) (named : ℕ → NamedAt) (laid : ℕ → Laid) (entry : ℕ → ℕ) (words : ℕ)
     (lies : (f : ℕ) → LiesForward (lins f) (laid f) (entry f) words) where
   -- A program whose functions lie so goes forward.
-  pub forward : GoesForward State (linear_program lins named) (words_of lins laid entry (λ f. (lies f).down.order)) words
+  pub forward : ProgramGoesForward State (linear_program lins named) (laid_words lins laid entry (λ f. (lies f).down.order)) words
   forward = record {
     enter = λ f c arguments memory s e.
         start_within (lins f) (laid f) (entry f) words (lies f) memory (put_all c.setting.end (lins f).params arguments (λ l. None)) s e;

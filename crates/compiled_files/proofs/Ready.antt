@@ -9,11 +9,11 @@ use Rattle.cmm_meaning.specs.Setting.{Setting}
 use Rattle.cmm_meaning.specs.State.{Doing}
 use Rattle.mach_ir.specs.Acts as acts
 use Rattle.mach_ir.specs.Acts.{Around, On, At, AtLabel, AtHandler, Act, Goes, Pushes, Jumps, Unwinds, Asks, Replaces, Ends, EndsRaising, Stuck, if_known}
-use Rattle.mach_ir.specs.Runs.{Place, Step, entered}
+use Rattle.mach_ir.specs.Runs.{ActivationSetting, Step, entry_around}
 use Rattle.mach_ir.specs.declared.op.Op.{Op}
 use Rattle.mach_ir.specs.declared.mach.MachOp.TheVariants as mach
 use Rattle.lin_ir.specs.Formed.{WellFormed}
-use Rattle.lin_ir.specs.Meaning.{Locations, NamedAt, State, are_vals, at_code, at_handler, begun, clear, code_at, destroyed_by, flow_act, lin_act, on_act, on_values, passes_frame, past_frame, put_all, unless_misnamed, values, wrote}
+use Rattle.lin_ir.specs.Meaning.{Locations, NamedAt, State, are_vals, at_code, at_handler, begin_linear, clear_destroyed, code_at, destroyed_by, flow_act, lin_act, on_act, on_values, passes_frame, past_frame, put_all, unless_misnamed, values, wrote}
 use Rattle.lin_ir.specs.Walks.{Reached}
 use Rattle.lin_ir.specs.declared.lin.Flow.{Flow}
 use Rattle.lin_ir.specs.declared.lin.Flow.TheVariants as flow
@@ -26,7 +26,7 @@ use Rattle.mach_laws.proofs.Turns as ops
 use Rattle.tidy_rules.proofs.Turns.{Turns, goes_in, exits_in, jumps_in, unwinds_in, pushes_in, asks_in, replaces_in, ends_in, raising_in, stuck_in, turns}
 use Rattle.line_calls.specs.Points.{IsReadyFor}
 use Rattle.function_stands.proofs.Handlers.{pushed, pushed_enters}
-use Rattle.linking.specs.Pace.{IsReached, LeadsTo, at_start, behind, by_step, continues, deepens, pays}
+use Rattle.linking.specs.Pace.{IsReached, StepLeadsTo, at_start, behind, by_step, continues, deepens, pays}
 use Rattle.linking_stages.specs.Stages.{linear_program}
 use Rattle.linking_stages.proofs.Walking.{reached_walks}
 
@@ -57,7 +57,7 @@ op_none e ops.ends_in = tt
 op_none e ops.raising_in = tt
 op_none e ops.stuck_in = tt
 
-branch_none : (l : ℕ) (a : Around) → a.raised ≡ None → (o : Option Bool) → LeavesNone (acts.branches a (At l) On o)
+branch_none : (l : ℕ) (a : Around) → a.raised ≡ None → (o : Option Bool) → LeavesNone (acts.goes_by_test a (At l) On o)
 branch_none l a e (Some b) = e
 branch_none l a e None = tt
 
@@ -116,7 +116,7 @@ abbrev Calm : State → Type 0
 Calm u = (u.around.raised ≡ None) ⊎ BeginsHandler u.rest
 
 module _ (m : Lin) (formed : WellFormed m) where
-  module _ (c : Place) (i : Line) (next : List Line) (a : Around) (here : Reached m (i ∷ next) a.tries) where
+  module _ (c : ActivationSetting) (i : Line) (next : List Line) (a : Around) (here : Reached m (i ∷ next) a.tries) where
     -- the innermost handler is entered
     handler_begins : (h : ℕ) (tries : List ℕ) → a.tries ≡ h ∷ tries → BeginsHandler (at_handler m.code a.tries)
     handler_begins h tries e =
@@ -125,13 +125,13 @@ module _ (m : Lin) (formed : WellFormed m) where
         (record { line = there.line; next = there.next; is = there.is; enters = there.enters })
 
     wrote_calm : (rest : List Line) (after : Around) (o : Option Locations) → after.raised ≡ None → (u : State) →
-        LeadsTo State u (wrote rest after o) → Calm u
+        StepLeadsTo State u (wrote rest after o) → Calm u
     wrote_calm rest after None e u l = elim l [ ]
     wrote_calm rest after (Some f) e u continues = inl e
 
-    act_calm : (f : Locations) {x : Act} → LeavesNone x → Turns i.op a.tries x → (u : State) → LeadsTo State u (on_act c m i next f a x) → Calm u
+    act_calm : (f : Locations) {x : Act} → LeavesNone x → Turns i.op a.tries x → (u : State) → StepLeadsTo State u (on_act c m i next f a x) → Calm u
     act_calm f none (goes_in {vs = vs} {to = to} {after = after} o e) u l =
-        wrote_calm (code_at m.code next to) after (put_all c.setting.end i.results vs (clear (destroyed_by i.op) f)) none u l
+        wrote_calm (code_at m.code next to) after (put_all c.setting.end i.results vs (clear_destroyed (destroyed_by i.op) f)) none u l
     act_calm f none (exits_in b o e) u pays = inl none
     act_calm f none (jumps_in {h = h} {after = after} r e) u pays = inr (handler_begins h after.tries e)
     act_calm f none (unwinds_in {h = h} {after = after} r e) u continues = inr (handler_begins h after.tries e)
@@ -142,13 +142,13 @@ module _ (m : Lin) (formed : WellFormed m) where
     act_calm f none raising_in u l = elim l [ ]
     act_calm f none stuck_in u l = elim l [ ]
 
-    misnamed_calm : (b : Bool) (x : Step State) → ((u : State) → LeadsTo State u x → Calm u) → (u : State) →
-        LeadsTo State u (unless_misnamed b x) → Calm u
+    misnamed_calm : (b : Bool) (x : Step State) → ((u : State) → StepLeadsTo State u x → Calm u) → (u : State) →
+        StepLeadsTo State u (unless_misnamed b x) → Calm u
     misnamed_calm true x k u l = k u l
     misnamed_calm false x k u l = elim l [ ]
 
     values_calm : (a.raised ≡ None) ⊎ (i.op ≡ lin.Flow flow.EnterTrap) → (names : List Loc) (f : Locations) (o : Option (List Value)) (u : State) →
-        LeadsTo State u (on_values c names m i next f a o) → Calm u
+        StepLeadsTo State u (on_values c names m i next f a o) → Calm u
     values_calm h names f None u l = elim l [ ]
     values_calm h names f (Some vs) u l =
         misnamed_calm (not (passes_frame i.op) || are_vals c.setting.end names f) _
@@ -162,20 +162,20 @@ module _ (m : Lin) (formed : WellFormed m) where
       let it : b.line ≡ i = cc in
       inr (ap (λ (j : Line). j.op) (sym it) ∙ b.enters)
 
-  code_calm : (c : Place) (named : NamedAt) (s : State) → Reached m s.rest s.around.tries → Calm s → (rest : List Line) → s.rest ≡ rest →
-      (u : State) → LeadsTo State u (at_code c named m rest s.file s.around) → Calm u
+  code_calm : (c : ActivationSetting) (named : NamedAt) (s : State) → Reached m s.rest s.around.tries → Calm s → (rest : List Line) → s.rest ≡ rest →
+      (u : State) → StepLeadsTo State u (at_code c named m rest s.file s.around) → Calm u
   code_calm c named s here calm [] e u l = elim l [ ]
   code_calm c named s here calm (i ∷ next) e u l =
       values_calm c i next s.around (subst (λ (code : List Line). Reached m code s.around.tries) e here) (finds s e calm) (named (length next)) s.file
       (values c.setting.end s.file i.args) u l
 
-  start_calm : (memory : Memory) (o : Option Locations) (s : State) → begun m memory o ≡ Some s → Calm s
+  start_calm : (memory : Memory) (o : Option Locations) (s : State) → begin_linear m memory o ≡ Some s → Calm s
   start_calm memory None s e = absurd (let no : None ≡ Some s = e in cc)
   start_calm memory (Some f) s e =
-      let same : record { rest = m.code; file = f; around = entered memory } ≡ s = cc in
+      let same : record { rest = m.code; file = f; around = entry_around memory } ≡ s = cc in
       subst Calm same (inl refl)
 
-module _ (lins : ℕ → Lin) (named : ℕ → NamedAt) (f : ℕ) (c : Place) (formed : WellFormed (lins f)) where
+module _ (lins : ℕ → Lin) (named : ℕ → NamedAt) (f : ℕ) (c : ActivationSetting) (formed : WellFormed (lins f)) where
   -- wherever a run comes, a raise is on its way only before the entry of a handler
   reached_calm : {u : State} → IsReached State (linear_program lins named) f c u → Calm u
   reached_calm (at_start {arguments = arguments} {memory = memory} {s = s} e) =

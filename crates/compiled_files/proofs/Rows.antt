@@ -10,9 +10,9 @@ use Rattle.image_form.specs.Tables.{Func, Tables}
 use Rattle.layout_rules.specs.declared.form.Form.{Form}
 use Rattle.layout_rules.specs.Conditions.{CanBeLaid, IsRowLaid}
 use Rattle.layout_rules.specs.Forms.{total_words}
-use Rattle.layout_rules.specs.Laid.{AllReach, IsLaid, code_from, entries_from, rows_from}
+use Rattle.layout_rules.specs.Laid.{AllReach, IsLaid, code_from, function_entries_from, rows_from}
 use Rattle.rv_pieces.specs.declared.piece.Pieces.{Pieces}
-use Rattle.compiled_files.specs.Image.{function_words}
+use Rattle.compiled_files.specs.Image.{function_word_count}
 
 types_are : (at : ℕ) (fs : List FunctionTree) (ps : List Pieces) (forms : List (List Form)) → length ps ≡ length fs → AllReach ps forms →
     AreRowsOf fs (rows_from at fs ps forms)
@@ -75,11 +75,11 @@ module _ (file : FileTree) (image : Tables) (ps : List Pieces) (can : CanBeLaid 
   few f tree is = few_in (functions file) f tree can.of_file.rows is
 
   -- The code has the words of the functions, and the stub.
-  pub words_many : length image.code ≡ stub_words + function_words image
+  pub words_many : length image.code ≡ stub_words + function_word_count image
   words_many =
-      let code = code_from file (entries_from stub_words ps forms) stub_words ps forms in
+      let code = code_from file (function_entries_from stub_words ps forms) stub_words ps forms in
       let long : length image.code ≡ length (stub ++ code) = ap (λ (t : Tables). length t.code) laid.is in
       omega (arith, long, length-append stub code)
 
-  pub words_fit : function_words image + 1 ≤ length image.code
+  pub words_fit : function_word_count image + 1 ≤ length image.code
   words_fit = let many = words_many in omega (arith, many)

@@ -11,13 +11,13 @@ use Rattle.cmm_meaning.specs.Setting.{Setting}
 use Rattle.cmm_meaning.specs.State as state
 use Rattle.cmm_meaning.specs.State.{Inside, Outside}
 use Rattle.emit_rules.proofs.Acts.{ActsAt}
-use Rattle.lin_ir.specs.Meaning.{Locations, NamedAt, State, are_vals, clear, code_at, destroyed_by, lin_act, on_act, on_values, passes_frame, past_frame, put_all, step, unless_misnamed, values, wrote}
+use Rattle.lin_ir.specs.Meaning.{Locations, NamedAt, State, are_vals, clear_destroyed, code_at, destroyed_by, lin_act, on_act, on_values, passes_frame, past_frame, put_all, step, unless_misnamed, values, wrote}
 use Rattle.lin_ir.specs.declared.lin.Lin.{Lin}
 use Rattle.lin_ir.specs.declared.lin.Line.{Line}
 use Rattle.lin_ir.specs.declared.lin.LinOp.{LinOp}
 use Rattle.lin_ir.specs.declared.lin.LinOp.TheVariants as lin
-use Rattle.mach_ir.specs.Acts.{Act, Around, Asks, Ends, EndsRaising, Goes, Jumps, Pushes, Replaces, Stuck, Unwinds, after_call, asks, asks_callee, asks_value, is_complete, only_if}
-use Rattle.mach_ir.specs.Runs.{Continues, Deepens, Finishes, FinishesBy, FinishesRaising, IsStuck, Pays, Place, Step, Waits}
+use Rattle.mach_ir.specs.Acts.{Act, Around, Asks, Ends, EndsRaising, Goes, Jumps, Pushes, Replaces, Stuck, Unwinds, act_after_call, asks, asks_callee, asks_value, is_complete, stuck_unless}
+use Rattle.mach_ir.specs.Runs.{Continues, Deepens, Finishes, FinishesBy, FinishesRaising, IsStuck, Pays, ActivationSetting, Step, Waits}
 use Rattle.mach_ir.specs.declared.op.Callee.{Callee}
 use Rattle.mach_ir.specs.declared.op.Callee.TheVariants as callee
 use Rattle.mach_ir.specs.declared.op.Calling.TheVariants as calling
@@ -65,23 +65,23 @@ IsInside (Ends d) = Unit {0}
 IsInside (EndsRaising d) = Unit {0}
 IsInside Stuck = Unit {0}
 
-only_inside : (b : Bool) (x : Act) → IsInside x → IsInside (only_if b x)
+only_inside : (b : Bool) (x : Act) → IsInside x → IsInside (stuck_unless b x)
 only_inside true x h = h
 only_inside false x h = tt
 
 value_inside : (c : Setting) (result : Ret) (o : Option Value) (vs : List Value) (a : Around) →
-    IsInside (asks_value c o vs a (λ f arguments. Asks f arguments (after_call c result a)))
+    IsInside (asks_value c o vs a (λ f arguments. Asks f arguments (act_after_call c result a)))
 value_inside c result None vs a = tt
 value_inside c result (Some (Word w)) vs a = tt
 value_inside c result (Some (Block b o)) vs a = tt
 value_inside c result (Some (Function f)) vs a = by (slice_get c.parameters f)
   where
-    by : (o : Option (List Comp)) → IsInside (asks c o f vs a (λ f arguments. Asks f arguments (after_call c result a)))
+    by : (o : Option (List Comp)) → IsInside (asks c o f vs a (λ f arguments. Asks f arguments (act_after_call c result a)))
     by None = tt
     by (Some comps) = only_inside (fit_parameters c.end comps vs && is_complete a) _ refl
 
 call_inside : (c : Setting) (whom : Callee) (result : Ret) (vs : List Value) (a : Around) →
-    IsInside (asks_callee c whom vs a (λ f arguments. Asks f arguments (after_call c result a)))
+    IsInside (asks_callee c whom vs a (λ f arguments. Asks f arguments (act_after_call c result a)))
 call_inside c (callee.Symbol name) result vs a = value_inside c result (c.symbol name) vs a
 call_inside c callee.Register result [] a = tt
 call_inside c callee.Register result (v ∷ vs) a = value_inside c result (Some v) vs a
@@ -90,10 +90,10 @@ wrote_zero : (rest : List Line) (a : Around) (o : Option Locations) → service_
 wrote_zero rest a None = refl
 wrote_zero rest a (Some f) = refl
 
-module _ (c : Place) (m : Lin) (i : Line) (next : List Line) (a : Around) where
+module _ (c : ActivationSetting) (m : Lin) (i : Line) (next : List Line) (a : Around) where
   act_zero : (f : Locations) (x : Act) → IsInside x → service_of (on_act c m i next f a x) ≡ 0
   act_zero f (Goes vs to after) h =
-      wrote_zero (code_at m.code next to) after (put_all c.setting.end i.results vs (clear (destroyed_by i.op) f))
+      wrote_zero (code_at m.code next to) after (put_all c.setting.end i.results vs (clear_destroyed (destroyed_by i.op) f))
   act_zero f (Pushes after) h = refl
   act_zero f (Jumps to after) h = refl
   act_zero f (Unwinds after) h = refl
@@ -116,7 +116,7 @@ module _ (c : Place) (m : Lin) (i : Line) (next : List Line) (a : Around) where
 
 -- ---- a line
 
-module _ (c : Place) (named : NamedAt) (m : Lin) (i : Line) (next : List Line) (file : Locations) (a : Around) (words : ℕ) where
+module _ (c : ActivationSetting) (named : NamedAt) (m : Lin) (i : Line) (next : List Line) (file : Locations) (a : Around) (words : ℕ) where
   abbrev does : Step State
   does = step c named m (record { rest = i ∷ next; file = file; around = a })
 

@@ -16,9 +16,9 @@ use Rattle.cmm_meaning.specs.State.{Doing, World}
 use Rattle.cmm_tree.specs.Measures.{nodes_in}
 use Rattle.cmm_tree.specs.Tree.{FunctionTree, FileTree, functions, comps_of}
 use Rattle.mach_ir.specs.Meaning as mach
-use Rattle.mach_ir.specs.Runs.{Run, Running, Tally, Wrong}
+use Rattle.mach_ir.specs.Runs.{RunProgress, Running, Tally, Wrong}
 use Rattle.mach_ir.specs.declared.mach.Mach.{Mach}
-use Rattle.lin_ir.specs.Keeps.{Keeps}
+use Rattle.lin_ir.specs.Keeps.{LinearKeeps}
 use Rattle.lin_ir.specs.Meaning.{NamedAt}
 use Rattle.lin_ir.specs.declared.lin.Lin.{Lin}
 use Rattle.selection_rules.specs.Bounded.{BoundedDoings}
@@ -32,7 +32,7 @@ use Rattle.selection_accepted.proofs.Selecting.{definitions, front_accepts, sele
 use Rattle.selection_accepted.proofs.Symbols.{front_symbols}
 use Rattle.walk_tables.specs.AddrLive.{IsLiveIn}
 use Rattle.linking.specs.Keeps.{alone_in}
-use Rattle.linking.specs.Program.{place_in, setting_in}
+use Rattle.linking.specs.Program.{activation_in, setting_in}
 use Rattle.linking_stages.specs.Chain.{AreLowered, HoldsWords, IsGivenWords, IsSelected, SelectedSo}
 use Rattle.compiled_files.specs.Stages.{most_nodes, selected_in, selected_of}
 
@@ -63,7 +63,7 @@ module _ (text : List ℕ) (file : FileTree) (is : IsFileOf text file) where
 
   -- ---- selection
 
-  moves : {u : ℕ} {e : Evaluation} {r : Run mach.State} → IsProperEnd e → Meets u e r → r ≢ Wrong
+  moves : {u : ℕ} {e : Evaluation} {r : RunProgress mach.State} → IsProperEnd e → Meets u e r → r ≢ Wrong
   moves ok (returned a b) w = cc
   moves ok (threw a b) w = cc
   moves ok (running a b same) w = cc
@@ -72,7 +72,7 @@ module _ (text : List ℕ) (file : FileTree) (is : IsFileOf text file) where
   moves ok left_by_exit w = absurd ok
 
   -- where the text has no units left, the run has asked for no more heap
-  no_more_heap : {units : ℕ} {e : Evaluation} {r : Run mach.State} → Meets units e r → (u : World) (s : mach.State) (t : Tally) →
+  no_more_heap : {units : ℕ} {e : Evaluation} {r : RunProgress mach.State} → Meets units e r → (u : World) (s : mach.State) (t : Tally) →
       e ≡ Stops OutOfFuel u → r ≡ Running s t → heap_need s.around.memory ≤ heap_need u.memory
   no_more_heap (returned a b) u s t p q = absurd (cc)
   no_more_heap (threw a b) u s t p q = absurd (cc)
@@ -90,11 +90,11 @@ module _ (text : List ℕ) (file : FileTree) (is : IsFileOf text file) where
     selected_runs : (f : ℕ) (tree : FunctionTree) → slice_get (functions file) f ≡ Some tree → (arguments : List Value) →
         fit_parameters (data_end file) (comps_of tree) arguments ≡ true → (below : ℕ) (memory : Memory) (doings : List Doing) (n : ℕ) →
         IsGivenWords arguments memory → BoundedDoings doings →
-        IsProperEnd (alone_in file (place_in file layout f below) tree arguments memory doings n) →
-        SelectedSo (place_in file layout f below) (selected tree) tree arguments memory doings n
-        (alone_in file (place_in file layout f below) tree arguments memory doings n)
+        IsProperEnd (alone_in file (activation_in file layout f below) tree arguments memory doings n) →
+        SelectedSo (activation_in file layout f below) (selected tree) tree arguments memory doings n
+        (alone_in file (activation_in file layout f below) tree arguments memory doings n)
     selected_runs f tree e arguments fit below memory doings n given done ok =
-        let c = place_in file layout f below in
+        let c = activation_in file layout f below in
         let of_file = among f tree e in
         let it = selectable text file is tree of_file in
         let typed = (front_accepts text file is tree of_file).typed in
@@ -116,8 +116,8 @@ module _ (text : List ℕ) (file : FileTree) (is : IsFileOf text file) where
     selected_so = record {
       nodes = nodes_below (functions file);
       runs = λ f tree e arguments fit below memory doings n given done ok.
-          subst (λ (m : Mach). SelectedSo (place_in file layout f below) m tree arguments memory doings n
-          (alone_in file (place_in file layout f below) tree arguments memory doings n)) (sym (ap selected_of e))
+          subst (λ (m : Mach). SelectedSo (activation_in file layout f below) m tree arguments memory doings n
+          (alone_in file (activation_in file layout f below) tree arguments memory doings n)) (sym (ap selected_of e))
           (selected_runs f tree e arguments fit below memory doings n given done ok);
     }
 
@@ -125,8 +125,8 @@ module _ (text : List ℕ) (file : FileTree) (is : IsFileOf text file) where
 
 -- Lines that keep what is selected of each function are its program.
 pub lowered_so : (file : FileTree) (lins : ℕ → Lin) (named : ℕ → NamedAt) →
-    ((f : ℕ) (tree : FunctionTree) → slice_get (functions file) f ≡ Some tree → Keeps (selected tree) (lins f) (named f)) →
+    ((f : ℕ) (tree : FunctionTree) → slice_get (functions file) f ≡ Some tree → LinearKeeps (selected tree) (lins f) (named f)) →
     AreLowered file (selected_in file) lins named
 lowered_so file lins named keep = record {
-  keeps = λ f tree e. subst (λ (m : Mach). Keeps m (lins f) (named f)) (sym (ap selected_of e)) (keep f tree e);
+  keeps = λ f tree e. subst (λ (m : Mach). LinearKeeps m (lins f) (named f)) (sym (ap selected_of e)) (keep f tree e);
 }

@@ -21,9 +21,9 @@ use Rattle.correctness.specs.Setting.{layout_of}
 use Rattle.image_form.specs.Image.{IsFunc, IsResult, stub, stub_words}
 use Rattle.guarded_machine.specs.Guarded.{guarded_after, guarded_of}
 use Rattle.image_form.specs.Tables.{Tables}
-use Rattle.layout_rules.specs.Laid.{IsLaid, code_from, entries_from}
+use Rattle.layout_rules.specs.Laid.{IsLaid, code_from, function_entries_from}
 use Rattle.lin_ir.specs.declared.lin.Line.{Line}
-use Rattle.mach_ir.specs.Runs.{entered}
+use Rattle.mach_ir.specs.Runs.{entry_around}
 use Rattle.machine_laws.specs.Steps.{moments}
 use Rattle.meaning_laws.specs.Fitting.{FitsResult, nothing, value}
 use Rattle.moving_laws.specs.Values.{HasFunctions, IsKnown}
@@ -48,10 +48,10 @@ use Rattle.rv_machine.specs.Places.{stack_bottom}
 use Rattle.rv_machine.specs.Sound.{IsStackBase}
 use Rattle.rv_pieces.specs.declared.piece.Pieces.{Pieces}
 use Rattle.linear_machine.specs.Follows.{IsDone}
-use Rattle.linear_machine.specs.Outside.{shown}
-use Rattle.linear_machine.specs.Relation.{HeapStands, IsUsable, OwnRegisters, Laid, StandsFor, all_of}
+use Rattle.linear_machine.specs.Outside.{observed_argument}
+use Rattle.linear_machine.specs.Relation.{HeapStands, IsUsable, OwnRegisters, Laid, StandsFor, blocks_by_serial}
 use Rattle.linear_machine.specs.Straight.{Changes}
-use Rattle.linear_machine.specs.View.{Fixed, IsCode, Stands, View}
+use Rattle.linear_machine.specs.View.{Fixed, IsInstructionAt, HasView, View}
 use Rattle.linear_machine.proofs.Beginning.{nothing_below}
 use Rattle.linear_machine.proofs.Formats.{sets_imm}
 use Rattle.machine_laws.proofs.Immediates.{low_12, up}
@@ -64,19 +64,19 @@ use Rattle.linear_machine.proofs.Standing.{own_past}
 use Rattle.linear_machine.proofs.Steps.{one_step, ready, ready_stands, other_number}
 use Rattle.line_calls.proofs.Shown.{each_at, val_shown, in_table}
 use Rattle.linking.specs.Assembled.{IsStub, Setup}
-use Rattle.linking.specs.Carries.{Comes, Near, Outer}
+use Rattle.linking.specs.Carries.{EventuallyHolds, Near, Outer}
 use Rattle.linking_machine.specs.Standing.{Back, Shows, fixed_of}
 use Rattle.linking_machine.proofs.Carrying.{values_shown}
 
 -- what the machine shows of a value is what the text shows
-shown_is : (image : Tables) (count : ℕ) (v : Value) → IsKnown image count v → shown image v ≡ observed (layout_of image) v
+shown_is : (image : Tables) (count : ℕ) (v : Value) → IsKnown image count v → observed_argument image v ≡ observed (layout_of image) v
 shown_is image count v k =
     head_same (values_shown image (v ∷ []) (in_table image count v k, tt))
 
 module _ (s : Fixed) (end : ℕ) (end_is : end ≡ data_start + length s.image.bytes) (n : ℕ) (small : n < 3) (v : View)
-    (first : IsCode s v.place (OpImm Addi 7 0 n)) (second : IsCode s (v.place + 1) Ecall) (young : List Placed) (memory : Memory)
-    (own : OwnRegisters v.registers young 0) (usable : IsUsable s v) (heap : HeapStands s (all_of v young) v.memory (entered memory))
-    (m : Machine) (st : Stands s m v) where
+    (first : IsInstructionAt s v.place (OpImm Addi 7 0 n)) (second : IsInstructionAt s (v.place + 1) Ecall) (young : List Placed) (memory : Memory)
+    (own : OwnRegisters v.registers young 0) (usable : IsUsable s v) (heap : HeapStands s (blocks_by_serial v young) v.memory (entry_around memory))
+    (m : Machine) (st : HasView s m v) where
   clears : Changes s v 1 (7 ∷ []) v.memory (λ w. slice_index w.registers 7 ≡ n)
   clears =
       let sum : add_word 0 (imm_i n) ≡ n = ap (add_word 0) (low_12 n (omega (arith, small))) ∙ up 0 n n (omega arith) (omega (arith, small)) in
@@ -89,37 +89,37 @@ module _ (s : Fixed) (end : ℕ) (end_is : end ≡ data_start + length s.image.b
   abbrev led : Machine
   led = (clears.leads.by m st).0
 
-  led_stands : Stands s led u
+  led_stands : HasView s led u
   led_stands = (clears.leads.by m st).1
 
   abbrev b : Machine
   b = ready s led
 
-  ok : Stands s b u
+  ok : HasView s b u
   ok = ready_stands s led u led_stands
 
   over : guarded_after s.schedule 2 (Going m) ≡ served s.schedule.plan n b
   over =
       let here = clears.past.place in
       (clears.leads.by m st).2 2 1 refl
-      ∙ one_step s led u Ecall (hart.Service b.hart) led_stands (subst (λ p. IsCode s p Ecall) (sym here) second)
+      ∙ one_step s led u Ecall (hart.Service b.hart) led_stands (subst (λ p. IsInstructionAt s p Ecall) (sym here) second)
       (other_number s led u n led_stands clears.holds (λ e. omega (arith, e, small))) refl 1 0 refl
       ∙ ap (λ k. served s.schedule.plan k b) (ap (λ xs. slice_index xs 7) ok.registers ∙ clears.holds)
 
   abbrev w : View
   w = with_memory u b.hart
 
-  same_blocks : all_of w young ≡ all_of v young
+  same_blocks : blocks_by_serial w young ≡ blocks_by_serial v young
   same_blocks = ap (λ bs. bs ++ reverse young) clears.past.blocks
 
-  heap_u : HeapStands s (all_of u young) u.memory (entered memory)
+  heap_u : HeapStands s (blocks_by_serial u young) u.memory (entry_around memory)
   heap_u =
-      subst (λ bs. HeapStands s (bs ++ reverse young) u.memory (entered memory)) (sym clears.past.blocks)
-      (subst (λ k. HeapStands s (all_of v young) k (entered memory)) (sym clears.past.memory) heap)
+      subst (λ bs. HeapStands s (bs ++ reverse young) u.memory (entry_around memory)) (sym clears.past.blocks)
+      (subst (λ k. HeapStands s (blocks_by_serial v young) k (entry_around memory)) (sym clears.past.memory) heap)
 
-  heap_w : HeapStands s (all_of w young) w.memory (entered memory)
+  heap_w : HeapStands s (blocks_by_serial w young) w.memory (entry_around memory)
   heap_w =
-      heap_kept s (all_of u young) u.memory b.hart.memory (entered memory) (λ y q ne. ok.memory.words y ne)
+      heap_kept s (blocks_by_serial u young) u.memory b.hart.memory (entry_around memory) (λ y q ne. ok.memory.words y ne)
       (λ y e q. ok.memory.held y e (λ t. omega (arith, t, q))) (λ y r. like_readable u.memory b.hart.memory y ok.memory r) heap_u
 
   own_w : OwnRegisters w.registers young 0
@@ -128,41 +128,41 @@ module _ (s : Fixed) (end : ℕ) (end_is : end ≡ data_start + length s.image.b
       (clears.past.others 27 (λ i. ⊎_elim (λ q. omega (arith, q)) (λ f. f) i)) own
 
   -- the machine finds the blocks, young ones too
-  blocks_are : all_blocks (hart_of s w b.hart) ≡ all_of v young
+  blocks_are : all_blocks (hart_of s w b.hart) ≡ blocks_by_serial v young
   blocks_are =
       let same : slice_index w.registers 26 + 0 ≡ slice_index w.registers 26 = omega arith in
       let even = own_w.from_even in
       let low = own_w.from_low in
       ap (λ o. blocks_or w.blocks (option_map (λ young. w.blocks ++ reverse young) o))
       (found w.memory (λ x e lo hi. young_readable s.image s.heap s.base w.memory ok.regions x e lo hi) (slice_index w.registers 26) young
-      (omega (arith, even)) (omega (arith, low)) (subst (λ x. Rises x young) same own_w.rises) (heads_of s w young w.memory (entered memory) refl heap_w))
+      (omega (arith, even)) (omega (arith, low)) (subst (λ x. Rises x young) same own_w.rises) (heads_of s w young w.memory (entry_around memory) refl heap_w))
       ∙ same_blocks
 
   -- a value in a0 is read as the text reads it
   told : (c : Comp) (x : Value) → fits end (type_of_comp c) x ≡ true → (c ≡ comp.Addr → ⊥) →
-      StandsFor s (all_of v young) (slice_index v.registers 10) x → observation.observed b.hart c (register b.hart 10) ≡ observed (layout_of s.image) x
+      StandsFor s (blocks_by_serial v young) (slice_index v.registers 10) x → observation.observed_word b.hart c (register b.hart 10) ≡ observed (layout_of s.image) x
   told c x fit no_addr stands =
-      ap (λ (h : Hart). observation.observed h c (register h 10)) (hart_is s b u ok)
-      ∙ ap (observation.observed (hart_of s w b.hart) c) (clears.past.others 10 (λ i. ⊎_elim (λ q. omega (arith, q)) (λ f. f) i))
+      ap (λ (h : Hart). observation.observed_word h c (register h 10)) (hart_is s b u ok)
+      ∙ ap (observation.observed_word (hart_of s w b.hart) c) (clears.past.others 10 (λ i. ⊎_elim (λ q. omega (arith, q)) (λ f. f) i))
       ∙ by c x (slice_index v.registers 10) fit no_addr stands
     where
-      by : (c : Comp) (x : Value) (word : ℕ) → fits end (type_of_comp c) x ≡ true → (c ≡ comp.Addr → ⊥) → StandsFor s (all_of v young) word x →
-          observation.observed (hart_of s w b.hart) c word ≡ observed (layout_of s.image) x
+      by : (c : Comp) (x : Value) (word : ℕ) → fits end (type_of_comp c) x ≡ true → (c ≡ comp.Addr → ⊥) → StandsFor s (blocks_by_serial v young) word x →
+          observation.observed_word (hart_of s w b.hart) c word ≡ observed (layout_of s.image) x
       by comp.Val x word fit na st =
           ap (λ bs. block_or_word (serial_from 0 bs word) word) blocks_are
-          ∙ ap (λ y. block_or_word (serial_from 0 (all_of v young) y) y) st.is
-          ∙ val_shown s.image (all_of v young) x s.functions heap.old
-          (val_fits s.image (length (all_of v young)) x (subst (λ e. fits e ty.Val x ≡ true) end_is fit) st.known)
-          ∙ shown_is s.image (length (all_of v young)) x st.known
+          ∙ ap (λ y. block_or_word (serial_from 0 (blocks_by_serial v young) y) y) st.is
+          ∙ val_shown s.image (blocks_by_serial v young) x s.functions heap.old
+          (val_fits s.image (length (blocks_by_serial v young)) x (subst (λ e. fits e ty.Val x ≡ true) end_is fit) st.known)
+          ∙ shown_is s.image (length (blocks_by_serial v young)) x st.known
       by comp.Int (Word q) word fit na st = ap obs.Word st.is
       by comp.Int (Block q o) word fit na st = absurd (cc)
-      by comp.Int (Function f) word fit na st = ap obs.Word st.is ∙ shown_is s.image (length (all_of v young)) (Function f) st.known
+      by comp.Int (Function f) word fit na st = ap obs.Word st.is ∙ shown_is s.image (length (blocks_by_serial v young)) (Function f) st.known
       by comp.Addr x word fit na st = absurd (na refl)
       by comp.Float x word fit na st = absurd (cc)
 
   -- so the run ends
   ends_so : (stack heap : ℕ) (o : Outer) (x : Now) → x ≡ Going m → v.calls ≡ o.made → (wanted : End) → served s.schedule.plan n b ≡ Over b.calls wanted →
-      Comes Now (guarded_of s.schedule) seen stack heap 0 0 o.made (Near 0 2 (λ y. seen y ≡ record { calls = o.made; end = wanted })) x
+      EventuallyHolds Now (guarded_of s.schedule) seen stack heap 0 0 o.made (Near 0 2 (λ y. seen y ≡ record { calls = o.made; end = wanted })) x
   ends_so stack heap o x is calls wanted comes =
       let there : moments (guarded_of s.schedule) 2 x ≡ Over b.calls wanted =
       ap (moments (guarded_of s.schedule) 2) is ∙ over ∙ comes in
@@ -180,14 +180,14 @@ module _ (s : Fixed) (end : ℕ) (end_is : end ≡ data_start + length s.image.b
 
 -- its words are at the beginning of the code
 pub record HasStub (s : Fixed) : Type 0 where
-  pub returns : IsCode s 0 (OpImm Addi 7 0 0)
-  pub tells : IsCode s 1 Ecall
-  pub raises : IsCode s 2 (OpImm Addi 7 0 1)
-  pub tells_raise : IsCode s 3 Ecall
+  pub returns : IsInstructionAt s 0 (OpImm Addi 7 0 0)
+  pub tells : IsInstructionAt s 1 Ecall
+  pub raises : IsInstructionAt s 2 (OpImm Addi 7 0 1)
+  pub tells_raise : IsInstructionAt s 3 Ecall
 
 result_told : (end : ℕ) (image : Tables) (h : Hart) (result : Ret) (v : Option Value) → IsResult result → FitsResult end result v →
     ((c : Comp) (x : Value) → fits end (type_of_comp c) x ≡ true → (c ≡ comp.Addr → ⊥) → v ≡ Some x →
-    observation.observed h c (register h 10) ≡ observed (layout_of image) x) →
+    observation.observed_word h c (register h 10) ≡ observed (layout_of image) x) →
     value_returned result h ≡ option_map (observed (layout_of image)) v
 result_told end image h ret.Unit None is nothing told = refl
 result_told end image h ret.Unit (Some x) is fit told = elim fit [ ]
@@ -203,7 +203,7 @@ module _ (s : Fixed) (end : ℕ) (end_is : end ≡ data_start + length s.image.b
   stub_ends = record { returned = returned; raised = raised }
     where
       returned : (v : Option Value) (memory : Memory) (o : Outer) (x : Now) → FitsResult end s.result v → Came (Gave v memory) o x →
-          Comes Now (guarded_of s.schedule) seen stack heap 0 0 o.made
+          EventuallyHolds Now (guarded_of s.schedule) seen stack heap 0 0 o.made
           (Near 0 2 (λ y. seen y ≡ record { calls = o.made; end = machine.Returned (option_map (observed (layout_of s.image)) v) })) x
       returned v memory o x fit sh =
           let young = sh.holds.0 in
@@ -211,8 +211,8 @@ module _ (s : Fixed) (end : ℕ) (end_is : end ≡ data_start + length s.image.b
           let at = r.place in
           let here : sh.view.place ≡ 0 = omega (arith, at) in
           let there : sh.view.place + 1 ≡ 1 = omega (arith, here) in
-          let one = subst (λ p. IsCode s p (OpImm Addi 7 0 0)) (sym here) has.returns in
-          let two = subst (λ p. IsCode s p Ecall) (sym there) has.tells in
+          let one = subst (λ p. IsInstructionAt s p (OpImm Addi 7 0 0)) (sym here) has.returns in
+          let two = subst (λ p. IsInstructionAt s p Ecall) (sym there) has.tells in
           let low : 0 < 3 = omega arith in
           let bm = b s end end_is 0 low sh.view one two young memory r.own r.usable r.heap sh.machine sh.stands in
           let stands = ok s end end_is 0 low sh.view one two young memory r.own r.usable r.heap sh.machine sh.stands in
@@ -223,7 +223,7 @@ module _ (s : Fixed) (end : ℕ) (end_is : end ≡ data_start + length s.image.b
           (λ c y fi na is. told s end end_is 0 low sh.view one two young memory r.own r.usable r.heap sh.machine sh.stands c y fi na (r.value_in y is))))
 
       raised : (v : Value) (memory : Memory) (o : Outer) (x : Now) → fits end ty.Val v ≡ true → Came (Threw v memory) o x →
-          Comes Now (guarded_of s.schedule) seen stack heap 0 0 o.made
+          EventuallyHolds Now (guarded_of s.schedule) seen stack heap 0 0 o.made
           (Near 0 2 (λ y. seen y ≡ record { calls = o.made; end = machine.Raised (observed (layout_of s.image) v) })) x
       raised v memory o x fit sh =
           let young = sh.holds.0 in
@@ -231,8 +231,8 @@ module _ (s : Fixed) (end : ℕ) (end_is : end ≡ data_start + length s.image.b
           let at : code_start + 4 * sh.view.place ≡ code_start + 8 = r.thrown in
           let here : sh.view.place ≡ 2 = omega (arith, at) in
           let there : sh.view.place + 1 ≡ 3 = omega (arith, here) in
-          let one = subst (λ p. IsCode s p (OpImm Addi 7 0 1)) (sym here) has.raises in
-          let two = subst (λ p. IsCode s p Ecall) (sym there) has.tells_raise in
+          let one = subst (λ p. IsInstructionAt s p (OpImm Addi 7 0 1)) (sym here) has.raises in
+          let two = subst (λ p. IsInstructionAt s p Ecall) (sym there) has.tells_raise in
           let low : 1 < 3 = omega arith in
           let bm = b s end end_is 1 low sh.view one two young memory r.own r.usable r.heap sh.machine sh.stands in
           ends_so s end end_is 1 low sh.view one two young memory r.own r.usable r.heap sh.machine sh.stands stack heap o x sh.is sh.calls
@@ -255,7 +255,7 @@ unfolding encoded
 service_word = refl
 
 module _ (file : FileTree) (ps : List Pieces) (s : Fixed) (laid : IsLaid file ps s.image) where
-  code_is : s.image.code ≡ stub ++ code_from file (entries_from stub_words ps laid.forms) stub_words ps laid.forms
+  code_is : s.image.code ≡ stub ++ code_from file (function_entries_from stub_words ps laid.forms) stub_words ps laid.forms
   code_is = ap (λ (t : Tables). t.code) laid.is
 
   stub_there : HasStub s

@@ -19,15 +19,15 @@ pub record LiesForward (m : Lin) (laid : Laid) (entry words : ℕ) : Type 0 wher
 
 -- A step that is no exit leads to a place of less rank: of less order, or, after a label, with
 -- fewer lines left.
-abbrev pub rank : Lin → (order : ℕ → ℕ) → ℕ → ℕ
-rank m order k = suc (length m.code) * order k + k
+abbrev pub line_rank : Lin → (order : ℕ → ℕ) → ℕ → ℕ
+line_rank m order k = suc (length m.code) * order k + k
 
 -- the words of those of the last lines whose rank is at most so much
-abbrev pub words_upto : Laid → (rank : ℕ → ℕ) → (most lines : ℕ) → ℕ
-words_upto laid rank most zero = 0
-words_upto laid rank most (suc k) =
-    cond (nat_le (rank (suc k)) most) (laid.part k - laid.part (suc k)) 0
-    + words_upto laid rank most k
+abbrev pub words_upto : Laid → (line_rank : ℕ → ℕ) → (most lines : ℕ) → ℕ
+words_upto laid line_rank most zero = 0
+words_upto laid line_rank most (suc k) =
+    cond (nat_le (line_rank (suc k)) most) (laid.part k - laid.part (suc k)) 0
+    + words_upto laid line_rank most k
 
 -- the words of the part of the first line
 abbrev pub first_part : Laid → List Line → ℕ
@@ -37,12 +37,12 @@ first_part laid (i ∷ next) = laid.part (length next) - laid.part (suc (length 
 -- A step takes the words of its line's part; before the first step there are those of the entry. Up
 -- to the next unit there are at most those of all lines of no greater rank. A branch answers for
 -- the unit of an exit that has no words.
-abbrev pub words_of : (ℕ → Lin) → (ℕ → Laid) → (entry : ℕ → ℕ) → (orders : ℕ → ℕ → ℕ) →
+abbrev pub laid_words : (ℕ → Lin) → (ℕ → Laid) → (entry : ℕ → ℕ) → (orders : ℕ → ℕ → ℕ) →
     Words State
-words_of lins laid entry orders = record {
+laid_words lins laid entry orders = record {
   cost = λ f u. first_part (laid f) u.rest;
   entry = λ f. (laid f).part (length (lins f).code) - entry f;
-  ahead = λ f u. words_upto (laid f) (rank (lins f) (orders f))
-      (rank (lins f) (orders f) (length u.rest)) (length (lins f).code);
+  ahead = λ f u. words_upto (laid f) (line_rank (lins f) (orders f))
+      (line_rank (lins f) (orders f) (length u.rest)) (length (lins f).code);
   owed = λ f u. owed_before u.rest;
 }

@@ -4,5 +4,5 @@ use Rattle.image_form.specs.Image.{stub_words}
 use Rattle.image_form.specs.Tables.{Tables}
 
 -- the words of all functions
-abbrev pub function_words : Tables → ℕ
-function_words image = length image.code - stub_words
+abbrev pub function_word_count : Tables → ℕ
+function_word_count image = length image.code - stub_words

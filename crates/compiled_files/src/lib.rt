@@ -11,8 +11,8 @@ ghost use Rattle.cmm_front.specs.FileOf.{IsFileOf};
 ghost use Rattle.cmm_lex.proofs.Languages.{AreBytes};
 ghost use Rattle.cmm_meaning.specs.Layout.{Layout};
 ghost use Rattle.cmm_tree.specs.Tree.{FileTree, functions};
-ghost use Rattle.compiled_files.specs.Forward.{LiesForward, words_of};
-ghost use Rattle.compiled_files.specs.Image.{function_words};
+ghost use Rattle.compiled_files.specs.Forward.{LiesForward, laid_words};
+ghost use Rattle.compiled_files.specs.Image.{function_word_count};
 ghost use Rattle.compiled_files.specs.Stages.{AreChained, most_nodes, selected_in};
 ghost use Rattle.correctness.specs.Correct.{IsCorrect};
 ghost use Rattle.correctness.specs.InNeed.{AsksInNeed};
@@ -31,11 +31,11 @@ ghost use Rattle.line_stands.specs.Lines.{Nowhere};
 ghost use Rattle.linear_machine.proofs.Beginning.{nothing_below};
 ghost use Rattle.linear_machine.specs.Relation.{Laid};
 ghost use Rattle.linking.specs.Assembled.{IsStub, Setup};
-ghost use Rattle.linking.specs.Pace.{GoesForward, IsReached};
+ghost use Rattle.linking.specs.Pace.{ProgramGoesForward, IsReached};
 ghost use Rattle.linking_machine.specs.Standing.{Back};
 ghost use Rattle.linking_stages.specs.Chain.{HoldsWords, IsSelected};
 ghost use Rattle.linking_stages.specs.Stages.{linear_program};
-ghost use Rattle.mach_ir.specs.Runs.{Place};
+ghost use Rattle.mach_ir.specs.Runs.{ActivationSetting};
 ghost use Rattle.moving_laws.specs.Values.{HasFunctions};
 ghost use Rattle.rv_machine.specs.Loading.{IsRoom};
 ghost use Rattle.rv_machine.specs.Places.{stack_bottom};
@@ -49,8 +49,8 @@ ghost use Rattle.rv_pieces.specs.declared.piece.Pieces.{Pieces};
 pub fn parts_go_forward()
     ensures { (lins : ℕ → Lin) (named : ℕ → NamedAt) (laid : ℕ → Laid) (entry : ℕ → ℕ) (words : ℕ) →
         (lies : (f : ℕ) → LiesForward (lins f) (laid f) (entry f) words) →
-        GoesForward State (linear_program lins named)
-        (words_of lins laid entry (λ f. (lies f).down.order)) words }
+        ProgramGoesForward State (linear_program lins named)
+        (laid_words lins laid entry (λ f. (lies f).down.order)) words }
 {}
 
 /// Law: the rows of an image are those of its file, and its code has a word more than the functions.
@@ -58,7 +58,7 @@ pub fn images_have_rows()
     ensures rows { (file : FileTree) (image : Tables) (ps : List Pieces) → CanBeLaid file ps →
         IsLaid file ps image → AreRowsOf (functions file) image.funcs }
     ensures words { (file : FileTree) (image : Tables) (ps : List Pieces) → CanBeLaid file ps →
-        IsLaid file ps image → function_words image + 1 ≤ length image.code }
+        IsLaid file ps image → function_word_count image + 1 ≤ length image.code }
 {}
 
 /// Law: an accepted text of bytes holds words, and what is selected of its functions does what these do.
@@ -72,7 +72,7 @@ pub fn selected_functions_keep()
 /// Law: wherever a run of a well-formed function is, its line finds what it is to find: a raise is on its way
 /// only before the entry of a handler, a try is pushed where one is popped, and none where the function is left.
 pub fn runs_are_ready()
-    ensures { (lins : ℕ → Lin) (named : ℕ → NamedAt) (f : ℕ) (c : Place) → WellFormed (lins f) →
+    ensures { (lins : ℕ → Lin) (named : ℕ → NamedAt) (f : ℕ) (c : ActivationSetting) → WellFormed (lins f) →
         (u : State) (i : Line) (next : List Line) →
         IsReached State (linear_program lins named) f c u → u.rest ≡ i ∷ next →
         IsReadyFor i u.around }

@@ -8,13 +8,13 @@ use Rattle.bs_words.specs.declared.types.Comp.TheVariants as comp
 use Rattle.bs_words.specs.declared.values.Value.{Value}
 use Rattle.bs_words.proofs.Lists.{first_in, later_in}
 use Rattle.combine_rules.proofs.Files.{frame_loses}
-use Rattle.copy_rules.specs.Propagated.{move, ReadFor, again, IsBefore}
+use Rattle.copy_rules.specs.Propagated.{move, ReadFor, instr_with_sources, IsPropagatedBefore}
 use Rattle.mach_ir.specs.Acts.{Around, On, Goes}
 use Rattle.mach_ir.specs.Formed.{WellFormed}
-use Rattle.mach_ir.specs.Meaning.{Held, File, put, put_all, clear, killed, values, with_held, past_frame, passes_frame, mach_act}
+use Rattle.mach_ir.specs.Meaning.{Held, File, assign_register, put_all, clear_registers, killed, values, with_held, past_frame, passes_frame, mach_act}
 use Rattle.mach_ir.specs.Placed.{is_straight}
-use Rattle.mach_ir.specs.Runs.{Place}
-use Rattle.mach_ir.specs.Walks.{IsRegister, Among}
+use Rattle.mach_ir.specs.Runs.{ActivationSetting}
+use Rattle.mach_ir.specs.Walks.{IsRegister, AmongRegisters}
 use Rattle.mach_ir.specs.declared.reg.Reg.{Reg}
 use Rattle.mach_ir.specs.declared.mach.Instr.{Instr}
 use Rattle.mach_ir.specs.declared.mach.Mach.{Mach}
@@ -50,7 +50,7 @@ read_so a p (r ∷ rs) same vs e =
         ap (λ o. with_held o (values a (map p rs))) k.1 ∙ ap (with_held (Some k.0)) (ih us h)
         ∙ ap (λ v. Some (v ∷ us)) k.2 ∙ e
 
-put_is : {end : ℕ} {a : File} {r : Reg} {v : Value} {d : File} → PutAll end a (r ∷ []) (v ∷ []) d → d ≡ put r v a
+put_is : {end : ℕ} {a : File} {r : Reg} {v : Value} {d : File} → PutAll end a (r ∷ []) (v ∷ []) d → d ≡ assign_register r v a
 put_is (cons e nil) = refl
 
 -- what one register is read as
@@ -66,11 +66,11 @@ read_one a r vs e = by (a r.number) refl e
     by None g e = absurd (none-some _ e)
     by (Some h) g e = record { held = h; holds = g; one = sym (same_Some _ _ e) }
 
-clear_loses : (ks : List Reg) (a : File) (n : ℕ) (h : Held) → clear ks a n ≡ Some h → a n ≡ Some h
+clear_loses : (ks : List Reg) (a : File) (n : ℕ) (h : Held) → clear_registers ks a n ≡ Some h → a n ≡ Some h
 clear_loses [] a n h e = e
 clear_loses (k ∷ ks) a n h e = by (nat_eq k.number n) e (λ g. clear_loses ks a n h g)
   where
-    by : (b : Bool) → cond b None (clear ks a n) ≡ Some h → (clear ks a n ≡ Some h → a n ≡ Some h) → a n ≡ Some h
+    by : (b : Bool) → cond b None (clear_registers ks a n) ≡ Some h → (clear_registers ks a n ≡ Some h → a n ≡ Some h) → a n ≡ Some h
     by true e ih = absurd (none-some _ e)
     by false e ih = ih e
 
@@ -90,24 +90,24 @@ module _ (m : Mach) (formed : WellFormed m) where
       (λ s.
       let same : r ≡ k = formed.numbers r k (known r (first_in r rs)) i s in
       let here : Fresh r v ≡ Some h =
-      sym (put_same r v d) ∙ ap (put r v d) s ∙ g in
+      sym (put_same r v d) ∙ ap (assign_register r v d) s ∙ g in
       sym (ap (λ (x : Held). x.comp) (same_Some _ _ here)) ∙ ap (λ (x : Reg). x.comp) same)
       (λ s.
       put_typed p (λ x c. known x (later_in r x rs c)) typed k i h (sym (put_other r v d k.number s) ∙ g))
       (cases_eq r.number k.number)
 
   pub written_typed : (end : ℕ) (rs ks : List Reg) (vs : List Value) (a d : File) → ((r : Reg) → Contains rs r → IsRegister m r) →
-      Typed a → put_all end rs vs (clear ks a) ≡ Some d → Typed d
+      Typed a → put_all end rs vs (clear_registers ks a) ≡ Some d → Typed d
   written_typed end rs ks vs a d known typed e =
-      put_typed (put_of end rs vs (clear ks a) d e) known
+      put_typed (put_of end rs vs (clear_registers ks a) d e) known
       (λ r i h g. typed r i h (clear_loses ks a r.number h g))
 
   pub past_typed : (t : Bool) (a : File) → Typed a → Typed (past_frame t a)
   past_typed t a typed r i h e = typed r i h (frame_loses t a r.number h e)
 
   module _ (plan : ℕ → Reg → Reg)
-      (reads : (i : Instr) (next made : List Instr) → IsBefore plan m i next made → (r : Reg) → Contains i.args r →
-      ReadFor made r (plan (length next) r)) (c : Place) where
+      (reads : (i : Instr) (next made : List Instr) → IsPropagatedBefore plan m i next made → (r : Reg) → Contains i.args r →
+      ReadFor made r (plan (length next) r)) (c : ActivationSetting) where
     pub record Holding (a : File) (copy source : Reg) : Type 0 where
       pub value : Value
       pub of_copy : a copy.number ≡ Fresh copy value
@@ -118,7 +118,7 @@ module _ (m : Mach) (formed : WellFormed m) where
 
     -- the sources hold what the operands do
     pub reads_same : {i : Instr} {next : List Instr} → Ending (i ∷ next) m.code → (a : File) → Holds (i ∷ next) a →
-        (vs : List Value) → values a i.args ≡ Some vs → values a (again plan (length next) i).args ≡ Some vs
+        (vs : List Value) → values a i.args ≡ Some vs → values a (instr_with_sources plan (length next) i).args ≡ Some vs
     reads_same {i} {next} ending a holds vs e =
         read_so a (plan (length next)) i.args (λ r z. by (read_here m plan formed reads ending r z)) vs e
       where
@@ -132,8 +132,8 @@ module _ (m : Mach) (formed : WellFormed m) where
         by as_it_is h g = (h, g, refl)
 
     -- what straight code goes on with
-    calm : (i : Instr) (a : File) → is_straight i.op ≡ true → clear (killed m i) a ≡ a
-    calm i a st = ap (λ ks. clear ks a) (straight_kills m i st)
+    calm : (i : Instr) (a : File) → is_straight i.op ≡ true → clear_registers (killed m i) a ≡ a
+    calm i a st = ap (λ ks. clear_registers ks a) (straight_kills m i st)
 
     -- a move has just made a copy
     now : (copy source : Reg) → source.comp ≡ copy.comp → IsRegister m source → (a d : File) (x after : Around) (vs ws : List Value) →
@@ -150,7 +150,7 @@ module _ (m : Mach) (formed : WellFormed m) where
             let v : Value = w.held.value in
             let known : ws ≡ v ∷ [] =
             given v ws (sym (ap (λ us. mach_act c.setting (move source copy).op us x) w.one) ∙ acts) in
-            let is : d ≡ put copy v a =
+            let is : d ≡ assign_register copy v a =
             put_is
             (subst (λ us. PutAll c.setting.end a (copy ∷ []) us d) known
             (put_of c.setting.end (copy ∷ []) ws a d puts)) in
@@ -169,12 +169,12 @@ module _ (m : Mach) (formed : WellFormed m) where
             }
 
     -- what is not written stays, past an instruction of straight code
-    still : (i : Instr) (r : Reg) (v : Value) → is_straight i.op ≡ true → (Among r.number i.results → ⊥) →
+    still : (i : Instr) (r : Reg) (v : Value) → is_straight i.op ≡ true → (AmongRegisters r.number i.results → ⊥) →
         (r.comp ≡ comp.Addr → allocates i.op ≡ false) → (a d : File) (ws : List Value) →
-        put_all c.setting.end i.results ws (clear (killed m i) (past_frame (passes_frame i.op) a)) ≡ Some d →
+        put_all c.setting.end i.results ws (clear_registers (killed m i) (past_frame (passes_frame i.op) a)) ≡ Some d →
         a r.number ≡ Fresh r v → d r.number ≡ Fresh r v
     still i r v st free kept a d ws puts e =
-        stays (put_of c.setting.end i.results ws (clear (killed m i) a') d puts) r.number free
+        stays (put_of c.setting.end i.results ws (clear_registers (killed m i) a') d puts) r.number free
         ∙ ap (λ (file : File). file r.number) (calm i a' st)
         ∙ past_kept (passes_frame i.op) r v a (λ s. straight_frame i.op st ∙ kept s) e
       where
@@ -185,7 +185,7 @@ module _ (m : Mach) (formed : WellFormed m) where
     pub holds_next : {i : Instr} {next : List Instr} → Ending (i ∷ next) m.code → is_straight i.op ≡ true →
         (a d : File) (x after : Around) (vs ws : List Value) → Typed a → values a i.args ≡ Some vs →
         mach_act c.setting i.op vs x ≡ Goes ws On after →
-        put_all c.setting.end i.results ws (clear (killed m i) (past_frame (passes_frame i.op) a)) ≡ Some d →
+        put_all c.setting.end i.results ws (clear_registers (killed m i) (past_frame (passes_frame i.op) a)) ≡ Some d →
         Holds (i ∷ next) a → Holds next d
     holds_next {i} {next} ending st a d x after vs ws typed e acts puts known copy source w =
         by (earlier_of m plan ending copy source w)
@@ -198,7 +198,7 @@ module _ (m : Mach) (formed : WellFormed m) where
             (ap (λ (y : Instr). put_all c.setting.end y.results ws a) (sym h)
             ∙ ap (put_all c.setting.end i.results ws)
             (sym (calm i a st)
-            ∙ ap (λ t. clear (killed m i) (past_frame t a)) (ap (λ (y : Instr). passes_frame y.op) (sym h)))
+            ∙ ap (λ t. clear_registers (killed m i) (past_frame t a)) (ap (λ (y : Instr). passes_frame y.op) (sym h)))
             ∙ puts)
         by (earlier s straight apart ends kept) =
             let h = known copy source s in

@@ -8,13 +8,13 @@ use Rattle.bs_words.specs.declared.types.Comp.TheVariants as comp
 use Rattle.bs_words.specs.declared.values.Value.{Value}
 use Rattle.bs_words.proofs.Lists.{head_same, tail_same}
 use Rattle.cmm_meaning.specs.State.{Doing}
-use Rattle.copy_rules.specs.Propagated.{ReadFor, again, in_place, with_sources, IsBefore}
+use Rattle.copy_rules.specs.Propagated.{ReadFor, instr_with_sources, alone_with_sources, with_sources, IsPropagatedBefore}
 use Rattle.mach_ir.specs.Acts.{Around, Target, On, At, AtHandler, Act, Goes, Pushes, Jumps, Unwinds, Asks, Replaces, Ends, EndsRaising, Stuck}
 use Rattle.mach_ir.specs.Formed.{WellFormed}
-use Rattle.mach_ir.specs.Keeps.{ValsWritten, Ahead, Trails, Proper, Follows, Begins, Does}
-use Rattle.mach_ir.specs.Meaning.{State, File, put_all, clear, killed, values, past_frame, passes_frame, mach_act, tries_at, start}
+use Rattle.mach_ir.specs.Keeps.{ValsWritten, Ahead, Trails, Proper, Follows, Begins, MachSimulation}
+use Rattle.mach_ir.specs.Meaning.{State, File, put_all, clear_registers, killed, values, past_frame, passes_frame, mach_act, tries_at, mach_start}
 use Rattle.mach_ir.specs.Placed.{is_straight}
-use Rattle.mach_ir.specs.Runs.{Place, Tally, entered}
+use Rattle.mach_ir.specs.Runs.{ActivationSetting, Tally, entry_around}
 use Rattle.mach_ir.specs.Walks.{IsRegister, is_param, is_in_code, LiveAcross}
 use Rattle.mach_ir.specs.declared.reg.Reg.{Reg}
 use Rattle.mach_ir.specs.declared.mach.Instr.{Instr}
@@ -36,19 +36,19 @@ use Rattle.copy_rules.proofs.Live.{Stood, moved, left, across_back}
 use Rattle.copy_rules.proofs.Standing.{Standing, not_past, not_at_entry, not_at_label, not_landed}
 
 module _ (m : Mach) (plan : ℕ → Reg → Reg) (formed : WellFormed m) (own : OwnOrigins m)
-    (reads : (i : Instr) (next made : List Instr) → IsBefore plan m i next made → (r : Reg) → Contains i.args r →
+    (reads : (i : Instr) (next made : List Instr) → IsPropagatedBefore plan m i next made → (r : Reg) → Contains i.args r →
     ReadFor made r (plan (length next) r)) where
   abbrev q : Mach
   q = record m { code = with_sources plan m.code }
 
   abbrev f : ℕ → Instr → List Instr
-  f = in_place plan
+  f = alone_with_sources plan
 
   -- registers of one origin are one
   agreed : (ws : List Reg) (s : State) → Agrees q ws s
-  agreed ws s = one.agreed (again plan) (alike plan) m (was_register m plan reads) own ws s
+  agreed ws s = one.agreed (instr_with_sources plan) (alike plan) m (was_register m plan reads) own ws s
 
-  module _ (c : Place) where
+  module _ (c : ActivationSetting) where
     abbrev HoldsAt : List Instr → File → Type 0
     HoldsAt = Holds m formed plan reads c
 
@@ -64,14 +64,14 @@ module _ (m : Mach) (plan : ℕ → Reg → Reg) (formed : WellFormed m) (own : 
 
     vals_before : (i : Instr) (next : List Instr) (a : File) (x : Around) → Ending (i ∷ next) m.code →
         HoldsAt (i ∷ next) a → ValsWritten m (at (i ∷ next) a x) →
-        ValsWritten q (at (again plan (length next) i ∷ expand f next) a x)
+        ValsWritten q (at (instr_with_sources plan (length next) i ∷ expand f next) a x)
     vals_before i next a x ending holds known =
         record {
           written = λ j ys e frame r one val v none.
               by r (was_register m plan reads r one) val
               (ap (λ (z : Instr). passes_frame z.op) (head_same e) ∙ frame) none
               (across_back m plan formed reads ending
-              (subst (λ ys. LiveAcross q r.number (again plan (length next) i) ys) (sym (tail_same e))
+              (subst (λ ys. LiveAcross q r.number (instr_with_sources plan (length next) i) ys) (sym (tail_same e))
               (subst (λ (z : Instr). LiveAcross q r.number z ys) (sym (head_same e)) v)));
         }
       where
@@ -90,7 +90,7 @@ module _ (m : Mach) (plan : ℕ → Reg → Reg) (formed : WellFormed m) (own : 
       Past i main next x d to = general.Past c m q f (keeps_marks plan) refl Suit InStep i main next [] x x d d to
 
       abbrev now : Instr → List Instr → Instr
-      now i next = again plan (length next) i
+      now i next = instr_with_sources plan (length next) i
 
       tries_same : (i : Instr) (next : List Instr) → tries_at (now i next ∷ expand f next) ≡ tries_at (i ∷ next)
       tries_same i next = tries_expand f (keeps_marks plan) (i ∷ next)
@@ -110,7 +110,7 @@ module _ (m : Mach) (plan : ℕ → Reg → Reg) (formed : WellFormed m) (own : 
 
       -- what an instruction writes is of the right component
       puts_typed : (i : Instr) (next : List Instr) → Ending (i ∷ next) m.code → (vs : List Value) (a d : File) → TypedAt a →
-          put_all c.setting.end i.results vs (clear (killed m i) a) ≡ Some d → TypedAt d
+          put_all c.setting.end i.results vs (clear_registers (killed m i) a) ≡ Some d → TypedAt d
       puts_typed i next ending vs a d typed e =
           written_typed m formed c.setting.end i.results (killed m i) vs a d
           (λ r z. is_in_code (results_in (stands_of ending) z)) typed e
@@ -221,14 +221,14 @@ module _ (m : Mach) (plan : ℕ → Reg → Reg) (formed : WellFormed m) (own : 
         }
 
     does_at : (arguments : List Value) (memory : Memory) (doings : List Doing) (s : State) →
-        start c m arguments memory ≡ Some s → Begins c m q arguments memory doings s
+        mach_start c m arguments memory ≡ Some s → Begins c m q arguments memory doings s
     does_at =
         levels.begins_at c m q refl
         (λ arguments memory a t n e proper.
-        follows a (entered memory) n t
+        follows a (entry_around memory) n t
         (written_typed m formed c.setting.end m.params [] arguments (λ n. None) a (λ r z. is_param z) (nothing_typed m formed) e)
         proper)
 
   -- The function whose copies are propagated does what it did.
-  pub does_propagated : Does m (record m { code = with_sources plan m.code })
+  pub does_propagated : MachSimulation m (record m { code = with_sources plan m.code })
   does_propagated = λ c arguments memory doings s e. does_at c arguments memory doings s e

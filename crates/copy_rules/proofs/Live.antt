@@ -6,11 +6,11 @@ use Rattle.std.proofs.lemmas.List.Elements.{All-contains, Contains-append_left}
 use Rattle.bs_words.specs.declared.types.Comp.TheVariants as comp
 use Rattle.bs_words.specs.declared.types.Loc.TheVariants as loc
 use Rattle.bs_words.proofs.Lists.{first_in}
-use Rattle.copy_rules.specs.Propagated.{move, ReadFor, again, in_place, with_sources, IsBefore}
-use Rattle.mach_ir.specs.Formed.{IsFormed, WellFormed}
+use Rattle.copy_rules.specs.Propagated.{move, ReadFor, instr_with_sources, alone_with_sources, with_sources, IsPropagatedBefore}
+use Rattle.mach_ir.specs.Formed.{IsFormedInstruction, WellFormed}
 use Rattle.mach_ir.specs.Meaning.{passes_frame}
 use Rattle.mach_ir.specs.Placed.{is_straight}
-use Rattle.mach_ir.specs.Walks.{Among, Writes, Live, read, LiveAfter, LiveAcross, IsRegister, is_in_code, NoAddrLive, IsMove, is_move, Meets, at_write, at_params}
+use Rattle.mach_ir.specs.Walks.{AmongRegisters, Writes, Live, read, LiveAfter, LiveAcross, IsRegister, is_in_code, NoAddrLive, IsMove, is_move, Meets, at_write, at_params}
 use Rattle.mach_ir.specs.declared.reg.Reg.{Reg}
 use Rattle.mach_ir.specs.declared.mach.MachOp.{MachOp}
 use Rattle.mach_ir.specs.declared.mach.Instr.{Instr}
@@ -27,16 +27,16 @@ use Rattle.copy_rules.proofs.Form.{alike, in_map, was_register}
 use Rattle.copy_rules.proofs.Standing.{Standing, Earlier, just_now, earlier, earlier_of, not_at_label, not_at_handler, ReadAt, from_source, as_it_is, read_at}
 
 module _ (m : Mach) (plan : ℕ → Reg → Reg) (formed : WellFormed m)
-    (reads : (i : Instr) (next made : List Instr) → IsBefore plan m i next made → (r : Reg) → Contains i.args r →
+    (reads : (i : Instr) (next made : List Instr) → IsPropagatedBefore plan m i next made → (r : Reg) → Contains i.args r →
     ReadFor made r (plan (length next) r)) where
   abbrev pub q : Mach
   q = record m { code = with_sources plan m.code }
 
   abbrev pub f : ℕ → Instr → List Instr
-  f = in_place plan
+  f = alone_with_sources plan
 
-  form_of : (i : Instr) → Contains m.code i → IsFormed i
-  form_of i c = All-contains IsFormed m.code i formed.instrs c
+  form_of : (i : Instr) → Contains m.code i → IsFormedInstruction i
+  form_of i c = All-contains IsFormedInstruction m.code i formed.instrs c
 
   pub read_here : {i : Instr} {next : List Instr} → Ending (i ∷ next) m.code → (r : Reg) → Contains i.args r →
       ReadAt m plan (i ∷ next) r (plan (length next) r)
@@ -71,7 +71,7 @@ module _ (m : Mach) (plan : ℕ → Reg → Reg) (formed : WellFormed m)
 
   -- Where one stands after an instruction, that reads it for a move, or leaves it.
   pub data Stood (n : ℕ) (i : Instr) (next : List Instr) : Type 0 where
-    moved : passes_frame i.op ≡ false → Among n (again plan (length next) i).args → Stood n i next
+    moved : passes_frame i.op ≡ false → AmongRegisters n (instr_with_sources plan (length next) i).args → Stood n i next
     left : (before : Source n (i ∷ next)) → is_straight i.op ≡ true →
         ((before.register).comp ≡ comp.Addr → allocates i.op ≡ false) → Stood n i next
 
@@ -81,13 +81,13 @@ module _ (m : Mach) (plan : ℕ → Reg → Reg) (formed : WellFormed m)
       by : Earlier m plan i next x.copy x.register → Stood n i next
       by (just_now e) =
           moved (ap (λ (y : Instr). passes_frame y.op) e)
-          (subst (λ (y : Instr). Among n y.args) (sym e)
-          (subst (λ k. Among k (x.register ∷ [])) x.number (among_of x.register (x.register ∷ []) (first_in x.register []))))
+          (subst (λ (y : Instr). AmongRegisters n y.args) (sym e)
+          (subst (λ k. AmongRegisters k (x.register ∷ [])) x.number (among_of x.register (x.register ∷ []) (first_in x.register []))))
       by (earlier w st apart ends kept) =
           left (record { copy = x.copy; register = x.register; standing = w; number = x.number }) st kept
 
   read_back : {n : ℕ} (i : Instr) (next : List Instr) → Ending (i ∷ next) m.code →
-      Among n (again plan (length next) i).args → Was n (i ∷ next)
+      AmongRegisters n (instr_with_sources plan (length next) i).args → Was n (i ∷ next)
   read_back {n} i next ending a =
       let k = number_among (map (plan (length next)) i.args) a in
       let w = in_map (plan (length next)) i.args k.0 k.1 in
@@ -95,13 +95,13 @@ module _ (m : Mach) (plan : ℕ → Reg → Reg) (formed : WellFormed m)
     where
       by : {r s : Reg} → ReadAt m plan (i ∷ next) r s → Contains i.args r → s.number ≡ n → Was n (i ∷ next)
       by {r} {s} (from_source t) c e = inr (record { copy = r; register = s; standing = t; number = e })
-      by {r} as_it_is c e = inl (read (subst (λ k. Among k i.args) e (among_of r i.args c)))
+      by {r} as_it_is c e = inl (read (subst (λ k. AmongRegisters k i.args) e (among_of r i.args c)))
 
   of_stood : {n : ℕ} (i : Instr) (next : List Instr) → Ending (i ∷ next) m.code → Stood n i next → Was n (i ∷ next)
   of_stood i next ending (moved frame a) = read_back i next ending a
   of_stood i next ending (left before st kept) = inr before
 
-  extra : one.IsExtra (again plan) (alike plan) m Source Stood
+  extra : one.IsExtra (instr_with_sources plan) (alike plan) m Source Stood
   extra =
       record {
         reads = λ n i next ending a. read_back i next ending a;
@@ -112,8 +112,8 @@ module _ (m : Mach) (plan : ℕ → Reg → Reg) (formed : WellFormed m)
       }
 
   pub across_back : {n : ℕ} {i : Instr} {next : List Instr} → Ending (i ∷ next) m.code →
-      LiveAcross q n (again plan (length next) i) (expand f next) → LiveAcross m n i next ⊎ Stood n i next
-  across_back ending v = one.across_back (again plan) (alike plan) m Source Stood extra ending v
+      LiveAcross q n (instr_with_sources plan (length next) i) (expand f next) → LiveAcross m n i next ⊎ Stood n i next
+  across_back ending v = one.across_back (instr_with_sources plan) (alike plan) m Source Stood extra ending v
 
   -- a register of this number, whose place is open
   pub record IsOpen (n : ℕ) : Type 0 where
@@ -135,7 +135,7 @@ module _ (m : Mach) (plan : ℕ → Reg → Reg) (formed : WellFormed m)
 
   -- an instruction is a move where it is one with its sources, or what it moves is a copy
   module _ (n k : ℕ) (i : Instr) (next : List Instr) (ending : Ending (i ∷ next) m.code) where
-    was_move : (IsMove k n (again plan (length next) i) → ⊥) → (IsMove k n i → ⊥) ⊎ IsOpen k
+    was_move : (IsMove k n (instr_with_sources plan (length next) i) → ⊥) → (IsMove k n i → ⊥) ⊎ IsOpen k
     was_move free = by i.args refl
       where
         none : (g : MachOp) (rs : List Reg) → IsMove k n (record { op = g; args = []; results = rs }) → ⊥
@@ -179,16 +179,16 @@ module _ (m : Mach) (plan : ℕ → Reg → Reg) (formed : WellFormed m)
 
   pub meets_back : {n k : ℕ} → Meets q n k → Meets m n k ⊎ IsOpen k
   meets_back {n} {k} (at_write j zs s w v apart) =
-      both (again plan) m.code
+      both (instr_with_sources plan) m.code
       (λ j zs. Writes q j n → LiveAfter q k j zs → (IsMove k n j → ⊥) → Meets m n k ⊎ IsOpen k)
       (λ i next s w v apart.
       ⊎_elim
       (λ l.
       ⊎_elim (λ free. inl (at_write i next s w l free)) (λ x. inr x) (was_move n k i next (ending_of s) apart))
-      (λ x. inr (source_open x)) (one.after_back (again plan) (alike plan) m Source Stood extra (ending_of s) v))
+      (λ x. inr (source_open x)) (one.after_back (instr_with_sources plan) (alike plan) m Source Stood extra (ending_of s) v))
       j zs s w v apart
   meets_back (at_params a v) =
-      ⊎_elim (λ l. inl (at_params a l)) (λ x. inr (source_open x)) (one.live_back (again plan) (alike plan) m Source Stood extra v m.code all refl)
+      ⊎_elim (λ l. inl (at_params a l)) (λ x. inr (source_open x)) (one.live_back (instr_with_sources plan) (alike plan) m Source Stood extra v m.code all refl)
 
   -- ---- frame points
 
@@ -203,5 +203,5 @@ module _ (m : Mach) (plan : ℕ → Reg → Reg) (formed : WellFormed m)
 
   pub no_addr_back : NoAddrLive m → NoAddrLive (record m { code = with_sources plan m.code })
   no_addr_back none =
-      one.no_addr_back (again plan) (alike plan) m Source Stood extra (was_register m plan reads)
+      one.no_addr_back (instr_with_sources plan) (alike plan) m Source Stood extra (was_register m plan reads)
       (λ i next r known addr frame s. stood_frame r known addr frame s) none

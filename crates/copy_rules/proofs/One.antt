@@ -2,7 +2,7 @@
 use Rattle.std.proofs.Common.{◌≡◌, ℕ, List, [], ◌∷◌, ◌++◌, length, map, refl, sym, ap, ◌∙◌, subst}
 use Rattle.std.specs.List.{Contains}
 use Rattle.bs_words.proofs.Lists.{first_in, later_in}
-use Rattle.copy_rules.specs.Propagated.{move, IsCopy, ReadFor, source, itself, again, with_sources, IsBefore, IsPropagated}
+use Rattle.copy_rules.specs.Propagated.{move, IsCopyOf, ReadFor, source, itself, instr_with_sources, with_sources, IsPropagatedBefore, IsPropagated}
 use Rattle.mach_ir.specs.declared.reg.Reg.{Reg}
 use Rattle.mach_ir.specs.declared.mach.Instr.{Instr}
 use Rattle.mach_ir.specs.declared.mach.Mach.{Mach}
@@ -12,12 +12,12 @@ use Rattle.repeat_rules.proofs.Runs.{Order, together, first_one, first_other, or
 use Rattle.repeat_rules.proofs.One.{only_same}
 
 -- none writes the copy after the move that made it one
-written_later : {made : List Instr} (c s : Reg) (w : IsCopy made c s) (k : Reg) (mid after : List Instr) →
+written_later : {made : List Instr} (c s : Reg) (w : IsCopyOf made c s) (k : Reg) (mid after : List Instr) →
     w.run ≡ mid ++ move k c ∷ after → ⊥
 written_later c s w k mid after e =
     w.stays (move k c) (subst (λ xs. Contains xs (move k c)) (sym e) (in_append mid (move k c) after)) c (first_in c []) refl
 
-one_source : {made : List Instr} (c r s : Reg) → IsCopy made c r → IsCopy made c s → r ≡ s
+one_source : {made : List Instr} (c r s : Reg) → IsCopyOf made c r → IsCopyOf made c s → r ≡ s
 one_source c r s x y = by (order x.others y.others (move r c) (move s c) x.run y.run (sym x.within ∙ y.within))
   where
     by : Order (move r c) (move s c) x.run y.run → r ≡ s
@@ -38,12 +38,12 @@ same_map p w (r ∷ rs) h =
     ∙ ap (λ xs. w r ∷ xs) (same_map p w rs (λ k c. h k (later_in r k rs c)))
 
 module _ (m : Mach) (p w : ℕ → Reg → Reg)
-    (reads_p : (i : Instr) (next made : List Instr) → IsBefore p m i next made → (r : Reg) → Contains i.args r →
+    (reads_p : (i : Instr) (next made : List Instr) → IsPropagatedBefore p m i next made → (r : Reg) → Contains i.args r →
     ReadFor made r (p (length next) r))
-    (reads_w : (i : Instr) (next made : List Instr) → IsBefore w m i next made → (r : Reg) → Contains i.args r →
+    (reads_w : (i : Instr) (next made : List Instr) → IsPropagatedBefore w m i next made → (r : Reg) → Contains i.args r →
     ReadFor made r (w (length next) r)) where
-  one_instr : (i : Instr) (next made : List Instr) → IsBefore p m i next made → IsBefore w m i next made →
-      again p (length next) i ≡ again w (length next) i
+  one_instr : (i : Instr) (next made : List Instr) → IsPropagatedBefore p m i next made → IsPropagatedBefore w m i next made →
+      instr_with_sources p (length next) i ≡ instr_with_sources w (length next) i
   one_instr i next made bp bw =
       ap (λ rs. record i { args = rs })
       (same_map (p (length next)) (w (length next)) i.args
@@ -51,7 +51,7 @@ module _ (m : Mach) (p w : ℕ → Reg → Reg)
 
   pub one_code : with_sources p m.code ≡ with_sources w m.code
   one_code =
-      same.one_code (again p) (again w) m.code
+      same.one_code (instr_with_sources p) (instr_with_sources w) m.code
       (λ i next before made whole e h.
       one_instr i next made (record { before = before; whole = whole; made_so = e }) (record { before = before; whole = whole; made_so = h }))
       m.code [] [] refl refl refl

@@ -7,12 +7,12 @@ use Rattle.std.specs.List.{Contains}
 use Rattle.bs_words.specs.declared.types.Comp.{Comp}
 use Rattle.bs_words.specs.declared.types.Comp.TheVariants as comp
 use Rattle.bs_words.proofs.Lists.{none_in}
-use Rattle.copy_rules.specs.Propagated.{move, IsCopy, ReadFor, source, itself, again, in_place, with_sources, IsBefore}
+use Rattle.copy_rules.specs.Propagated.{move, IsCopyOf, ReadFor, source, itself, instr_with_sources, alone_with_sources, with_sources, IsPropagatedBefore}
 use Rattle.mach_ir.specs.Acts.{Landing}
-use Rattle.mach_ir.specs.Formed.{MarkHasForm, exit_form, if_form, else_form, switch_form, case_form, catch_form, with_form, try_form, leave_form, handler_form, end_form, comps, IsFormed, formed_op, formed_mark}
+use Rattle.mach_ir.specs.Formed.{MarkHasForm, exit_form, if_form, else_form, switch_form, case_form, catch_form, with_form, try_form, leave_form, handler_form, end_form, comps, IsFormedInstruction, formed_op, formed_mark}
 use Rattle.mach_ir.specs.Meaning.{is_handler_of, after_label, from_handler, landing_code}
 use Rattle.mach_ir.specs.Placed.{is_straight}
-use Rattle.mach_ir.specs.Walks.{Stands}
+use Rattle.mach_ir.specs.Walks.{StandsAsInstr}
 use Rattle.mach_ir.specs.declared.reg.Reg.{Reg}
 use Rattle.mach_ir.specs.declared.mach.Mark.{Mark}
 use Rattle.mach_ir.specs.declared.mach.MachOp.{MachOp}
@@ -20,7 +20,7 @@ use Rattle.mach_ir.specs.declared.mach.MachOp.TheVariants as mach
 use Rattle.mach_ir.specs.declared.mach.Instr.{Instr}
 use Rattle.mach_ir.specs.declared.mach.Mach.{Mach}
 use Rattle.mach_laws.specs.Expand.{Ending, expand}
-use Rattle.repeat_rules.specs.Repeated.{allocates, Ends}
+use Rattle.repeat_rules.specs.Repeated.{allocates, EndsHeldValue}
 use Rattle.repeat_rules.proofs.OneForOne.{in_append, Before, before_of, Made, made_past}
 use Rattle.repeat_rules.proofs.Runs as run
 use Rattle.repeat_rules.proofs.Runs.{straight_front, Last, it_is, in_run, last_of, none_before, IsWithin}
@@ -52,7 +52,7 @@ has_none (k ∷ rs) e c = never k.comp (comps rs) e
     never : (x : Comp) (xs : List Comp) → x ∷ xs ≡ [] → ⊥
     never x xs e = cc
 
-pub reads_no_handler : {i : Instr} {r : Reg} → IsFormed i → Contains i.args r → (l : ℕ) → is_handler_of l i.op ≡ false
+pub reads_no_handler : {i : Instr} {r : Reg} → IsFormedInstruction i → Contains i.args r → (l : ℕ) → is_handler_of l i.op ≡ false
 reads_no_handler (formed_op h) c l = refl
 reads_no_handler (formed_mark {f = f} {args = args} h) c l =
     ⊎_elim (λ e. absurd (has_none args (mark_reads h l e) c)) (λ e. e) (cases_Bool (is_handler_of l (mach.Mark f)))
@@ -62,12 +62,12 @@ reads_no_handler (formed_mark {f = f} {args = args} h) c l =
 -- what is a copy after an instruction was one before it, or it made it one
 pub data Since (made : List Instr) (x : Instr) (c s : Reg) : Type 0 where
   just_there : x ≡ move s c → Since made x c s
-  stood : IsCopy made c s → is_straight x.op ≡ true → ((w : Reg) → Contains x.results w → w.number ≢ c.number) →
-      ((w : Reg) → Contains x.results w → Ends s w → ⊥) → (s.comp ≡ comp.Addr → allocates x.op ≡ false) → Since made x c s
+  stood : IsCopyOf made c s → is_straight x.op ≡ true → ((w : Reg) → Contains x.results w → w.number ≢ c.number) →
+      ((w : Reg) → Contains x.results w → EndsHeldValue s w → ⊥) → (s.comp ≡ comp.Addr → allocates x.op ≡ false) → Since made x c s
 
 -- a copy was one earlier in its run too
-restricted : {made : List Instr} (c s : Reg) (w : IsCopy made c s) (ys zs : List Instr) → w.run ≡ ys ++ zs →
-    IsCopy (w.others ++ move s c ∷ ys) c s
+restricted : {made : List Instr} (c s : Reg) (w : IsCopyOf made c s) (ys zs : List Instr) → w.run ≡ ys ++ zs →
+    IsCopyOf (w.others ++ move s c ∷ ys) c s
 restricted c s w ys zs e =
     record {
       others = w.others;
@@ -85,14 +85,14 @@ restricted c s w ys zs e =
     to_run : (i : Instr) → Contains ys i → Contains w.run i
     to_run i d = subst (λ xs. Contains xs i) (sym e) (Contains-append_left ys zs i d)
 
-pub since : (made : List Instr) (x : Instr) (c s : Reg) → IsCopy (made ++ x ∷ []) c s → Since made x c s
+pub since : (made : List Instr) (x : Instr) (c s : Reg) → IsCopyOf (made ++ x ∷ []) c s → Since made x c s
 since made x c s w = by (last_of made x w.others (move s c) w.run w.within)
   where
     by : Last made x w.others (move s c) w.run → Since made x c s
     by (it_is e) = just_there e
     by (in_run ys e h) =
         stood
-        (subst (λ xs. IsCopy xs c s) (sym h) (restricted c s w ys (x ∷ []) e))
+        (subst (λ xs. IsCopyOf xs c s) (sym h) (restricted c s w ys (x ∷ []) e))
         (All-contains (λ (i : Instr). is_straight i.op ≡ true) w.run x w.straight x_in)
         (λ v d. w.stays x x_in v d)
         (λ v d. w.stands x x_in v d)
@@ -116,7 +116,7 @@ module _ (m : Mach) (plan : ℕ → Reg → Reg) where
   q = record m { code = with_sources plan m.code }
 
   abbrev pub f : ℕ → Instr → List Instr
-  f = in_place plan
+  f = alone_with_sources plan
 
   -- ---- what stands
 
@@ -124,25 +124,25 @@ module _ (m : Mach) (plan : ℕ → Reg → Reg) where
   pub record Standing (rest : List Instr) (c s : Reg) : Type 0 where
     pub made : List Instr
     pub whole : q.code ≡ made ++ expand f rest
-    pub copies : IsCopy made c s
+    pub copies : IsCopyOf made c s
     pub starts : Begins rest
 
   pub data Earlier (i : Instr) (next : List Instr) (c s : Reg) : Type 0 where
-    just_now : again plan (length next) i ≡ move s c → Earlier i next c s
+    just_now : instr_with_sources plan (length next) i ≡ move s c → Earlier i next c s
     earlier : Standing (i ∷ next) c s → is_straight i.op ≡ true → ((w : Reg) → Contains i.results w → w.number ≢ c.number) →
-        ((w : Reg) → Contains i.results w → Ends s w → ⊥) → (s.comp ≡ comp.Addr → allocates i.op ≡ false) → Earlier i next c s
+        ((w : Reg) → Contains i.results w → EndsHeldValue s w → ⊥) → (s.comp ≡ comp.Addr → allocates i.op ≡ false) → Earlier i next c s
 
   -- what stands after an instruction
   pub earlier_of : {i : Instr} {next : List Instr} → Ending (i ∷ next) m.code → (c s : Reg) → Standing next c s → Earlier i next c s
-  earlier_of {i} {next} ending c s w = of_since (since b.made x c s (subst (λ made. IsCopy made c s) past.1 w.copies))
+  earlier_of {i} {next} ending c s w = of_since (since b.made x c s (subst (λ made. IsCopyOf made c s) past.1 w.copies))
     where
       x : Instr
-      x = again plan (length next) i
+      x = instr_with_sources plan (length next) i
 
-      past : (b : Made (again plan) (i ∷ next) m.code) × (w.made ≡ b.made ++ x ∷ [])
-      past = made_past (again plan) w.made ending w.whole
+      past : (b : Made (instr_with_sources plan) (i ∷ next) m.code) × (w.made ≡ b.made ++ x ∷ [])
+      past = made_past (instr_with_sources plan) w.made ending w.whole
 
-      b : Made (again plan) (i ∷ next) m.code
+      b : Made (instr_with_sources plan) (i ∷ next) m.code
       b = past.0
 
       of_since : Since b.made x c s → Earlier i next c s
@@ -162,7 +162,7 @@ module _ (m : Mach) (plan : ℕ → Reg → Reg) where
 
   pub not_at_entry : (c s : Reg) → Standing m.code c s → ⊥
   not_at_entry c s w =
-      let v : IsCopy [] c s = subst (λ made. IsCopy made c s) (append_cancel_right w.made [] q.code (sym w.whole)) w.copies in
+      let v : IsCopyOf [] c s = subst (λ made. IsCopyOf made c s) (append_cancel_right w.made [] q.code (sym w.whole)) w.copies in
       none_before v.others (move s c) v.run v.within
 
   within : (c s : Reg) → IsWithin m (λ rest. Standing rest c s)
@@ -188,15 +188,15 @@ module _ (m : Mach) (plan : ℕ → Reg → Reg) where
     from_source : {s : Reg} → Standing rest r s → ReadAt rest r s
     as_it_is : ReadAt rest r r
 
-  module _ (reads : (i : Instr) (next made : List Instr) → IsBefore plan m i next made → (r : Reg) → Contains i.args r →
+  module _ (reads : (i : Instr) (next made : List Instr) → IsPropagatedBefore plan m i next made → (r : Reg) → Contains i.args r →
       ReadFor made r (plan (length next) r)) where
-    pub read_at : (i : Instr) (next : List Instr) → Stands i next m.code → IsFormed i → (r : Reg) → Contains i.args r →
+    pub read_at : (i : Instr) (next : List Instr) → StandsAsInstr i next m.code → IsFormedInstruction i → (r : Reg) → Contains i.args r →
         ReadAt (i ∷ next) r (plan (length next) r)
     read_at i next st formed r c =
         by (reads i next b.made (record { before = b.before; whole = b.whole; made_so = b.made_so }) r c)
       where
-        b : Before (again plan) i next m.code
-        b = before_of (again plan) st
+        b : Before (instr_with_sources plan) i next m.code
+        b = before_of (instr_with_sources plan) st
 
         by : {s : Reg} → ReadFor b.made r s → ReadAt (i ∷ next) r s
         by (source w) =

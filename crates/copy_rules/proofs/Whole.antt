@@ -2,8 +2,8 @@
 use Rattle.std.proofs.Common.{◌≡◌, ℕ, inl, List, length, refl, sym, ap, ◌∙◌, subst}
 use Rattle.std.specs.List.{Contains}
 use Rattle.bs_words.specs.declared.types.Loc.TheVariants as loc
-use Rattle.copy_rules.specs.Kept.{IsKept}
-use Rattle.copy_rules.specs.Propagated.{ReadFor, again, with_sources, IsBefore, IsPropagated}
+use Rattle.copy_rules.specs.Kept.{IsCopyKept}
+use Rattle.copy_rules.specs.Propagated.{ReadFor, instr_with_sources, with_sources, IsPropagatedBefore, IsPropagated}
 use Rattle.mach_ir.specs.Formed.{WellFormed}
 use Rattle.mach_ir.specs.Keeps.{Keeps, NamesSymbol, NamesExternal, IsNamedIn}
 use Rattle.mach_ir.specs.Placed.{WellPlaced}
@@ -21,7 +21,7 @@ use Rattle.copy_rules.proofs.Kept.{does_propagated}
 use Rattle.copy_rules.proofs.Live.{IsOpen, meets_back, no_addr_back}
 
 module _ (m : Mach) (plan : ℕ → Reg → Reg) (formed : WellFormed m)
-    (reads : (i : Instr) (next made : List Instr) → IsBefore plan m i next made → (r : Reg) → Contains i.args r →
+    (reads : (i : Instr) (next made : List Instr) → IsPropagatedBefore plan m i next made → (r : Reg) → Contains i.args r →
     ReadFor made r (plan (length next) r)) where
   abbrev q : Mach
   q = record m { code = with_sources plan m.code }
@@ -39,7 +39,7 @@ module _ (m : Mach) (plan : ℕ → Reg → Reg) (formed : WellFormed m)
 
   still_placed : WellPlaced m → WellPlaced q
   still_placed placed =
-      one.still_placed (again plan) (alike plan) m was (λ n k. IsOpen m plan formed reads k) (λ n k apart h. meets_back m plan formed reads h)
+      one.still_placed (instr_with_sources plan) (alike plan) m was (λ n k. IsOpen m plan formed reads k) (λ n k apart h. meets_back m plan formed reads h)
       (λ r k i j fixed e w. fixed (is_open k j w)) placed
 
   -- ---- names
@@ -47,7 +47,7 @@ module _ (m : Mach) (plan : ℕ → Reg → Reg) (formed : WellFormed m)
   named_before : (Named : MachOp → Type 0) → IsNamedIn Named q → IsNamedIn Named m
   named_before Named n =
       let s = stands_in q.code n.instr n.among in
-      both (again plan) m.code (λ j zs. Named j.op → IsNamedIn Named m)
+      both (instr_with_sources plan) m.code (λ j zs. Named j.op → IsNamedIn Named m)
       (λ i next t named. record { instr = i; among = contains_of t; named = named }) n.instr s.0 s.1 n.named
 
   still_keeps : OwnOrigins m → Keeps m q
@@ -63,7 +63,7 @@ module _ (m : Mach) (plan : ℕ → Reg → Reg) (formed : WellFormed m)
         addrs = no_addr_back m plan formed reads;
       }
 
-  pub kept_from : WellPlaced m → OwnOrigins m → IsKept m (record m { code = with_sources plan m.code })
+  pub kept_from : WellPlaced m → OwnOrigins m → IsCopyKept m (record m { code = with_sources plan m.code })
   kept_from placed own =
       record {
         keeps = still_keeps own;
@@ -75,6 +75,6 @@ module _ (m : Mach) (plan : ℕ → Reg → Reg) (formed : WellFormed m)
         size = form.size;
       }
 
-pub propagated_kept : (m q : Mach) → WellFormed m → WellPlaced m → OwnOrigins m → IsPropagated m q → IsKept m q
+pub propagated_kept : (m q : Mach) → WellFormed m → WellPlaced m → OwnOrigins m → IsPropagated m q → IsCopyKept m q
 propagated_kept m q formed placed own p =
-    subst (IsKept m) (sym p.is) (kept_from m p.plan formed p.reads placed own)
+    subst (IsCopyKept m) (sym p.is) (kept_from m p.plan formed p.reads placed own)

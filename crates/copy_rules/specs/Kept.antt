@@ -9,7 +9,7 @@ use Rattle.mach_ir.specs.Walks.{IsRegister}
 use Rattle.mach_ir.specs.declared.reg.Reg.{Reg}
 use Rattle.mach_ir.specs.declared.mach.Mach.{Mach}
 
-pub record IsKept (p q : Mach) : Type 0 where
+pub record IsCopyKept (p q : Mach) : Type 0 where
   -- it does the same, and no addr is live after a frame point where none was
   pub keeps : Keeps p q
   pub formed : WellFormed q

@@ -11,7 +11,7 @@ use Rattle.mach_ir.specs.declared.mach.MachOp.TheVariants as mach
 use Rattle.mach_ir.specs.declared.mach.Instr.{Instr}
 use Rattle.mach_ir.specs.declared.mach.Mach.{Mach}
 use Rattle.mach_laws.specs.Expand.{expand}
-use Rattle.repeat_rules.specs.Repeated.{allocates, Ends}
+use Rattle.repeat_rules.specs.Repeated.{allocates, EndsHeldValue}
 
 abbrev pub move : Reg → Reg → Instr
 move from to =
@@ -19,7 +19,7 @@ move from to =
 
 -- One register is a copy of another at the end of this code: a move made it so, only instructions of the
 -- move's straight run come after it, and none of them writes the copy or ends the source.
-pub record IsCopy (before : List Instr) (copy source : Reg) : Type 0 where
+pub record IsCopyOf (before : List Instr) (copy source : Reg) : Type 0 where
   pub others : List Instr
   pub run : List Instr
   pub within : before ≡ others ++ move source copy ∷ run
@@ -29,38 +29,38 @@ pub record IsCopy (before : List Instr) (copy source : Reg) : Type 0 where
   pub source_open : source.loc ≡ loc.Unset
   pub copy_open : copy.loc ≡ loc.Unset
   pub stays : (i : Instr) → Contains run i → (w : Reg) → Contains i.results w → w.number ≢ copy.number
-  pub stands : (i : Instr) → Contains run i → (w : Reg) → Contains i.results w → Ends source w → ⊥
+  pub stands : (i : Instr) → Contains run i → (w : Reg) → Contains i.results w → EndsHeldValue source w → ⊥
   -- an addr is lost at an allocation
   pub kept : source.comp ≡ comp.Addr → (i : Instr) → Contains run i → allocates i.op ≡ false
 
 -- What is read in place of an operand after this code: what it is a copy of, or the register itself.
 pub data ReadFor (before : List Instr) (operand : Reg) : Reg → Type 0 where
-  source : {r : Reg} → IsCopy before operand r → ReadFor before operand r
-  itself : ((r : Reg) → IsCopy before operand r → ⊥) → ReadFor before operand operand
+  source : {r : Reg} → IsCopyOf before operand r → ReadFor before operand r
+  itself : ((r : Reg) → IsCopyOf before operand r → ⊥) → ReadFor before operand operand
 
 -- ---- the function
 
 -- an instruction that reads these registers, by how many instructions come after it
-abbrev pub again : (ℕ → Reg → Reg) → ℕ → Instr → Instr
-again plan k i = record i { args = map (plan k) i.args }
+abbrev pub instr_with_sources : (ℕ → Reg → Reg) → ℕ → Instr → Instr
+instr_with_sources plan k i = record i { args = map (plan k) i.args }
 
-abbrev pub in_place : (ℕ → Reg → Reg) → ℕ → Instr → List Instr
-in_place plan k i = again plan k i ∷ []
+abbrev pub alone_with_sources : (ℕ → Reg → Reg) → ℕ → Instr → List Instr
+alone_with_sources plan k i = instr_with_sources plan k i ∷ []
 
 abbrev pub with_sources : (ℕ → Reg → Reg) → List Instr → List Instr
-with_sources plan code = expand (in_place plan) code
+with_sources plan code = expand (alone_with_sources plan) code
 
 -- The code before an instruction of a function, as it is with its sources.
-pub record IsBefore (plan : ℕ → Reg → Reg) (m : Mach) (i : Instr) (next made : List Instr) :
+pub record IsPropagatedBefore (plan : ℕ → Reg → Reg) (m : Mach) (i : Instr) (next made : List Instr) :
     Type 0 where
   pub before : List Instr
   pub whole : m.code ≡ before ++ i ∷ next
   pub made_so : with_sources plan m.code
-      ≡ made ++ again plan (length next) i ∷ with_sources plan next
+      ≡ made ++ instr_with_sources plan (length next) i ∷ with_sources plan next
 
 -- Each operand is read from what it is a copy of.
 pub record IsPropagated (m q : Mach) : Type 0 where
   pub plan : ℕ → Reg → Reg
   pub is : q ≡ record m { code = with_sources plan m.code }
-  pub reads : (i : Instr) (next made : List Instr) → IsBefore plan m i next made →
+  pub reads : (i : Instr) (next made : List Instr) → IsPropagatedBefore plan m i next made →
       (r : Reg) → Contains i.args r → ReadFor made r (plan (length next) r)

@@ -15,13 +15,13 @@ ghost use Rattle.mach_ir.specs.Formed.{WellFormed};
 ghost use Rattle.mach_ir.specs.Placed.{WellPlaced};
 ghost use Rattle.mach_ir.specs.declared.mach.Mach.{Mach};
 ghost use Rattle.repeat_rules.specs.Kept.{OwnOrigins};
-ghost use Rattle.copy_rules.specs.Kept.{IsKept};
+ghost use Rattle.copy_rules.specs.Kept.{IsCopyKept};
 ghost use Rattle.copy_rules.specs.Propagated.{IsPropagated};
 
 /// Law: a function whose copies are propagated is kept, where no register is made from another.
 pub fn what_is_propagated_is_kept()
     ensures { (m q : Mach) → WellFormed m → WellPlaced m → OwnOrigins m → IsPropagated m q →
-        IsKept m q }
+        IsCopyKept m q }
 {}
 
 /// Law: the copies of a function are propagated in one way.

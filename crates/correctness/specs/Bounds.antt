@@ -3,7 +3,7 @@ use Rattle.std.specs.Prelude.{◌≡◌, ℕ, ◌+◌, ◌*◌, ◌≤◌, Bool,
 use Rattle.std.specs.List.{AllZip}
 use Rattle.cmm_tree.specs.Tree.{FunctionTree, FileTree, functions}
 use Rattle.correctness.specs.Measures.{frame_points, switch_indexes, tries}
-use Rattle.image_form.specs.Image.{end_of, stub, stub_words, table_limit, code_limit}
+use Rattle.image_form.specs.Image.{function_end, stub, stub_words, table_limit, code_limit}
 use Rattle.image_form.specs.Tables.{Tables, Func, Desc}
 
 -- the most words of a function's code
@@ -18,7 +18,7 @@ most_desc_bytes f = frame_points f * (8 * f.tokens + 156)
 
 -- the word before a return address, which called, is one of the function's
 abbrev pub is_called_in : Func → Desc → Bool
-is_called_in row d = nat_lt row.offset d.after && nat_le d.after (end_of row)
+is_called_in row d = nat_lt row.offset d.after && nat_le d.after (function_end row)
 
 -- A function's row, and the descriptors of its calls, keep to the text.
 pub record IsWithinText (described : List Desc) (f : FunctionTree) (row : Func) : Type 0 where
@@ -30,7 +30,7 @@ pub record IsWithinText (described : List Desc) (f : FunctionTree) (row : Func) 
 -- the functions' words lie one after the other, and fill the code from one byte to another
 abbrev pub FillCode : ℕ → ℕ → List Func → Type 0
 FillCode from to [] = from ≡ to
-FillCode from to (row ∷ rows) = (row.offset ≡ from) × FillCode (end_of row) to rows
+FillCode from to (row ∷ rows) = (row.offset ≡ from) × FillCode (function_end row) to rows
 
 -- An image is as small as the text of its file asks: each function keeps to its own text, and the code
 -- is the stub and the functions' words, with no other words.

@@ -10,9 +10,9 @@ use Rattle.rv_isa.specs.Registers.{s10, t2}
 use Rattle.rv_isa.specs.declared.instr.Instr.TheVariants.{Ecall}
 use Rattle.rv_machine.specs.Hart.{fetch, register}
 use Rattle.rv_machine.specs.Loading.{IsRoom}
-use Rattle.rv_machine.specs.Memory.{word}
+use Rattle.rv_machine.specs.Memory.{memory_word}
 use Rattle.rv_machine.specs.Places.{domain_start}
-use Rattle.rv_machine.specs.Run.{Schedule, after, begun, seen}
+use Rattle.rv_machine.specs.Run.{Schedule, now_after, begun, seen}
 use Rattle.rv_machine.specs.Services.{Machine, Now, Going}
 
 -- The machine is at an allocation service, before it is done: the next instruction is an ECALL,
@@ -25,17 +25,17 @@ pub record IsAtAllocation (m : Machine) : Type 0 where
 
 -- There s10, which the bytes have been taken off, is below the limit word.
 abbrev pub IsInNeed : Machine → Type 0
-IsInNeed m = IsAtAllocation m → register m.hart s10 < word m.hart.memory domain_start
+IsInNeed m = IsAtAllocation m → register m.hart s10 < memory_word m.hart.memory domain_start
 
 -- So it is at each moment of a run. (Where the mover asks before the instruction, the limit word only rises.)
 abbrev pub AsksOnlyInNeed : Schedule → Now → Type 0
 AsksOnlyInNeed schedule start =
-    (moment : ℕ) (m : Machine) → after schedule moment start ≡ Going m → IsInNeed m
+    (moment : ℕ) (m : Machine) → now_after schedule moment start ≡ Going m → IsInNeed m
 
 -- So it is at each moment before this one.
 abbrev pub AsksOnlyInNeedUntil : Schedule → Now → ℕ → Type 0
 AsksOnlyInNeedUntil schedule start last =
-    (moment : ℕ) → moment < last → (m : Machine) → after schedule moment start ≡ Going m → IsInNeed m
+    (moment : ℕ) → moment < last → (m : Machine) → now_after schedule moment start ≡ Going m → IsInNeed m
 
 -- the machine's run beside that of the text, for one entry with its words, and one schedule
 pub record NeedsItsAsks (run : ℕ → Run) (schedule : Schedule) (start : Now)
@@ -45,7 +45,7 @@ pub record NeedsItsAsks (run : ℕ → Run) (schedule : Schedule) (start : Now)
   -- and whatever comes later: until it has done what the text's run does with n units, where that run is
   -- proper and its needs fit
   pub until : (n : ℕ) → IsGiven (run n) stack heap →
-      (m : ℕ) × (m ≤ 2 * (n + 1) * words) × Alike (run n) (seen (after schedule m start))
+      (m : ℕ) × (m ≤ 2 * (n + 1) * words) × Alike (run n) (seen (now_after schedule m start))
       × AsksOnlyInNeedUntil schedule start m
 
 -- So is each run of an image: for every stack, heap, function of the file, words that fit it, answers, and

@@ -14,7 +14,7 @@ use Rattle.bs_words.specs.declared.types.Comp.{Comp}
 use Rattle.bs_words.proofs.Lists.{first_in, later_in}
 use Rattle.mach_ir.specs.Forms as form
 use Rattle.mach_ir.specs.Forms.{HasForm, IsRight, a_register, a_constant}
-use Rattle.mach_ir.specs.Formed.{comps, IsFormed, formed_op, formed_mark}
+use Rattle.mach_ir.specs.Formed.{comps, IsFormedInstruction, formed_op, formed_mark}
 use Rattle.mach_ir.specs.declared.op.Op.TheVariants as op
 use Rattle.mach_ir.specs.declared.op.Pure.TheVariants as pure
 use Rattle.mach_ir.specs.declared.op.Right.{Right}
@@ -28,7 +28,7 @@ use Rattle.cse_deadcode.specs.contracts.events.EventOrd.TheImpl.Laws as law
 use Rattle.cse_deadcode.specs.declared.events.Computed.{Computed}
 use Rattle.cse_deadcode.specs.declared.events.Event.{Event}
 use Rattle.cse_deadcode.specs.declared.events.Event.TheVariants as event
-use Rattle.cse_deadcode.specs.Events.{rank_of_operator, constant_of, computation}
+use Rattle.cse_deadcode.specs.Events.{rank_of_operator, constant_of_right, computation}
 use Rattle.cse_deadcode.specs.Times.{is_same}
 use Rattle.cse_deadcode.proofs.Noting.{equal_numbers}
 use Rattle.bs_words.proofs.Truths.{not_both}
@@ -117,7 +117,7 @@ same_parts c d e =
 pub same_itself : (e : Event) → is_same e e ≡ true
 same_itself e = ap is_eq (tied_itself law.total-law e)
 
-same_right : (a b : Right) → constant_of a ≡ constant_of b → a ≡ b
+same_right : (a b : Right) → constant_of_right a ≡ constant_of_right b → a ≡ b
 same_right right.Register right.Register e = refl
 same_right right.Register (right.Constant w) e = absurd (none w e)
   where
@@ -196,7 +196,7 @@ one_of [] e = absurd (omega (arith, e))
 one_of (r ∷ []) e = (r, refl)
 one_of (r ∷ q ∷ rs) e = absurd (omega (arith, e))
 
-pub operator_shape : {i : Instr} → IsFormed i → is_operator i.op ≡ true → OperatorShape i
+pub operator_shape : {i : Instr} → IsFormedInstruction i → is_operator i.op ≡ true → OperatorShape i
 operator_shape (formed_op {f = op.Pure (pure.Operator f r)} {args = args} {results = results} h) e =
     let few : length (comps args) ≤ 2 = few_operands f r (comps args) (comps results) h in
     let many : length (comps args) ≡ length args = length-map args (λ (r : Reg). r.comp) in

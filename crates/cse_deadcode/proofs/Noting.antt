@@ -23,7 +23,7 @@ use Rattle.cse_deadcode.specs.declared.events.Computed.{Computed}
 use Rattle.cse_deadcode.specs.declared.events.Event.{Event}
 use Rattle.cse_deadcode.specs.declared.events.Event.TheVariants as event
 use Rattle.cse_deadcode.specs.Events.{computation}
-use Rattle.cse_deadcode.specs.Times.{is_same, writes_place, writes, does, happens}
+use Rattle.cse_deadcode.specs.Times.{is_same, writes_place, writes, happens_by, happens}
 use Rattle.cse_deadcode.proofs.Last.{AreQuiet}
 use Rattle.bs_words.proofs.Truths.{not_both}
 
@@ -147,7 +147,7 @@ AreUnwritten e xs =
 pub unwritten : (e : Event) (xs : List Instr) → AreQuiet (happens e) xs → AreUnwritten e xs
 unwritten e xs q i c w d h =
     not_both (writes e w) h
-    (none_any (writes e) i.results (first_false (list_any (writes e) i.results) (does e i.op i.args) (q i c)) w d)
+    (none_any (writes e) i.results (first_false (list_any (writes e) i.results) (happens_by e i.op i.args) (q i c)) w d)
 
 -- an event that is only by a write
 pub record IsWrite (e : Event) : Type 0 where
@@ -167,7 +167,7 @@ colour_write n = record { no_end = refl; no_allocation = refl; no_operator = λ 
 pub slot_write : (n : ℕ) → IsWrite (event.WritesSlot n)
 slot_write n = record { no_end = refl; no_allocation = refl; no_operator = λ c. refl }
 
-only_writes : (e : Event) → IsWrite e → (f : MachOp) (args : List Reg) → does e f args ≡ false
+only_writes : (e : Event) → IsWrite e → (f : MachOp) (args : List Reg) → happens_by e f args ≡ false
 only_writes e w (mach.Op (op.Pure (pure.Operator f r))) args = w.no_operator (computation f r args)
 only_writes e w (mach.Op (op.Pure (pure.Copy kind))) args = refl
 only_writes e w (mach.Op (op.Pure (pure.Constant k))) args = refl
@@ -181,10 +181,10 @@ only_writes e w (mach.Mark f) args = w.no_end
 
 pub quiet : (e : Event) (xs : List Instr) → IsWrite e → AreUnwritten e xs → AreQuiet (happens e) xs
 quiet e xs is free i c =
-    or_from (list_any (writes e) i.results) (does e i.op i.args)
+    or_from (list_any (writes e) i.results) (happens_by e i.op i.args)
     (any_none (writes e) i.results (λ w d. false_from_ne_true (writes e w) (free i c w d))) (only_writes e is i.op i.args)
 
-straight_on : (f : MachOp) (args : List Reg) → does event.EndsRun f args ≡ not (is_straight f)
+straight_on : (f : MachOp) (args : List Reg) → happens_by event.EndsRun f args ≡ not (is_straight f)
 straight_on (mach.Op (op.Pure (pure.Operator f r))) args = refl
 straight_on (mach.Op (op.Pure (pure.Copy kind))) args = refl
 straight_on (mach.Op (op.Pure (pure.Constant w))) args = refl
@@ -196,7 +196,7 @@ straight_on (mach.Op (op.Calling f)) args = refl
 straight_on (mach.Op (op.Leaving f)) args = refl
 straight_on (mach.Mark f) args = refl
 
-allocated : (f : MachOp) (args : List Reg) → does event.Allocates f args ≡ allocates f
+allocated : (f : MachOp) (args : List Reg) → happens_by event.Allocates f args ≡ allocates f
 allocated (mach.Op (op.Pure (pure.Operator f r))) args = refl
 allocated (mach.Op (op.Pure (pure.Copy kind))) args = refl
 allocated (mach.Op (op.Pure (pure.Constant w))) args = refl
@@ -212,22 +212,22 @@ pub ends_run : (i : Instr) → happens event.EndsRun i ≡ false → is_straight
 ends_run i e =
     not_false (is_straight i.op)
     (sym (straight_on i.op i.args)
-    ∙ second_false (list_any (writes event.EndsRun) i.results) (does event.EndsRun i.op i.args) e)
+    ∙ second_false (list_any (writes event.EndsRun) i.results) (happens_by event.EndsRun i.op i.args) e)
 
 pub in_run : (i : Instr) → is_straight i.op ≡ true → happens event.EndsRun i ≡ false
 in_run i e =
-    or_from (list_any (writes event.EndsRun) i.results) (does event.EndsRun i.op i.args)
+    or_from (list_any (writes event.EndsRun) i.results) (happens_by event.EndsRun i.op i.args)
     (any_none (writes event.EndsRun) i.results (λ w d. no_place w.loc))
     (straight_on i.op i.args ∙ not_from_true (is_straight i.op) e)
 
 pub keeps_addrs : (i : Instr) → happens event.Allocates i ≡ false → allocates i.op ≡ false
 keeps_addrs i e =
     sym (allocated i.op i.args)
-    ∙ second_false (list_any (writes event.Allocates) i.results) (does event.Allocates i.op i.args) e
+    ∙ second_false (list_any (writes event.Allocates) i.results) (happens_by event.Allocates i.op i.args) e
 
 pub addrs_kept : (i : Instr) → allocates i.op ≡ false → happens event.Allocates i ≡ false
 addrs_kept i e =
-    or_from (list_any (writes event.Allocates) i.results) (does event.Allocates i.op i.args)
+    or_from (list_any (writes event.Allocates) i.results) (happens_by event.Allocates i.op i.args)
     (any_none (writes event.Allocates) i.results (λ w d. no_place_allocated w.loc)) (allocated i.op i.args ∙ e)
 
 pub never_written : (c : Computed) (w : Reg) → writes (event.Computes c) w ≡ false

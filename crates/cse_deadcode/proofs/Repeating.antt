@@ -3,7 +3,7 @@ use Rattle.std.proofs.Common.{◌≡◌, ◌∙◌, ℕ, zero, suc, ◌<◌, ◌
 use Rattle.std.specs.List.{Contains, list_any}
 use Rattle.std.proofs.lemmas.Bool.{or_right}
 use Rattle.std.proofs.lemmas.List.Elements.{Contains-append_cases, Contains-append_left, Contains-append_right}
-use Rattle.mach_ir.specs.Formed.{IsFormed, WellFormed}
+use Rattle.mach_ir.specs.Formed.{IsFormedInstruction, WellFormed}
 use Rattle.mach_ir.specs.Placed.{is_straight}
 use Rattle.mach_ir.specs.Walks.{is_in_code}
 use Rattle.mach_ir.specs.declared.op.Access.TheVariants as access
@@ -16,7 +16,7 @@ use Rattle.mach_ir.specs.declared.mach.Mach.{Mach}
 use Rattle.mach_ir.specs.declared.mach.MachOp.{MachOp}
 use Rattle.mach_ir.specs.declared.mach.MachOp.TheVariants as mach
 use Rattle.mach_laws.proofs.Places.{args_in_code}
-use Rattle.repeat_rules.specs.Repeated.{is_operator, StillStands, Repeats, from_earlier, IsBefore, IsRepeated}
+use Rattle.repeat_rules.specs.Repeated.{is_operator, StillStands, RepeatsEarlier, from_earlier, IsRepeatedBefore, IsRepeated}
 use Rattle.bs_words.specs.declared.operators.IntOp.{IntOp}
 use Rattle.bs_words.proofs.Lists.{none_in, first_in, later_in, in_cons, none_there}
 use Rattle.cse_deadcode.specs.declared.events.Computed.{Computed}
@@ -24,8 +24,8 @@ use Rattle.cse_deadcode.specs.declared.events.Event.{Event}
 use Rattle.cse_deadcode.specs.declared.events.Event.TheVariants as event
 use Rattle.cse_deadcode.specs.Events.{computation}
 use Rattle.cse_deadcode.specs.Made.{remade, made_by}
-use Rattle.cse_deadcode.specs.Times.{is_same, writes, does, happens, last_time}
-use Rattle.cse_deadcode.specs.Repeats.{stands, standing_first, standing, standing_found, standing_at, repeated_op, repeated, without_repeat}
+use Rattle.cse_deadcode.specs.Times.{is_same, writes, happens_by, happens, last_time}
+use Rattle.cse_deadcode.specs.Repeats.{repeat_stands, standing_first, standing_result, standing_found, standing_at, repeated_op, repeated, without_repeat}
 use Rattle.cse_deadcode.proofs.Last.{Found, find, last_from}
 use Rattle.cse_deadcode.proofs.Noting.{any_none, never_written}
 use Rattle.cse_deadcode.proofs.Alike.{operator_of, same_itself, OperatorShape, operator_shape, alike}
@@ -39,16 +39,16 @@ use Rattle.bs_words.proofs.Truths.{not_both}
 computed_by : (f : IntOp) (r : Right) (args : List Reg) (i : Instr) → i.op ≡ operator_of f r → i.args ≡ args →
     happens (event.Computes (computation f r args)) i ≡ true
 computed_by f r args i e h =
-    or_right (list_any (writes (event.Computes (computation f r args))) i.results) (does (event.Computes (computation f r args)) i.op i.args)
-    (ap (λ g. does (event.Computes (computation f r args)) g i.args) e
-    ∙ ap (λ xs. does (event.Computes (computation f r args)) (operator_of f r) xs) h
+    or_right (list_any (writes (event.Computes (computation f r args))) i.results) (happens_by (event.Computes (computation f r args)) i.op i.args)
+    (ap (λ g. happens_by (event.Computes (computation f r args)) g i.args) e
+    ∙ ap (λ xs. happens_by (event.Computes (computation f r args)) (operator_of f r) xs) h
     ∙ same_itself (event.Computes (computation f r args)))
 
 data Computing (c : Computed) : MachOp → List Reg → Type 0 where
   computing : {g : IntOp} {q : Right} {args : List Reg} → is_same (event.Computes (computation g q args)) (event.Computes c) ≡ true →
       Computing c (mach.Op (op.Pure (pure.Operator g q))) args
 
-computing_of : (c : Computed) (f : MachOp) (args : List Reg) → does (event.Computes c) f args ≡ true → Computing c f args
+computing_of : (c : Computed) (f : MachOp) (args : List Reg) → happens_by (event.Computes c) f args ≡ true → Computing c f args
 computing_of c (mach.Op (op.Pure (pure.Operator g q))) args e = computing e
 computing_of c (mach.Op (op.Pure (pure.Copy kind))) args e = absurd (not_both false e refl)
 computing_of c (mach.Op (op.Pure (pure.Constant w))) args e = absurd (not_both false e refl)
@@ -67,9 +67,9 @@ second_of : (a b : Bool) → a ≡ false → a || b ≡ true → b ≡ true
 second_of true b e h = absurd (not_both true refl e)
 second_of false b e h = h
 
-computes_in : (c : Computed) (i : Instr) → happens (event.Computes c) i ≡ true → does (event.Computes c) i.op i.args ≡ true
+computes_in : (c : Computed) (i : Instr) → happens (event.Computes c) i ≡ true → happens_by (event.Computes c) i.op i.args ≡ true
 computes_in c i e =
-    second_of (list_any (writes (event.Computes c)) i.results) (does (event.Computes c) i.op i.args)
+    second_of (list_any (writes (event.Computes c)) i.results) (happens_by (event.Computes c) i.op i.args)
     (any_none (writes (event.Computes c)) i.results (λ w d. never_written c w)) e
 
 -- ---- an instruction and what it repeats
@@ -86,25 +86,25 @@ alone at made (mach.Mark f) args e = refl
 
 record Chosen (at : Event → ℕ) (time : ℕ) (j : Instr) (r : Reg) : Type 0 where
   first : slice_get j.results 0 ≡ Some r
-  stands_so : stands at time j.args r ≡ true
+  stands_so : repeat_stands at time j.args r ≡ true
 
-chosen : (at : Event → ℕ) (time : ℕ) (j : Instr) (r : Reg) → standing at time j ≡ Some r → Chosen at time j r
+chosen : (at : Event → ℕ) (time : ℕ) (j : Instr) (r : Reg) → standing_result at time j ≡ Some r → Chosen at time j r
 chosen at time j r e = by (slice_get j.results 0) refl e
   where
-    told : (q : Reg) (b : Bool) → slice_get j.results 0 ≡ Some q → stands at time j.args q ≡ b → cond b (Some q) None ≡ Some r →
+    told : (q : Reg) (b : Bool) → slice_get j.results 0 ≡ Some q → repeat_stands at time j.args q ≡ b → cond b (Some q) None ≡ Some r →
         Chosen at time j r
     told q true h s e =
         let same : q ≡ r = some_same e in
-        record { first = h ∙ ap Some same; stands_so = ap (stands at time j.args) (sym same) ∙ s }
+        record { first = h ∙ ap Some same; stands_so = ap (repeat_stands at time j.args) (sym same) ∙ s }
     told q false h s e = absurd (none_some e)
 
     by : (o : Option Reg) → slice_get j.results 0 ≡ o → standing_first at time j.args o ≡ Some r → Chosen at time j r
     by None h e = absurd (none_some e)
-    by (Some q) h e = told q (stands at time j.args q) h refl e
+    by (Some q) h e = told q (repeat_stands at time j.args q) h refl e
 
 module _ (m : Mach) (formed : WellFormed m) where
-  form_of : (i : Instr) → Contains m.code i → IsFormed i
-  form_of i c = of_each IsFormed m.code i formed.instrs c
+  form_of : (i : Instr) → Contains m.code i → IsFormedInstruction i
+  form_of i c = of_each IsFormedInstruction m.code i formed.instrs c
 
   told : (i j : Instr) → Contains m.code i → Contains m.code j → (r q : Reg) → Contains i.args r → Contains j.args q →
       r.number ≡ q.number → r ≡ q
@@ -114,7 +114,7 @@ module _ (m : Mach) (formed : WellFormed m) where
   -- what is made of a code: its operators are of the function, and none repeats an earlier one
   pub record Fresh (made : List Instr) : Type 0 where
     pub from : (j : Instr) → Contains made j → is_operator j.op ≡ true → Contains m.code j
-    pub once : (others : List Instr) (j : Instr) (run : List Instr) → made ≡ others ++ j ∷ run → (r : Reg) → Repeats others j r → ⊥
+    pub once : (others : List Instr) (j : Instr) (run : List Instr) → made ≡ others ++ j ∷ run → (r : Reg) → RepeatsEarlier others j r → ⊥
 
   module _ (made : List Instr) (fresh : Fresh made) (i : Instr) (known : Contains m.code i) where
     abbrev part : OperatorShape i → Computed
@@ -140,7 +140,7 @@ module _ (m : Mach) (formed : WellFormed m) where
         let here = fresh.from j c operates in
         let shape = operator_shape (form_of j here) operates in
         let same : is_same (event.Computes (computation shape.f shape.r j.args)) (key s) ≡ true =
-        sym (ap (λ g. does (key s) g j.args) shape.is) ∙ computes_in (part s) j e in
+        sym (ap (λ g. happens_by (key s) g j.args) shape.is) ∙ computes_in (part s) j e in
         let both = alike shape.f s.f shape.r s.r j.args i.args shape.few s.few (told j i here known) same in
         record {
           operates = operates;
@@ -151,7 +151,7 @@ module _ (m : Mach) (formed : WellFormed m) where
         }
 
     at_found : (s : OperatorShape i) (n : ℕ) → last_time made (key s) ≡ suc n → (f : Found (happens (key s)) made n) →
-        standing_at (last_time made) made (last_time made (key s)) ≡ standing (last_time made) (suc (length f.others)) f.found
+        standing_at (last_time made) made (last_time made (key s)) ≡ standing_result (last_time made) (suc (length f.others)) f.found
     at_found s n e f =
         ap (standing_at (last_time made) made) e
         ∙ ap (λ k. standing_at (last_time made) made (suc k)) (sym f.place)
@@ -164,7 +164,7 @@ module _ (m : Mach) (formed : WellFormed m) where
     -- ---- what is found is repeated
 
     found_repeats : (s : OperatorShape i) (n : ℕ) → last_time made (key s) ≡ suc n → Found (happens (key s)) made n → (r : Reg) →
-        repeated (last_time made) made i ≡ Some r → Repeats made i r
+        repeated (last_time made) made i ≡ Some r → RepeatsEarlier made i r
     found_repeats s n e f r h =
         let j = f.found in
         let x = earlier s j (in_made f.others j f.run f.within) f.holds in
@@ -178,13 +178,13 @@ module _ (m : Mach) (formed : WellFormed m) where
           same_args = x.same_args;
         }
 
-    pub found_is : is_operator i.op ≡ true → (r : Reg) → repeated (last_time made) made i ≡ Some r → Repeats made i r
+    pub found_is : is_operator i.op ≡ true → (r : Reg) → repeated (last_time made) made i ≡ Some r → RepeatsEarlier made i r
     found_is o r h = by (last_time made (key s)) refl
       where
         s : OperatorShape i
         s = operator_shape (form_of i known) o
 
-        by : (n : ℕ) → last_time made (key s) ≡ n → Repeats made i r
+        by : (n : ℕ) → last_time made (key s) ≡ n → RepeatsEarlier made i r
         by zero e = absurd (none_some (sym (ap (standing_at (last_time made) made) e) ∙ sym (by_shape s) ∙ h))
         by (suc n) e = found_repeats s n e (find (happens (key s)) made n e) r h
 
@@ -210,7 +210,7 @@ module _ (m : Mach) (formed : WellFormed m) where
           kept = λ g x c. t.kept g x (within x c);
         }
 
-    missed : (s : OperatorShape i) (r : Reg) (p : Repeats made i r) (n : ℕ) → last_time made (key s) ≡ suc n →
+    missed : (s : OperatorShape i) (r : Reg) (p : RepeatsEarlier made i r) (n : ℕ) → last_time made (key s) ≡ suc n →
         (f : Found (happens (key s)) made n) → length p.stands.others ≤ length f.others →
         repeated (last_time made) made i ≡ None → ⊥
     missed s r p n e f le h =
@@ -221,15 +221,15 @@ module _ (m : Mach) (formed : WellFormed m) where
 
         by : Places t.others p.earlier t.run f.others f.found f.run → ⊥
         by (one_place a b c) =
-            let stands_so : stands (last_time made) (suc (length t.others)) p.earlier.args r ≡ true =
+            let stands_so : repeat_stands (last_time made) (suc (length t.others)) p.earlier.args r ≡ true =
             stands_still made t.others p.earlier t.run r t.within t.operates t.straight t.operands t.stands t.kept in
-            let same : standing (last_time made) (suc (length t.others)) p.earlier ≡ Some r =
+            let same : standing_result (last_time made) (suc (length t.others)) p.earlier ≡ Some r =
             ap (λ rs. standing_first (last_time made) (suc (length t.others)) p.earlier.args (slice_get rs 0)) t.result
             ∙ ap (λ b. cond b (Some r) None) stands_so in
             some_none
             (sym same
-            ∙ ap (λ xs. standing (last_time made) (suc (length xs)) p.earlier) a
-            ∙ ap (standing (last_time made) (suc (length f.others))) b
+            ∙ ap (λ xs. standing_result (last_time made) (suc (length xs)) p.earlier) a
+            ∙ ap (standing_result (last_time made) (suc (length f.others))) b
             ∙ sym (at_found s n e f) ∙ sym (by_shape s) ∙ h)
         by (further_on mid a b) =
             let x = earlier s f.found (in_made f.others f.found f.run f.within) f.holds in
@@ -241,7 +241,7 @@ module _ (m : Mach) (formed : WellFormed m) where
               same_args = p.same_args ∙ sym x.same_args;
             }
 
-    pub none_is : repeated (last_time made) made i ≡ None → (r : Reg) → Repeats made i r → ⊥
+    pub none_is : repeated (last_time made) made i ≡ None → (r : Reg) → RepeatsEarlier made i r → ⊥
     none_is h r p = by (last_time made (key s)) refl
       where
         s : OperatorShape i
@@ -289,14 +289,14 @@ module _ (m : Mach) (formed : WellFormed m) where
         last_of j e o (same_left n h) = subst (Contains m.code) (sym h ∙ e) known
         last_of j e o (made_move n) = absurd (not_both (is_operator j.op) o (ap (λ (j : Instr). is_operator j.op) (sym e) ∙ n))
 
-        fresh_last : (r : Reg) → Fate → Repeats made (remade without_repeat made i) r → ⊥
-        fresh_last r (same_left n h) p = none_is n r (subst (λ (i : Instr). Repeats made i r) h p)
+        fresh_last : (r : Reg) → Fate → RepeatsEarlier made (remade without_repeat made i) r → ⊥
+        fresh_last r (same_left n h) p = none_is n r (subst (λ (i : Instr). RepeatsEarlier made i r) h p)
         fresh_last r (made_move n) p = not_both (is_operator (remade without_repeat made i).op) (ap is_operator (sym p.same_op) ∙ p.stands.operates) n
 
         by : (others : List Instr) (j : Instr) (run : List Instr) → made ++ remade without_repeat made i ∷ [] ≡ others ++ j ∷ run → (r : Reg) →
-            Repeats others j r → Places others j run made (remade without_repeat made i) [] → ⊥
+            RepeatsEarlier others j r → Places others j run made (remade without_repeat made i) [] → ⊥
         by others j run e r p (one_place a b c) =
-            fresh_last r fate (subst (λ code. Repeats code (remade without_repeat made i) r) a (subst (λ (j : Instr). Repeats others j r) b p))
+            fresh_last r fate (subst (λ code. RepeatsEarlier code (remade without_repeat made i) r) a (subst (λ (j : Instr). RepeatsEarlier others j r) b p))
         by others j run e r p (further_on mid a b) = fresh.once others j mid a r p
 
   fresh_none : Fresh []
@@ -346,7 +346,7 @@ module _ (m : Mach) (formed : WellFormed m) where
       plan (length next) ≡ repeated (last_time (after done)) (after done) i
   planned = step.planned without_repeat choice None m.code
 
-  made_before : (i : Instr) (next made : List Instr) → (b : IsBefore plan m i next made) → made ≡ after b.before
+  made_before : (i : Instr) (next made : List Instr) → (b : IsRepeatedBefore plan m i next made) → made ≡ after b.before
   made_before i next made b =
       step.made_before without_repeat choice None m.code put same_move b.before i next made b.whole b.made_so
 
@@ -363,11 +363,11 @@ module _ (m : Mach) (formed : WellFormed m) where
         plan = plan;
         is = e ∙ ap (λ code. record m { code = code }) (step.made_so without_repeat choice None m.code put same_move);
         moves = λ i next made b o r h.
-            subst (λ code. Repeats code i r) (sym (made_before i next made b))
+            subst (λ code. RepeatsEarlier code i r) (sym (made_before i next made b))
             (found_is (after b.before) (fresh_before b.before i next b.whole) i (of_code b.before i next b.whole) o r
             (sym (planned b.before i next b.whole) ∙ h));
         stays = λ i next made b h r p.
             none_is (after b.before) (fresh_before b.before i next b.whole) i (of_code b.before i next b.whole)
             (sym (planned b.before i next b.whole) ∙ h) r
-            (subst (λ code. Repeats code i r) (made_before i next made b) p);
+            (subst (λ code. RepeatsEarlier code i r) (made_before i next made b) p);
       }

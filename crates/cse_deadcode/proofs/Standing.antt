@@ -16,11 +16,11 @@ use Rattle.mach_ir.specs.declared.reg.Reg.{Reg}
 use Rattle.mach_ir.specs.declared.mach.Instr.{Instr}
 use Rattle.mach_ir.specs.declared.mach.MachOp.{MachOp}
 use Rattle.mach_ir.specs.declared.mach.MachOp.TheVariants as mach
-use Rattle.repeat_rules.specs.Repeated.{is_operator, allocates, Ends, itself, same_place, same_origin, StillStands}
+use Rattle.repeat_rules.specs.Repeated.{is_operator, allocates, EndsHeldValue, itself, same_place, same_origin, StillStands}
 use Rattle.cse_deadcode.specs.declared.events.Event.{Event}
 use Rattle.cse_deadcode.specs.declared.events.Event.TheVariants as event
 use Rattle.cse_deadcode.specs.Times.{writes, happens, last_time}
-use Rattle.cse_deadcode.specs.Repeats.{operands_stand, place_stands, value_stands, result_stands, stands}
+use Rattle.cse_deadcode.specs.Repeats.{operands_stand, place_stands, value_stands, result_stands, repeat_stands}
 use Rattle.cse_deadcode.proofs.Last.{AreQuiet, quiet_past, past_quiet}
 use Rattle.cse_deadcode.proofs.Noting.{number_written, written_number, origin_written, written_origin, colour_written, written_colour, slot_written, written_slot, number_write, origin_write, colour_write, slot_write, unwritten, quiet, ends_run, in_run, keeps_addrs, addrs_kept}
 use Rattle.bs_words.proofs.Truths.{not_both}
@@ -142,7 +142,7 @@ module _ (made others : List Instr) (j : Instr) (run : List Instr) (r : Reg) (wi
 
   -- what the register held at the time it still holds
   pub record Holds : Type 0 where
-    pub stands : (i : Instr) → Contains run i → (w : Reg) → Contains i.results w → Ends r w → ⊥
+    pub stands : (i : Instr) → Contains run i → (w : Reg) → Contains i.results w → EndsHeldValue r w → ⊥
     pub kept : r.comp ≡ comp.Addr → (i : Instr) → Contains run i → allocates i.op ≡ false
 
   pub still_holds : result_stands (last_time made) time r ≡ true → Holds
@@ -161,12 +161,12 @@ module _ (made others : List Instr) (j : Instr) (run : List Instr) (r : Reg) (wi
       }
     where
       by : {w : Reg} → (writes (event.Writes r.number) w ≡ true → ⊥) →
-          (writes (event.WritesOrigin r.origin) w ≡ true → ⊥) → (w.loc ≡ r.loc → r.loc ≢ loc.Unset → ⊥) → Ends r w → ⊥
+          (writes (event.WritesOrigin r.origin) w ≡ true → ⊥) → (w.loc ≡ r.loc → r.loc ≢ loc.Unset → ⊥) → EndsHeldValue r w → ⊥
       by {w = w} number origin place (itself e) = number (written_number r.number w e)
       by {w = w} number origin place (same_place e h) = place e h
       by {w = w} number origin place (same_origin e) = origin (written_origin r.origin w e)
 
-  pub holds_still : ((i : Instr) → Contains run i → (w : Reg) → Contains i.results w → Ends r w → ⊥) →
+  pub holds_still : ((i : Instr) → Contains run i → (w : Reg) → Contains i.results w → EndsHeldValue r w → ⊥) →
       (r.comp ≡ comp.Addr → (i : Instr) → Contains run i → allocates i.op ≡ false) →
       result_stands (last_time made) time r ≡ true
   holds_still kept addrs =
@@ -184,7 +184,7 @@ module _ (made others : List Instr) (j : Instr) (run : List Instr) (r : Reg) (wi
       (kept_place r.loc (λ i c w d e h. kept i c w d (same_place e h))) (kept_value r.comp addrs)))
 
   module _ (operates : is_operator j.op ≡ true) where
-    pub still_stands : j.results ≡ r ∷ [] → stands (last_time made) time j.args r ≡ true → StillStands made j r
+    pub still_stands : j.results ≡ r ∷ [] → repeat_stands (last_time made) time j.args r ≡ true → StillStands made j r
     still_stands result e =
         let p = and_parts (nat_lt (last_time made event.EndsRun) time)
         (operands_stand (last_time made) time j.args && result_stands (last_time made) time r) e in
@@ -210,9 +210,9 @@ module _ (made others : List Instr) (j : Instr) (run : List Instr) (r : Reg) (wi
     -- the same from what is known of the operator
     pub stands_still : AreStraight run →
         ((i : Instr) → Contains (j ∷ run) i → (w k : Reg) → Contains i.results w → Contains j.args k → w.number ≢ k.number) →
-        ((i : Instr) → Contains run i → (w : Reg) → Contains i.results w → Ends r w → ⊥) →
+        ((i : Instr) → Contains run i → (w : Reg) → Contains i.results w → EndsHeldValue r w → ⊥) →
         (r.comp ≡ comp.Addr → (i : Instr) → Contains run i → allocates i.op ≡ false) →
-        stands (last_time made) time j.args r ≡ true
+        repeat_stands (last_time made) time j.args r ≡ true
     stands_still straight operands kept addrs =
         and_from (nat_lt (last_time made event.EndsRun) time)
         (operands_stand (last_time made) time j.args && result_stands (last_time made) time r)

@@ -8,7 +8,7 @@ use Rattle.std.proofs.lemmas.Bool.{cases_eq, cases_lt, both_ways}
 use Rattle.dataflow.proofs.Sweeps.{table_past}
 use Rattle.cse_deadcode.proofs.Steps.{used_member}
 use Rattle.dataflow.specs.Sweep.{missing}
-use Rattle.cse_deadcode.specs.Flows.{enters, is_wanted, AreUsed, IsSound, IsClosedAt, Visited}
+use Rattle.cse_deadcode.specs.Flows.{is_used_before, is_wanted, AreUsed, AreRowsUsed, IsClosedForUse, VisitedForUse}
 
 -- the places from p on were visited
 pub record Sweeping (f : flow.Flow) (c : ℕ → Bool) (old now : List (List Bool)) (set : List Bool) (p : ℕ) (grew : Bool) : Type 0 where
@@ -16,8 +16,8 @@ pub record Sweeping (f : flow.Flow) (c : ℕ → Bool) (old now : List (List Boo
   pub len : length now ≡ length old
   pub size : length set ≡ f.bound
   pub sizes : HasSizes f.bound now
-  pub sound : IsSound (graph f) c old → IsSound (graph f) c now
-  pub same : grew ≡ false → (now ≡ old) × ((q : ℕ) → p ≤ q → q < length old → IsClosedAt (graph f) c old q)
+  pub sound : AreRowsUsed (graph f) c old → AreRowsUsed (graph f) c now
+  pub same : grew ≡ false → (now ≡ old) × ((q : ℕ) → p ≤ q → q < length old → IsClosedForUse (graph f) c old q)
   pub fewer : grew ≡ true → missing now < missing old
 
 -- the sets are sound, and closed once nothing grew
@@ -25,10 +25,10 @@ pub record Solving (f : flow.Flow) (c : ℕ → Bool) (rows : List (List Bool)) 
   pub len : length rows ≡ length (contents f.places)
   pub size : length set ≡ f.bound
   pub sizes : HasSizes f.bound rows
-  pub sound : IsSound (graph f) c rows
-  pub closed : grew ≡ false → (p : ℕ) → p < length rows → IsClosedAt (graph f) c rows p
+  pub sound : AreRowsUsed (graph f) c rows
+  pub closed : grew ≡ false → (p : ℕ) → p < length rows → IsClosedForUse (graph f) c rows p
 
-pub sweeping_more : (f : flow.Flow) (c : ℕ → Bool) (old now now' : List (List Bool)) (set set' : List Bool) (p : ℕ) (grew here : Bool) → 0 < p → grew ≡ false → Sweeping f c old now set p grew → length set' ≡ f.bound → Visited f c now now' (p - 1) here → Sweeping f c old now' set' (p - 1) here
+pub sweeping_more : (f : flow.Flow) (c : ℕ → Bool) (old now now' : List (List Bool)) (set set' : List Bool) (p : ℕ) (grew here : Bool) → 0 < p → grew ≡ false → Sweeping f c old now set p grew → length set' ≡ f.bound → VisitedForUse f c now now' (p - 1) here → Sweeping f c old now' set' (p - 1) here
 sweeping_more f c old now now' set set' p grew here some unchanged s size v = record {
   within = omega (arith, s.within, v.len);
   len = v.len ∙ s.len;
@@ -37,12 +37,12 @@ sweeping_more f c old now now' set set' p grew here some unchanged s size v = re
   sound = λ sound. v.sound (s.sound sound);
   same = λ e.
       let before = s.same unchanged in
-      let P : List (List Bool) → Type 0 = λ rows. IsClosedAt (graph f) c rows (p - 1) in (
+      let P : List (List Bool) → Type 0 = λ rows. IsClosedForUse (graph f) c rows (p - 1) in (
         (v.same e).0 ∙ before.0,
         λ q from below.
             elim (cases_eq q (p - 1)) [
               | inl at ↦
-                  let Q : ℕ → Type 0 = λ n. IsClosedAt (graph f) c old n in
+                  let Q : ℕ → Type 0 = λ n. IsClosedForUse (graph f) c old n in
                   subst Q (sym at) (subst P before.0 (v.same e).1)
               | inr other ↦ before.1 q (omega arith) below
             ],
@@ -55,15 +55,15 @@ and_false true = refl
 and_false false = refl
 
 -- no number enters a place past the last
-closed_past : (f : flow.Flow) (c : ℕ → Bool) (rows : List (List Bool)) (p : ℕ) → length (contents f.places) ≤ p → IsClosedAt (graph f) c rows p
+closed_past : (f : flow.Flow) (c : ℕ → Bool) (rows : List (List Bool)) (p : ℕ) → length (contents f.places) ≤ p → IsClosedForUse (graph f) c rows p
 closed_past f c rows p past =
     let n : (graph f).next p ≡ [] = table_past (λ y. contents y.next) (contents f.places) p past in
     let a : (graph f).aside p ≡ [] = table_past (λ y. contents y.aside) (contents f.places) p past in
     let d : (graph f).reads p ≡ [] = table_past (λ y. contents y.reads) (contents f.places) p past in
     record {
       member = λ r entered.
-          let none : enters (c p) ((graph f).next p) ((graph f).aside p) ((graph f).reads p) ((graph f).writes p) rows r ≡ false =
-          ap (λ (l : List ℕ). enters (c p) l ((graph f).aside p) ((graph f).reads p) ((graph f).writes p) rows r) n ∙ (ap (λ (l : List ℕ). enters (c p) [] l ((graph f).reads p) ((graph f).writes p) rows r) a ∙ ap (λ (l : List ℕ). enters (c p) [] [] l ((graph f).writes p) rows r) d)
+          let none : is_used_before (c p) ((graph f).next p) ((graph f).aside p) ((graph f).reads p) ((graph f).writes p) rows r ≡ false =
+          ap (λ (l : List ℕ). is_used_before (c p) l ((graph f).aside p) ((graph f).reads p) ((graph f).writes p) rows r) n ∙ (ap (λ (l : List ℕ). is_used_before (c p) [] l ((graph f).reads p) ((graph f).writes p) rows r) a ∙ ap (λ (l : List ℕ). is_used_before (c p) [] [] l ((graph f).writes p) rows r) d)
           ∙ and_false (not (c p) || is_wanted [] ((graph f).writes p) rows) in
           absurd (both_ways _ none entered);
     }

@@ -3,39 +3,39 @@ use Rattle.std.proofs.Common.{◌≡◌, ℕ, ◌+◌, ◌-◌, Bool, true, fals
 use Rattle.std.proofs.lemmas.Bool.{or_cases}
 use Rattle.std.proofs.lemmas.List.{length-append}
 use Rattle.bs_bits.specs.Set.{has}
-use Rattle.dataflow.specs.Rows.{row}
-use Rattle.mach_ir.specs.Walks.{Among, first, later}
+use Rattle.dataflow.specs.Rows.{set_in_row}
+use Rattle.mach_ir.specs.Walks.{AmongRegisters, first, later}
 use Rattle.mach_ir.specs.declared.reg.Reg.{Reg}
 use Rattle.mach_ir.specs.declared.mach.Instr.{Instr}
 use Rattle.mach_ir.specs.declared.mach.Mach.{Mach}
 use Rattle.mach_laws.specs.Expand.{expand, Ending, all, more}
-use Rattle.mach_laws.specs.Graph.{place_of}
+use Rattle.mach_laws.specs.Graph.{code_index}
 use Rattle.mach_laws.proofs.Places.{ending_next, ending_of}
 use Rattle.mach_laws.proofs.Walking.{drop_ending, place_is}
-use Rattle.dead_rules.specs.Dropped.{may_go, IsUsed, without, dropped, AreDead, IsDropped}
-use Rattle.cse_deadcode.specs.Uses.{AreUses, is_one_used, is_dead, is_first_dead, drops_by}
+use Rattle.dead_rules.specs.Dropped.{may_go, IsUsed, unless_dropped, dropped, AreDead, IsDropped}
+use Rattle.cse_deadcode.specs.Uses.{AreUses, is_one_used, is_dead_instruction, is_first_dead, drops_by}
 use Rattle.dataflow.proofs.Steps.{or_left, or_right}
 use Rattle.bs_words.proofs.Truths.{not_both}
 
 -- ---- registers that are used
 
-one_used : (rows : List (List Bool)) (p : ℕ) (rs : List Reg) (n : ℕ) → Among n rs → has (row rows p) n ≡ true →
+one_used : (rows : List (List Bool)) (p : ℕ) (rs : List Reg) (n : ℕ) → AmongRegisters n rs → has (set_in_row rows p) n ≡ true →
     is_one_used rows p rs ≡ true
 one_used rows p [] n a e = elim a [ ]
 one_used rows p (r ∷ rs) n (first h) e =
-    or_left (has (row rows p) r.number) (is_one_used rows p rs) (ap (has (row rows p)) h ∙ e)
+    or_left (has (set_in_row rows p) r.number) (is_one_used rows p rs) (ap (has (set_in_row rows p)) h ∙ e)
 one_used rows p (r ∷ rs) n (later a) e =
-    or_right (has (row rows p) r.number) (is_one_used rows p rs) (one_used rows p rs n a e)
+    or_right (has (set_in_row rows p) r.number) (is_one_used rows p rs) (one_used rows p rs n a e)
 
 record UsedOne (rows : List (List Bool)) (p : ℕ) (rs : List Reg) : Type 0 where
   number : ℕ
-  among : Among number rs
-  used : has (row rows p) number ≡ true
+  among : AmongRegisters number rs
+  used : has (set_in_row rows p) number ≡ true
 
 some_used : (rows : List (List Bool)) (p : ℕ) (rs : List Reg) → is_one_used rows p rs ≡ true → UsedOne rows p rs
 some_used rows p [] e = absurd (not_both false e refl)
 some_used rows p (r ∷ rs) e =
-    elim (or_cases (has (row rows p) r.number) (is_one_used rows p rs) e) [
+    elim (or_cases (has (set_in_row rows p) r.number) (is_one_used rows p rs) e) [
       | inl h ↦ record { number = r.number; among = first refl; used = h }
       | inr h ↦ let w = some_used rows p rs h in record { number = w.number; among = later w.among; used = w.used }
     ]
@@ -44,7 +44,7 @@ some_used rows p (r ∷ rs) e =
 
 -- what is said of an instruction is said by its place
 dead_at : (rows : List (List Bool)) (code : List Instr) (i : Instr) (next : List Instr) → Ending (i ∷ next) code →
-    drops_by rows code (length next) ≡ is_dead rows (length code - length next) i
+    drops_by rows code (length next) ≡ is_dead_instruction rows (length code - length next) i
 dead_at rows code i next e = ap (is_first_dead rows (length code - length next)) (drop_ending e)
 
 other_false : (g b : Bool) → g ≡ true → g && not b ≡ true → b ≡ false
@@ -61,25 +61,25 @@ module _ (m : Mach) (rows : List (List Bool)) (uses : AreUses m rows) where
   abbrev drops : ℕ → Bool
   drops = drops_by rows m.code
 
-  used_at : {next : List Instr} (n : ℕ) → Ending next m.code → IsUsed m n next → has (row rows (place_of m next)) n ≡ true
-  used_at {next} n e u = (uses.exact (place_of m next) n).1 (subst (IsUsed m n) (sym (place_is m e)) u)
+  used_at : {next : List Instr} (n : ℕ) → Ending next m.code → IsUsed m n next → has (set_in_row rows (code_index m next)) n ≡ true
+  used_at {next} n e u = (uses.exact (code_index m next) n).1 (subst (IsUsed m n) (sym (place_is m e)) u)
 
-  used_by : {next : List Instr} (n : ℕ) → Ending next m.code → has (row rows (place_of m next)) n ≡ true → IsUsed m n next
-  used_by {next} n e h = subst (IsUsed m n) (place_is m e) ((uses.exact (place_of m next) n).0 h)
+  used_by : {next : List Instr} (n : ℕ) → Ending next m.code → has (set_in_row rows (code_index m next)) n ≡ true → IsUsed m n next
+  used_by {next} n e h = subst (IsUsed m n) (place_is m e) ((uses.exact (code_index m next) n).0 h)
 
   pub are_dead : AreDead m (drops_by rows m.code)
   are_dead =
       record {
         dead = λ i next s g d it.
             let e = ending_of s in
-            not_both (is_one_used rows (place_of m next) i.results)
-            (one_used rows (place_of m next) i.results it.number it.among (used_at it.number (ending_next e) it.used))
-            (other_false (may_go i.op) (is_one_used rows (place_of m next) i.results) g (sym (dead_at rows m.code i next e) ∙ d));
+            not_both (is_one_used rows (code_index m next) i.results)
+            (one_used rows (code_index m next) i.results it.number it.among (used_at it.number (ending_next e) it.used))
+            (other_false (may_go i.op) (is_one_used rows (code_index m next) i.results) g (sym (dead_at rows m.code i next e) ∙ d));
         wanted = λ i next s g d.
             let e = ending_of s in
             let w =
-            some_used rows (place_of m next) i.results
-            (not_none (may_go i.op) (is_one_used rows (place_of m next) i.results) g (sym (dead_at rows m.code i next e) ∙ d)) in
+            some_used rows (code_index m next) i.results
+            (not_none (may_go i.op) (is_one_used rows (code_index m next) i.results) g (sym (dead_at rows m.code i next e) ∙ d)) in
             record { number = w.number; among = w.among; used = used_by w.number (ending_next e) w.used };
       }
 
@@ -92,7 +92,7 @@ is_dropped m q rows uses e = record { drops = drops_by rows m.code; dead = are_d
 pub record Dropping (rows : List (List Bool)) (code items left : List Instr) : Type 0 where
   pub done : List Instr
   pub whole : items ++ done ≡ code
-  pub left_so : left ≡ expand (without (drops_by rows code)) done
+  pub left_so : left ≡ expand (unless_dropped (drops_by rows code)) done
 
 ending_past : (xs ys : List Instr) → Ending ys (xs ++ ys)
 ending_past [] ys = all
@@ -103,7 +103,7 @@ again_and true b = refl
 again_and false b = refl
 
 pub dropping_more : (rows : List (List Bool)) (code items rest left new : List Instr) (i : Instr) (after : ℕ) → items ≡ rest ++ i ∷ [] →
-    after ≡ length rest + 1 → new ≡ cond (is_dead rows after i) [] (i ∷ []) ++ left → Dropping rows code items left →
+    after ≡ length rest + 1 → new ≡ cond (is_dead_instruction rows after i) [] (i ∷ []) ++ left → Dropping rows code items left →
     Dropping rows code rest new
 dropping_more rows code items rest left new i after popped here e r =
     record {
@@ -111,7 +111,7 @@ dropping_more rows code items rest left new i after popped here e r =
       whole = whole;
       left_so = e
           ∙ ap (λ b. cond b [] (i ∷ []) ++ left) (sym same)
-          ∙ ap (λ xs. without (drops_by rows code) (length r.done) i ++ xs) r.left_so;
+          ∙ ap (λ xs. unless_dropped (drops_by rows code) (length r.done) i ++ xs) r.left_so;
     }
   where
     whole : rest ++ i ∷ r.done ≡ code
@@ -125,7 +125,7 @@ dropping_more rows code items rest left new i after popped here e r =
         let count : length rest + length (i ∷ r.done) ≡ length code = sym (length-append rest (i ∷ r.done)) ∙ ap length whole in
         omega (arith, count, here)
 
-    same : may_go i.op && drops_by rows code (length r.done) ≡ is_dead rows after i
+    same : may_go i.op && drops_by rows code (length r.done) ≡ is_dead_instruction rows after i
     same =
-        ap (λ b. may_go i.op && b) (dead_at rows code i r.done ending ∙ ap (λ k. is_dead rows k i) place)
+        ap (λ b. may_go i.op && b) (dead_at rows code i r.done ending ∙ ap (λ k. is_dead_instruction rows k i) place)
         ∙ again_and (may_go i.op) (not (is_one_used rows after i.results))

@@ -11,20 +11,20 @@ use Rattle.bs_bits.proofs.Sets.{length-union, has-union, union_cases, grew_not}
 use Rattle.dataflow.specs.declared.flow.Place as place
 use Rattle.dataflow.specs.declared.flow.Flow as flow
 use Rattle.dataflow.specs.Flow.{graph}
-use Rattle.dataflow.specs.Rows.{row, HasSizes}
+use Rattle.dataflow.specs.Rows.{set_in_row, HasSizes}
 use Rattle.dataflow.specs.Sweep.{absent, missing}
-use Rattle.cse_deadcode.specs.Flows.{UsedBefore, enters, enters_place, IsSound, IsClosedAt, Visited}
+use Rattle.cse_deadcode.specs.Flows.{UsedBefore, is_used_before, is_used_before_place, AreRowsUsed, IsClosedForUse, VisitedForUse}
 use Rattle.dataflow.proofs.Steps.{or_right}
 use Rattle.dataflow.proofs.Visits.{table_at, absent_less}
 use Rattle.cse_deadcode.proofs.Steps.{enters_used}
 
-pub enters_at : (f : flow.Flow) (c : ℕ → Bool) (rows : List (List Bool)) (p : ℕ) (x : place.Place) (r : ℕ) → p < length (contents f.places) → x ≡ get_or (contents f.places) p x → enters (c p) ((graph f).next p) ((graph f).aside p) ((graph f).reads p) ((graph f).writes p) rows r ≡ enters_place (c p) x rows r
+pub enters_at : (f : flow.Flow) (c : ℕ → Bool) (rows : List (List Bool)) (p : ℕ) (x : place.Place) (r : ℕ) → p < length (contents f.places) → x ≡ get_or (contents f.places) p x → is_used_before (c p) ((graph f).next p) ((graph f).aside p) ((graph f).reads p) ((graph f).writes p) rows r ≡ is_used_before_place (c p) x rows r
 enters_at f c rows p x r within read =
     let n : (graph f).next p ≡ contents x.next = table_at (λ y. contents y.next) (contents f.places) p x within read in
     let a : (graph f).aside p ≡ contents x.aside = table_at (λ y. contents y.aside) (contents f.places) p x within read in
     let d : (graph f).reads p ≡ contents x.reads = table_at (λ y. contents y.reads) (contents f.places) p x within read in
     let w : (graph f).writes p ≡ contents x.writes = table_at (λ y. contents y.writes) (contents f.places) p x within read in
-    ap (λ (l : List ℕ). enters (c p) l ((graph f).aside p) ((graph f).reads p) ((graph f).writes p) rows r) n ∙ (ap (λ (l : List ℕ). enters (c p) (contents x.next) l ((graph f).reads p) ((graph f).writes p) rows r) a ∙ (ap (λ (l : List ℕ). enters (c p) (contents x.next) (contents x.aside) l ((graph f).writes p) rows r) d ∙ ap (λ (l : List ℕ). enters (c p) (contents x.next) (contents x.aside) (contents x.reads) l rows r) w))
+    ap (λ (l : List ℕ). is_used_before (c p) l ((graph f).aside p) ((graph f).reads p) ((graph f).writes p) rows r) n ∙ (ap (λ (l : List ℕ). is_used_before (c p) (contents x.next) l ((graph f).reads p) ((graph f).writes p) rows r) a ∙ (ap (λ (l : List ℕ). is_used_before (c p) (contents x.next) (contents x.aside) l ((graph f).writes p) rows r) d ∙ ap (λ (l : List ℕ). is_used_before (c p) (contents x.next) (contents x.aside) (contents x.reads) l rows r) w))
 
 -- ---- a visit
 
@@ -34,12 +34,12 @@ pub record Visit (f : flow.Flow) (c : ℕ → Bool) (rows : List (List Bool)) (p
   pub within : p < length rows
   pub sizes : HasSizes f.bound rows
   pub size : length set ≡ f.bound
-  pub members : (r : ℕ) → has set r ≡ enters (c p) ((graph f).next p) ((graph f).aside p) ((graph f).reads p) ((graph f).writes p) rows r
+  pub members : (r : ℕ) → has set r ≡ is_used_before (c p) ((graph f).next p) ((graph f).aside p) ((graph f).reads p) ((graph f).writes p) rows r
   pub read : here ≡ get_or rows p here
   pub all : here' ≡ union here set
   pub grew_is : (grew ≡ true → Grew here here') × (Grew here here' → grew ≡ true)
 
-here_row : (f : flow.Flow) (c : ℕ → Bool) (rows : List (List Bool)) (p : ℕ) (set here here' : List Bool) (grew : Bool) → Visit f c rows p set here here' grew → here ≡ row rows p
+here_row : (f : flow.Flow) (c : ℕ → Bool) (rows : List (List Bool)) (p : ℕ) (set here here' : List Bool) (grew : Bool) → Visit f c rows p set here here' grew → here ≡ set_in_row rows p
 here_row f c rows p set here here' grew v = v.read ∙ get_or_default rows p here [] v.within
 
 here_size : (f : flow.Flow) (c : ℕ → Bool) (rows : List (List Bool)) (p : ℕ) (set here here' : List Bool) (grew : Bool) → Visit f c rows p set here here' grew → length here ≡ f.bound
@@ -51,12 +51,12 @@ has_here : (f : flow.Flow) (c : ℕ → Bool) (rows : List (List Bool)) (p : ℕ
 has_here f c rows p set here here' grew v r =
     ap (λ (m : List Bool). has m r) v.all ∙ has-union here set (here_size f c rows p set here here' grew v ∙ sym v.size) r
 
-visit_sound : (f : flow.Flow) (c : ℕ → Bool) (rows : List (List Bool)) (p : ℕ) (set here here' : List Bool) (grew : Bool) → Visit f c rows p set here here' grew → IsSound (graph f) c rows → IsSound (graph f) c (Seq.set rows p here')
+visit_sound : (f : flow.Flow) (c : ℕ → Bool) (rows : List (List Bool)) (p : ℕ) (set here here' : List Bool) (grew : Bool) → Visit f c rows p set here here' grew → AreRowsUsed (graph f) c rows → AreRowsUsed (graph f) c (Seq.set rows p here')
 visit_sound f c rows p set here here' grew v sound = record {
   used = λ q r is.
       elim (cases_eq q p) [
         | inl at ↦
-            let new : has here' r ≡ true = sym (ap (λ (n : ℕ). has (row (Seq.set rows p here') n) r) at ∙ ap (λ (m : List Bool). has m r) (get_or-set_same rows p here' [] v.within)) ∙ is in
+            let new : has here' r ≡ true = sym (ap (λ (n : ℕ). has (set_in_row (Seq.set rows p here') n) r) at ∙ ap (λ (m : List Bool). has m r) (get_or-set_same rows p here' [] v.within)) ∙ is in
             let P : ℕ → Type 0 = λ n. UsedBefore (graph f) c n r in
             subst
             P
@@ -69,7 +69,7 @@ visit_sound f c rows p set here here' grew v sound = record {
       ];
 }
 
-visit_same : (f : flow.Flow) (c : ℕ → Bool) (rows : List (List Bool)) (p : ℕ) (set here here' : List Bool) (grew : Bool) → Visit f c rows p set here here' grew → grew ≡ false → (Seq.set rows p here' ≡ rows) × IsClosedAt (graph f) c rows p
+visit_same : (f : flow.Flow) (c : ℕ → Bool) (rows : List (List Bool)) (p : ℕ) (set here here' : List Bool) (grew : Bool) → Visit f c rows p set here here' grew → grew ≡ false → (Seq.set rows p here' ≡ rows) × IsClosedForUse (graph f) c rows p
 visit_same f c rows p set here here' grew v unchanged =
     let same : here' ≡ here = elim (union_cases here set) [
       | inl e ↦ v.all ∙ e
@@ -94,7 +94,7 @@ visit_fewer f c rows p set here here' grew v grown =
     let e : absent (get_or rows p here) ≡ absent here = ap absent (sym v.read) in
     omega (arith, sum_by-set absent rows p here' here v.within, e, less)
 
-pub visited : (f : flow.Flow) (c : ℕ → Bool) (rows : List (List Bool)) (p : ℕ) (set here here' : List Bool) (grew : Bool) → Visit f c rows p set here here' grew → Visited f c rows (Seq.set rows p here') p grew
+pub visited : (f : flow.Flow) (c : ℕ → Bool) (rows : List (List Bool)) (p : ℕ) (set here here' : List Bool) (grew : Bool) → Visit f c rows p set here here' grew → VisitedForUse f c rows (Seq.set rows p here') p grew
 visited f c rows p set here here' grew v = record {
   len = length-set rows p here';
   sizes = let P : List Bool → Type 0 = λ s. length s ≡ f.bound in All-set P rows p here' (ap length v.all ∙ (length-union here set ∙ here_size f c rows p set here here' grew v)) v.sizes;
@@ -106,9 +106,9 @@ visited f c rows p set here here' grew v = record {
 -- what a call of `flow_back` reported of the set
 pub back_members : (f : flow.Flow) (c : ℕ → Bool) (rows lent : List (List Bool)) (p : ℕ) (x : place.Place) (set : List Bool) (b : Bool) →
     p < length (contents f.places) → x ≡ get_or (contents f.places) p x → lent ≡ rows → b ≡ c p →
-    ((r : ℕ) → has set r ≡ enters_place b x lent r) →
-    (r : ℕ) → has set r ≡ enters (c p) ((graph f).next p) ((graph f).aside p) ((graph f).reads p) ((graph f).writes p) rows r
+    ((r : ℕ) → has set r ≡ is_used_before_place b x lent r) →
+    (r : ℕ) → has set r ≡ is_used_before (c p) ((graph f).next p) ((graph f).aside p) ((graph f).reads p) ((graph f).writes p) rows r
 back_members f c rows lent p x set b within read e h members r =
     members r
-    ∙ (ap (λ (t : Bool). enters_place t x lent r) h
-    ∙ (ap (λ (rs : List (List Bool)). enters_place (c p) x rs r) e ∙ sym (enters_at f c rows p x r within read)))
+    ∙ (ap (λ (t : Bool). is_used_before_place t x lent r) h
+    ∙ (ap (λ (rs : List (List Bool)). is_used_before_place (c p) x rs r) e ∙ sym (enters_at f c rows p x r within read)))

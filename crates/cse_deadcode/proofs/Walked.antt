@@ -3,11 +3,11 @@ use Rattle.std.proofs.Common.{◌≡◌, ℕ, zero, suc, Bool, true, ⊎_elim, L
 use Rattle.std.specs.List.{Contains}
 use Rattle.dataflow.specs.Flow.{graph}
 use Rattle.dataflow.specs.declared.flow.Flow as flow
-use Rattle.mach_ir.specs.Meaning.{code_at, from_handler, tries_at, killed, written}
-use Rattle.mach_ir.specs.Walks.{Among, targets, may_raise, goes, raises}
+use Rattle.mach_ir.specs.Meaning.{code_at, from_handler, tries_at, killed, registers_written}
+use Rattle.mach_ir.specs.Walks.{AmongRegisters, targets, may_raise, goes, raises}
 use Rattle.mach_ir.specs.declared.mach.Instr.{Instr}
 use Rattle.mach_ir.specs.declared.mach.Mach.{Mach}
-use Rattle.mach_laws.specs.Graph.{place_of, next_places, raise_places, numbers_read, numbers_written, IsFlowOf}
+use Rattle.mach_laws.specs.Graph.{code_index, next_places, raise_places, numbers_read, numbers_written, IsFlowOf}
 use Rattle.mach_laws.proofs.Places.{ending_next, ending_from_handler}
 use Rattle.mach_laws.proofs.Walking.{among_numbers, in_numbers, ending_at, place_is, place_at, ending_place, target_of, in_targets, handler_of, in_handlers}
 use Rattle.mach_laws.proofs.Among.{none_among, left_among, split_among}
@@ -28,10 +28,10 @@ at_place (x ∷ xs) (suc p) i next e = at_place xs p i next e
 
 module _ (m : Mach) where
   -- what may go writes its results alone
-  result_of : (i : Instr) (n : ℕ) → may_go i.op ≡ true → Among n (written m i) → Among n i.results
+  result_of : (i : Instr) (n : ℕ) → may_go i.op ≡ true → AmongRegisters n (registers_written m i) → AmongRegisters n i.results
   result_of i n e a =
       ⊎_elim (λ r. r)
-      (λ k. none_among (subst (Among n) (pure_kills m.colours i.results (pure_of i.op e)) k))
+      (λ k. none_among (subst (AmongRegisters n) (pure_kills m.colours i.results (pure_of i.op e)) k))
       (split_among n i.results (killed m i) a)
 
   module _ (f : flow.Flow) (is : IsFlowOf m f) where
@@ -61,7 +61,7 @@ module _ (m : Mach) where
         let g = sym (at_place m.code p i next d) ∙ e in
         let t = target_of m next (targets i.op) q (subst (λ xs. Contains xs q) (next_at p d) n) in
         dropped.read_for g (among_numbers r i.args (subst (λ xs. Contains xs r) (reads_at p d) c))
-        (result_of i k g (among_numbers k (written m i) (subst (λ xs. Contains xs k) (writes_at p d) w)))
+        (result_of i k g (among_numbers k (registers_written m i) (subst (λ xs. Contains xs k) (writes_at p d) w)))
         (subst (λ t. IsUsed m k (code_at m.code next t)) (pure_only (pure_of i.op g) t.1)
         (to_used u (code_at m.code next t.0) (place_at m (ending_at t.0 (ending_place m p d)) t.2)))
     to_used {r = r} (flows.on {p = p} {q = q} free n u) [] d =
@@ -81,18 +81,18 @@ module _ (m : Mach) where
     from_used {r} (dropped.read {i = i} {next = next} e a) p d =
         flows.read (at_place m.code p i next d ∙ e) (subst (λ xs. Contains xs r) (sym (reads_at p d)) (in_numbers a))
     from_used {r} (dropped.read_for {k = k} {i = i} {next = next} e a w u) p d =
-        let to = place_of m next in
+        let to = code_index m next in
         flows.read_for (at_place m.code p i next d ∙ e) (subst (λ xs. Contains xs r) (sym (reads_at p d)) (in_numbers a))
         (subst (λ xs. Contains xs k) (sym (writes_at p d)) (in_numbers (left_among i.results (killed m i) w)))
         (subst (λ xs. Contains xs to) (sym (next_at p d)) (in_targets m next (pure_on (pure_of i.op e))))
         (from_used u to (place_is m (ending_next (ending_place m p d))))
     from_used {r} (dropped.on {i = i} {next = next} free (goes t o) u) p d =
-        let to = place_of m (code_at m.code next t) in
-        flows.on (λ c. free (among_numbers r (written m i) (subst (λ xs. Contains xs r) (writes_at p d) c)))
+        let to = code_index m (code_at m.code next t) in
+        flows.on (λ c. free (among_numbers r (registers_written m i) (subst (λ xs. Contains xs r) (writes_at p d) c)))
         (subst (λ xs. Contains xs to) (sym (next_at p d)) (in_targets m next o))
         (from_used u to (place_is m (ending_at t (ending_place m p d))))
     from_used {r} (dropped.aside {i = i} {next = next} (raises {l = l} {tries = tries} b h) u) p d =
-        let to = place_of m (from_handler l m.code) in
+        let to = code_index m (from_handler l m.code) in
         flows.aside
         (subst (λ xs. Contains xs to) (sym (aside_at p d)) (in_handlers m (may_raise i.op) (tries_at (i ∷ next)) l tries b h))
         (from_used u to (place_is m (ending_from_handler l m.code)))

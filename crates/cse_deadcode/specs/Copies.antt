@@ -11,7 +11,7 @@ use Rattle.cse_deadcode.specs.declared.events.Event.TheVariants as event
 use Rattle.cse_deadcode.specs.Made.{Making}
 use Rattle.cse_deadcode.specs.Repeats.{result_stands}
 use Rattle.cse_deadcode.specs.Times.{Clock}
-use Rattle.mach_ir.specs.Places.{is_open, same_comp}
+use Rattle.mach_ir.specs.Places.{is_unset_location, same_comp}
 
 abbrev pub is_move : MachOp → Bool
 is_move (mach.Op (op.Pure (pure.Copy copy.Move))) = true
@@ -26,15 +26,15 @@ is_move (mach.Op (op.Leaving f)) = false
 is_move (mach.Mark f) = false
 
 -- whether a register is still a copy of the source of the move of the time, which wrote it last
-abbrev pub is_copy : Clock → ℕ → Reg → Reg → Bool
-is_copy at time source r =
+abbrev pub is_still_copy : Clock → ℕ → Reg → Reg → Bool
+is_still_copy at time source r =
     same_comp source.comp r.comp
-    && (is_open source.loc && (is_open r.loc
+    && (is_unset_location source.loc && (is_unset_location r.loc
     && (nat_le (at event.EndsRun) time && result_stands at time source)))
 
 abbrev pub source_first : Clock → ℕ → Option Reg → Reg → Reg
 source_first at time None r = r
-source_first at time (Some source) r = cond (is_copy at time source r) source r
+source_first at time (Some source) r = cond (is_still_copy at time source r) source r
 
 -- what is read in place of a register that the instruction of the time wrote last
 abbrev pub source_by : Clock → ℕ → Instr → Reg → Reg
@@ -57,5 +57,5 @@ abbrev pub read_by : (Reg → Reg) → Instr → Instr
 read_by read i = record i { args = map read i.args }
 
 -- an instruction, its operands read from what they are copies of
-abbrev pub with_sources : Making
-with_sources at made i = read_by (source_of at made) i
+abbrev pub read_from_sources : Making
+read_from_sources at made i = read_by (source_of at made) i

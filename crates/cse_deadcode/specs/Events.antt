@@ -38,16 +38,16 @@ rank_of_operator operator.AddA = 13
 rank_of_operator (operator.Cmp f) = 14 + rank_of_comparison f
 rank_of_operator (operator.CmpU f) = 20 + rank_of_comparison f
 
-abbrev pub constant_of : Right → Option ℕ
-constant_of right.Register = None
-constant_of (right.Constant w) = Some w
+abbrev pub constant_of_right : Right → Option ℕ
+constant_of_right right.Register = None
+constant_of_right (right.Constant w) = Some w
 
 -- what an operator computes from operands
 abbrev pub computation : IntOp → Right → List Reg → Computed
 computation f r args =
     record {
       operator = record { operator = f };
-      constant = constant_of r;
+      constant = constant_of_right r;
       left = option_map (λ (k : Reg). k.number) (slice_get args 0);
       right = option_map (λ (k : Reg). k.number) (slice_get args 1);
     }

@@ -6,7 +6,7 @@ use Rattle.bs_bits.specs.Set.{has}
 use Rattle.dataflow.specs.declared.flow.Place as place
 use Rattle.dataflow.specs.declared.flow.Flow as flow
 use Rattle.dataflow.specs.Flow.{Graph, graph}
-use Rattle.dataflow.specs.Rows.{row, HasSizes}
+use Rattle.dataflow.specs.Rows.{set_in_row, HasSizes}
 use Rattle.dataflow.specs.Sweep.{missing}
 
 -- Some walk from a place uses a number before it writes it. A place that only computes uses what it
@@ -23,52 +23,52 @@ pub data UsedBefore (g : Graph) (computes : ℕ → Bool) : ℕ → ℕ → Type
 
 -- the sets say exactly what is used before each place
 pub record AreUsed (f : flow.Flow) (computes : ℕ → Bool) (rows : List (List Bool)) : Type 0 where
-  pub exact : (p r : ℕ) → (has (row rows p) r ≡ true) ↔ UsedBefore (graph f) computes p r
+  pub exact : (p r : ℕ) → (has (set_in_row rows p) r ≡ true) ↔ UsedBefore (graph f) computes p r
 
 -- ---- one visit
 
 -- whether a number that is written is in the set of a next place
 abbrev pub is_wanted : List ℕ → List ℕ → List (List Bool) → Bool
-is_wanted next writes rows = list_any (λ k. list_any (λ q. has (row rows q) k) next) writes
+is_wanted next writes rows = list_any (λ k. list_any (λ q. has (set_in_row rows q) k) next) writes
 
 -- whether r is used before a place, as far as the rows say what is used before the next ones
-abbrev pub enters : Bool → List ℕ → List ℕ → List ℕ → List ℕ → List (List Bool) → ℕ → Bool
-enters computes next past reads writes rows r =
-    ((list_any (λ q. has (row rows q) r) next && not (list_any (λ k. k == r) writes))
-    || list_any (λ q. has (row rows q) r) past)
+abbrev pub is_used_before : Bool → List ℕ → List ℕ → List ℕ → List ℕ → List (List Bool) → ℕ → Bool
+is_used_before computes next past reads writes rows r =
+    ((list_any (λ q. has (set_in_row rows q) r) next && not (list_any (λ k. k == r) writes))
+    || list_any (λ q. has (set_in_row rows q) r) past)
     || ((not computes || is_wanted next writes rows) && list_any (λ k. k == r) reads)
 
-abbrev pub enters_place : Bool → place.Place → List (List Bool) → ℕ → Bool
-enters_place computes x rows r =
-    enters computes (contents x.next) (contents x.aside) (contents x.reads) (contents x.writes) rows
+abbrev pub is_used_before_place : Bool → place.Place → List (List Bool) → ℕ → Bool
+is_used_before_place computes x rows r =
+    is_used_before computes (contents x.next) (contents x.aside) (contents x.reads) (contents x.writes) rows
     r
 
 -- each member is used
-pub record IsSound (g : Graph) (computes : ℕ → Bool) (rows : List (List Bool)) : Type 0 where
-  pub used : (p r : ℕ) → has (row rows p) r ≡ true → UsedBefore g computes p r
+pub record AreRowsUsed (g : Graph) (computes : ℕ → Bool) (rows : List (List Bool)) : Type 0 where
+  pub used : (p r : ℕ) → has (set_in_row rows p) r ≡ true → UsedBefore g computes p r
 
 -- what enters place p is a member
-pub record IsClosedAt (g : Graph) (computes : ℕ → Bool) (rows : List (List Bool)) (p : ℕ) :
+pub record IsClosedForUse (g : Graph) (computes : ℕ → Bool) (rows : List (List Bool)) (p : ℕ) :
     Type 0 where
   pub member : (r : ℕ) →
-      enters (computes p) (g.next p) (g.aside p) (g.reads p) (g.writes p) rows r ≡ true →
-      has (row rows p) r ≡ true
+      is_used_before (computes p) (g.next p) (g.aside p) (g.reads p) (g.writes p) rows r ≡ true →
+      has (set_in_row rows p) r ≡ true
 
 -- a visit of place p
-pub record Visited (f : flow.Flow) (computes : ℕ → Bool) (old new : List (List Bool)) (p : ℕ)
+pub record VisitedForUse (f : flow.Flow) (computes : ℕ → Bool) (old new : List (List Bool)) (p : ℕ)
     (grew : Bool) : Type 0 where
   pub len : length new ≡ length old
   pub sizes : HasSizes f.bound new
-  pub sound : IsSound (graph f) computes old → IsSound (graph f) computes new
-  pub same : grew ≡ false → (new ≡ old) × IsClosedAt (graph f) computes old p
+  pub sound : AreRowsUsed (graph f) computes old → AreRowsUsed (graph f) computes new
+  pub same : grew ≡ false → (new ≡ old) × IsClosedForUse (graph f) computes old p
   pub fewer : grew ≡ true → missing new < missing old
 
 -- a sweep over all places
-pub record Swept (f : flow.Flow) (computes : ℕ → Bool) (old new : List (List Bool))
+pub record SweptForUse (f : flow.Flow) (computes : ℕ → Bool) (old new : List (List Bool))
     (grew : Bool) : Type 0 where
   pub len : length new ≡ length old
   pub sizes : HasSizes f.bound new
-  pub sound : IsSound (graph f) computes old → IsSound (graph f) computes new
+  pub sound : AreRowsUsed (graph f) computes old → AreRowsUsed (graph f) computes new
   pub same : grew ≡ false →
-      (new ≡ old) × ((p : ℕ) → p < length old → IsClosedAt (graph f) computes old p)
+      (new ≡ old) × ((p : ℕ) → p < length old → IsClosedForUse (graph f) computes old p)
   pub fewer : grew ≡ true → missing new < missing old

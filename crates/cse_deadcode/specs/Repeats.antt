@@ -41,21 +41,21 @@ result_stands at time r =
     && (nat_le (at (event.WritesOrigin r.origin)) time
     && (place_stands at time r.loc && value_stands at time r.comp))
 
-abbrev pub stands : Clock → ℕ → List Reg → Reg → Bool
-stands at time args r =
+abbrev pub repeat_stands : Clock → ℕ → List Reg → Reg → Bool
+repeat_stands at time args r =
     nat_lt (at event.EndsRun) time && (operands_stand at time args && result_stands at time r)
 
 abbrev pub standing_first : Clock → ℕ → List Reg → Option Reg → Option Reg
 standing_first at time args None = None
-standing_first at time args (Some r) = cond (stands at time args r) (Some r) None
+standing_first at time args (Some r) = cond (repeat_stands at time args r) (Some r) None
 
 -- the result of an earlier operator of the time, if it and the operands still hold what they held then
-abbrev pub standing : Clock → ℕ → Instr → Option Reg
-standing at time j = standing_first at time j.args (slice_get j.results 0)
+abbrev pub standing_result : Clock → ℕ → Instr → Option Reg
+standing_result at time j = standing_first at time j.args (slice_get j.results 0)
 
 abbrev pub standing_found : Clock → ℕ → Option Instr → Option Reg
 standing_found at time None = None
-standing_found at time (Some j) = standing at time j
+standing_found at time (Some j) = standing_result at time j
 
 abbrev pub standing_at : Clock → List Instr → ℕ → Option Reg
 standing_at at made zero = None

@@ -36,29 +36,29 @@ writes e r =
     is_same (event.Writes r.number) e || (is_same (event.WritesOrigin r.origin) e || writes_place e r.loc)
 
 -- what an operation does beside its writes, if it counts
-abbrev pub event_of : MachOp → List Reg → Option Event
-event_of (mach.Op (op.Pure (pure.Operator f r))) args = Some (event.Computes (computation f r args))
-event_of (mach.Op (op.Pure (pure.Copy kind))) args = None
-event_of (mach.Op (op.Pure (pure.Constant w))) args = None
-event_of (mach.Op (op.Pure (pure.Symbol name))) args = None
-event_of (mach.Op (op.Access (access.Alloc blocks))) args = Some event.Allocates
-event_of (mach.Op (op.Access (access.Load chunk offset))) args = None
-event_of (mach.Op (op.Access (access.Store chunk offset))) args = None
-event_of (mach.Op (op.Calling f)) args = Some event.EndsRun
-event_of (mach.Op (op.Leaving f)) args = Some event.EndsRun
-event_of (mach.Mark f) args = Some event.EndsRun
+abbrev pub operation_event : MachOp → List Reg → Option Event
+operation_event (mach.Op (op.Pure (pure.Operator f r))) args = Some (event.Computes (computation f r args))
+operation_event (mach.Op (op.Pure (pure.Copy kind))) args = None
+operation_event (mach.Op (op.Pure (pure.Constant w))) args = None
+operation_event (mach.Op (op.Pure (pure.Symbol name))) args = None
+operation_event (mach.Op (op.Access (access.Alloc blocks))) args = Some event.Allocates
+operation_event (mach.Op (op.Access (access.Load chunk offset))) args = None
+operation_event (mach.Op (op.Access (access.Store chunk offset))) args = None
+operation_event (mach.Op (op.Calling f)) args = Some event.EndsRun
+operation_event (mach.Op (op.Leaving f)) args = Some event.EndsRun
+operation_event (mach.Mark f) args = Some event.EndsRun
 
 abbrev pub is_event : Option Event → Event → Bool
 is_event None e = false
 is_event (Some f) e = is_same f e
 
 -- whether it happens by the operation
-abbrev pub does : Event → MachOp → List Reg → Bool
-does e f args = is_event (event_of f args) e
+abbrev pub happens_by : Event → MachOp → List Reg → Bool
+happens_by e f args = is_event (operation_event f args) e
 
 -- whether it happens in an instruction
 abbrev pub happens : Event → Instr → Bool
-happens e i = list_any (writes e) i.results || does e i.op i.args
+happens e i = list_any (writes e) i.results || happens_by e i.op i.args
 
 -- the time of the last of each event
 abbrev pub Clock : Type 0

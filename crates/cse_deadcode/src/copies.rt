@@ -4,8 +4,8 @@ ghost use Rattle.mach_ir.specs.Formed.{WellFormed};
 ghost use Rattle.copy_rules.specs.Propagated.{IsPropagated};
 ghost use Rattle.cse_deadcode.specs.Made.{made_by};
 ghost use Rattle.cse_deadcode.specs.Times.{time_in};
-ghost use Rattle.cse_deadcode.specs.Copies.{is_move, is_copy, source_by, source_at, source_of};
-ghost use Rattle.cse_deadcode.specs.Copies.{read_by, with_sources};
+ghost use Rattle.cse_deadcode.specs.Copies.{is_move, is_still_copy, source_by, source_at, source_of};
+ghost use Rattle.cse_deadcode.specs.Copies.{read_by, read_from_sources};
 
 use crate::events::Event;
 use crate::repeats::result_stands;
@@ -34,7 +34,7 @@ fn is_move(op: &MachOp) -> bool
 
 /// Whether the register, which a move from the source wrote last, at the time, is still its copy.
 fn is_copy(times: &Times, time: usize, source: &Reg, reg: &Reg) -> bool
-    ensures { result ≡ is_copy (time_in times.now) time source.now reg.now }
+    ensures { result ≡ is_still_copy (time_in times.now) time source.now reg.now }
 {
     same_comp(source.comp, reg.comp)
         && (source.is_open()
@@ -104,7 +104,7 @@ fn read_sources(times: &Times, made: &[Instr], instr: Instr) -> Instr
 }
 
 fn with_sources(alloc: Global, code: Seq<Instr>) -> Result<Seq<Instr>, AllocError>
-    ensures { IfOk result (λ made. made ≡ made_by with_sources [] code) }
+    ensures { IfOk result (λ made. made ≡ made_by read_from_sources [] code) }
 {
     let mut times = Times::new(alloc);
     let mut made = Vec::with_capacity(alloc, code.len())?;

@@ -2,8 +2,8 @@
 ghost use Rattle.std.specs.Prelude.{◌≡◌, ◌∷◌, ◌++◌, [], cond, IfOk};
 ghost use Rattle.mach_ir.specs.Sizes.{IsCountable};
 ghost use Rattle.mach_laws.specs.Expand.{expand};
-ghost use Rattle.dead_rules.specs.Dropped.{without, IsDropped};
-ghost use Rattle.cse_deadcode.specs.Uses.{is_one_used, is_dead, drops_by};
+ghost use Rattle.dead_rules.specs.Dropped.{unless_dropped, IsDropped};
+ghost use Rattle.cse_deadcode.specs.Uses.{is_one_used, is_dead_instruction, drops_by};
 
 use crate::uses::used;
 use crate::visits::may_go;
@@ -21,7 +21,7 @@ fn is_one_used(rows: &Rows, place: usize, regs: &[Reg]) -> bool
 
 /// Whether the instruction goes, where the place after it is this.
 fn is_dead(rows: &Rows, after: usize, instr: &Instr) -> bool
-    ensures { result ≡ is_dead rows.now.rows.items after instr.now }
+    ensures { result ≡ is_dead_instruction rows.now.rows.items after instr.now }
 {
     may_go(&instr.op) && !is_one_used(rows, after, instr.results.as_slice())
 }
@@ -34,7 +34,7 @@ fn keep(
     instr: Instr,
 ) -> Result<(), AllocError>
     ensures { IfOk result (λ _.
-        left.new ≡ cond (is_dead rows.now.rows.items after instr) [] (instr ∷ []) ++ left.old) }
+        left.new ≡ cond (is_dead_instruction rows.now.rows.items after instr) [] (instr ∷ []) ++ left.old) }
 {
     if !is_dead(rows, after, &instr) {
         left.push(instr)?;
@@ -45,7 +45,7 @@ fn keep(
 /// The code that is left.
 fn drop_code(alloc: Global, rows: &Rows, code: Seq<Instr>) -> Result<Seq<Instr>, AllocError>
     ensures { IfOk result (λ left.
-        left ≡ expand (without (drops_by rows.now.rows.items code)) code) }
+        left ≡ expand (unless_dropped (drops_by rows.now.rows.items code)) code) }
 {
     let mut items = code.into_vec();
     let mut left = Backward::new(alloc);

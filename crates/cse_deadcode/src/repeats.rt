@@ -4,8 +4,8 @@ ghost use Rattle.mach_ir.specs.Formed.{WellFormed};
 ghost use Rattle.repeat_rules.specs.Repeated.{from_earlier, IsRepeated};
 ghost use Rattle.cse_deadcode.specs.Made.{made_by};
 ghost use Rattle.cse_deadcode.specs.Times.{time_in};
-ghost use Rattle.cse_deadcode.specs.Repeats.{operands_stand, place_stands, value_stands, result_stands, stands};
-ghost use Rattle.cse_deadcode.specs.Repeats.{standing, standing_at, repeated, without_repeat};
+ghost use Rattle.cse_deadcode.specs.Repeats.{operands_stand, place_stands, value_stands, result_stands, repeat_stands};
+ghost use Rattle.cse_deadcode.specs.Repeats.{standing_result, standing_at, repeated, without_repeat};
 
 use crate::events::{Event, computation};
 use crate::times::Times;
@@ -55,7 +55,7 @@ pub(crate) fn result_stands(times: &Times, time: usize, reg: &Reg) -> bool
 
 /// Whether the register still holds what was computed from the operands at the time.
 fn stands(times: &Times, time: usize, args: &[Reg], reg: &Reg) -> bool
-    ensures { result ≡ stands (time_in times.now) time args.now reg.now }
+    ensures { result ≡ repeat_stands (time_in times.now) time args.now reg.now }
 {
     times.last(Event::EndsRun) < time
         && (operands_stand(times, time, args) && result_stands(times, time, reg))
@@ -63,7 +63,7 @@ fn stands(times: &Times, time: usize, args: &[Reg], reg: &Reg) -> bool
 
 /// The result of the earlier operator of that time, if it and the operands still hold what they held then.
 fn standing(times: &Times, time: usize, earlier: &Instr) -> Option<Reg>
-    ensures { result ≡ standing (time_in times.now) time earlier.now }
+    ensures { result ≡ standing_result (time_in times.now) time earlier.now }
 {
     match earlier.results.get(0) {
         None => None,

@@ -2,7 +2,7 @@
 ghost use Rattle.std.specs.Prelude.{◌≡◌, cond, IfOk};
 ghost use Rattle.std.specs.List.{list_any};
 ghost use Rattle.cse_deadcode.specs.declared.events.Event.{Event};
-ghost use Rattle.cse_deadcode.specs.Times.{is_same, writes_place, writes, event_of, does, happens, time_in};
+ghost use Rattle.cse_deadcode.specs.Times.{is_same, writes_place, writes, operation_event, happens_by, happens, time_in};
 
 use crate::events::{Computed, Event, computation};
 use crate::numbered::Numbered;
@@ -13,7 +13,7 @@ use std::collections::BTreeMap;
 
 /// What the operation does beside its writes, if it counts.
 fn event_of(op: &MachOp, args: &[Reg]) -> Option<Event>
-    ensures { result ≡ event_of op.now args.now }
+    ensures { result ≡ operation_event op.now args.now }
 {
     match op {
         MachOp::Op(Op::Pure(Pure::Operator(operator, right))) => {
@@ -144,7 +144,7 @@ impl Times {
 
     fn note_op(&mut self, op: &MachOp, args: &[Reg], time: usize) -> Result<(), AllocError>
         ensures { IfOk result (λ _. (e : Event) →
-            time_in self.new e ≡ cond (does e op.now args.now) time (time_in self.old e)) }
+            time_in self.new e ≡ cond (happens_by e op.now args.now) time (time_in self.old e)) }
     {
         match event_of(op, args) {
             None => Ok(()),

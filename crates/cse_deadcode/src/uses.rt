@@ -1,6 +1,6 @@
 //! Which registers are used at each place of a function.
 ghost use Rattle.std.specs.Prelude.{IfOk};
-ghost use Rattle.dataflow.specs.Flow.{WellFormed};
+ghost use Rattle.dataflow.specs.Flow.{IsFlowFormed};
 ghost use Rattle.mach_ir.specs.Sizes.{IsCountable};
 ghost use Rattle.cse_deadcode.specs.Flows.{AreUsed};
 ghost use Rattle.cse_deadcode.specs.Uses.{goes_at, AreUses};
@@ -15,7 +15,7 @@ use std::alloc::{AllocError, Global};
 /// The numbers that are used before each place of the graph, where instructions that may go only
 /// compute.
 fn used_in_flow(alloc: Global, flow: &Flow, code: &[Instr]) -> Result<Rows, AllocError>
-    requires { WellFormed flow.now }
+    requires { IsFlowFormed flow.now }
     ensures { IfOk result (λ rows. AreUsed flow.now (goes_at code.now) rows.rows.items) }
 {
     let mut rows = empty_rows(alloc, flow.places.len(), flow.bound)?;

@@ -3,9 +3,9 @@ ghost use Rattle.std.specs.Prelude.{◌≡◌, ℕ, ◌<◌, ◌||◌, ◌&&◌,
 ghost use Rattle.std.specs.List.{All, list_any};
 ghost use Rattle.bs_bits.specs.Set.{has};
 ghost use Rattle.bs_words.specs.Contents.{contents};
-ghost use Rattle.dataflow.specs.Rows.{row, HasSizes};
-ghost use Rattle.dataflow.specs.Flow.{IsPlace, WellFormed};
-ghost use Rattle.cse_deadcode.specs.Flows.{is_wanted, enters_place, Visited, Swept};
+ghost use Rattle.dataflow.specs.Rows.{set_in_row, HasSizes};
+ghost use Rattle.dataflow.specs.Flow.{IsPlace, IsFlowFormed};
+ghost use Rattle.cse_deadcode.specs.Flows.{is_wanted, is_used_before_place, VisitedForUse, SweptForUse};
 ghost use Rattle.cse_deadcode.specs.Uses.{goes_at};
 ghost use Rattle.dead_rules.specs.Dropped.{only_computes, may_go};
 
@@ -51,7 +51,7 @@ fn goes_at(code: &[Instr], place: usize) -> bool
 
 /// Whether the number is in the set of the place.
 fn has_at(rows: &[Bits], place: u32, number: u32) -> bool
-    ensures { result ≡ has (row rows.now place) number }
+    ensures { result ≡ has (set_in_row rows.now place) number }
 {
     match rows.get(place as usize) {
         None => false,
@@ -61,7 +61,7 @@ fn has_at(rows: &[Bits], place: u32, number: u32) -> bool
 
 /// Whether the number is in the set of one of the places.
 fn is_in_some(rows: &[Bits], places: &[u32], number: u32) -> bool
-    ensures { result ≡ list_any (λ q. has (row rows.now q) number) places.now }
+    ensures { result ≡ list_any (λ q. has (set_in_row rows.now q) number) places.now }
 {
     places.iter().any(|q| has_at(rows, *q, number))
 }
@@ -99,7 +99,7 @@ fn flow_back(place: &Place, computes: bool, rows: &[Bits], set: &mut Bits)
     requires place { IsPlace (length rows.now) (length set.old) place.now }
     requires sizes { HasSizes (length set.old) rows.now }
     ensures size { length set.new ≡ length set.old }
-    ensures members { (r : ℕ) → has set.new r ≡ enters_place computes place.now rows.now r }
+    ensures members { (r : ℕ) → has set.new r ≡ is_used_before_place computes place.now rows.now r }
 {
     let is_user = is_user(place, computes, rows);
     set.clear();
@@ -111,13 +111,13 @@ fn flow_back(place: &Place, computes: bool, rows: &[Bits], set: &mut Bits)
 
 /// Adds to the set of place `p` what is used before it, and answers whether it grew.
 fn visit(flow: &Flow, code: &[Instr], p: usize, rows: &mut Vec<Bits>, set: &mut Bits) -> bool
-    requires flow { WellFormed flow.now }
+    requires flow { IsFlowFormed flow.now }
     requires len { length rows.old.items ≡ length (contents flow.now.places) }
     requires within { p < length rows.old.items }
     requires size { length set.old ≡ flow.now.bound }
     requires sizes { HasSizes flow.now.bound rows.old.items }
     ensures size { length set.new ≡ flow.now.bound }
-    ensures visited { Visited flow.now (goes_at code.now) rows.old.items rows.new.items p result }
+    ensures visited { VisitedForUse flow.now (goes_at code.now) rows.old.items rows.new.items p result }
 {
     let computes = goes_at(code, p);
     flow_back(&flow.places[p], computes, rows, set);
@@ -126,12 +126,12 @@ fn visit(flow: &Flow, code: &[Instr], p: usize, rows: &mut Vec<Bits>, set: &mut 
 
 /// Visits each place, from the last to the first, and answers whether a set grew.
 pub(crate) fn sweep(flow: &Flow, code: &[Instr], rows: &mut Vec<Bits>, set: &mut Bits) -> bool
-    requires flow { WellFormed flow.now }
+    requires flow { IsFlowFormed flow.now }
     requires len { length rows.old.items ≡ length (contents flow.now.places) }
     requires size { length set.old ≡ flow.now.bound }
     requires sizes { HasSizes flow.now.bound rows.old.items }
     ensures size { length set.new ≡ flow.now.bound }
-    ensures swept { Swept flow.now (goes_at code.now) rows.old.items rows.new.items result }
+    ensures swept { SweptForUse flow.now (goes_at code.now) rows.old.items rows.new.items result }
 {
     let mut grew = false;
     let mut p = rows.len();

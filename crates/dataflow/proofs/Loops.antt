@@ -7,12 +7,12 @@ use Rattle.std.proofs.lemmas.List.Elements.{All-get_or}
 use Rattle.std.proofs.lemmas.List.Folds.{list_any_more}
 use Rattle.bs_bits.specs.Set.{has, union}
 use Rattle.bs_bits.proofs.Sets.{length-union, has-union, has-inserted, has-removed}
-use Rattle.dataflow.specs.Rows.{row, HasSizes}
+use Rattle.dataflow.specs.Rows.{set_in_row, HasSizes}
 
 -- a set to which others were added
 pub record AddsRows (old now : List Bool) (rows : List (List Bool)) (places : List ℕ) : Type 0 where
   pub size : length now ≡ length old
-  pub members : (r : ℕ) → has now r ≡ (has old r || list_any (λ q. has (row rows q) r) places)
+  pub members : (r : ℕ) → has now r ≡ (has old r || list_any (λ q. has (set_in_row rows q) r) places)
 
 -- a set from which numbers were taken
 pub record TakesOut (old now : List Bool) (numbers : List ℕ) : Type 0 where
@@ -60,8 +60,8 @@ adds_more old now now' added rows places i within all sizes read a e =
     subst Q (sym e) record {
       size = length-union now added ∙ a.size;
       members = λ r.
-          let at : added ≡ row rows (get_or places i 0) = read ∙ get_or_default rows (get_or places i 0) added [] there in
-          has-union now added (a.size ∙ sym size) r ∙ (ap (λ (b : Bool). b || has added r) (a.members r) ∙ (or_assoc (has old r) (list_any (λ q. has (row rows q) r) (take i places)) (has added r) ∙ (ap (λ (m : List Bool). has old r || (list_any (λ q. has (row rows q) r) (take i places) || has m r)) at ∙ ap (λ (b : Bool). has old r || b) (sym (list_any_more (λ q. has (row rows q) r) places i 0 within)))));
+          let at : added ≡ set_in_row rows (get_or places i 0) = read ∙ get_or_default rows (get_or places i 0) added [] there in
+          has-union now added (a.size ∙ sym size) r ∙ (ap (λ (b : Bool). b || has added r) (a.members r) ∙ (or_assoc (has old r) (list_any (λ q. has (set_in_row rows q) r) (take i places)) (has added r) ∙ (ap (λ (m : List Bool). has old r || (list_any (λ q. has (set_in_row rows q) r) (take i places) || has m r)) at ∙ ap (λ (b : Bool). has old r || b) (sym (list_any_more (λ q. has (set_in_row rows q) r) places i 0 within)))));
     }
 
 pub takes_more : (old now : List Bool) (numbers : List ℕ) (i : ℕ) → i < length numbers → get_or numbers i 0 < length old → TakesOut old now (take i numbers) → TakesOut old (set now (get_or numbers i 0) false) (take (i + 1) numbers)

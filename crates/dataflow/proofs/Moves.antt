@@ -10,9 +10,9 @@ use Rattle.bs_bits.specs.Set.{has, union}
 use Rattle.bs_bits.proofs.Sets.{has-union, has-empty}
 use Rattle.dataflow.specs.declared.flow.Place as place
 use Rattle.dataflow.specs.declared.flow.Flow as flow
-use Rattle.dataflow.specs.Flow.{Graph, graph, IsPlace, WellFormed}
+use Rattle.dataflow.specs.Flow.{Graph, graph, IsPlace, IsFlowFormed}
 use Rattle.dataflow.specs.Reach.{ComesIn, ComesTo, IsReaching}
-use Rattle.dataflow.specs.Rows.{row, HasSizes}
+use Rattle.dataflow.specs.Rows.{set_in_row, HasSizes}
 use Rattle.dataflow.specs.Sweep.{missing}
 use Rattle.dataflow.specs.Spread.{Pushed, arrives, Spread, IsComing, IsSpreadFrom, Moved, SweptOn}
 use Rattle.dataflow.proofs.Steps.{contains_from, from_contains, or_left, or_right, not_from}
@@ -34,7 +34,7 @@ or_parts true y e = cc
 or_parts false y e = (refl, e)
 
 -- the row that was read and copied
-pub copied : (rows : List (List Bool)) (p : ℕ) (here first : List Bool) → p < length rows → here ≡ get_or rows p here → ((r : ℕ) → has first r ≡ has here r) → (r : ℕ) → has first r ≡ has (row rows p) r
+pub copied : (rows : List (List Bool)) (p : ℕ) (here first : List Bool) → p < length rows → here ≡ get_or rows p here → ((r : ℕ) → has first r ≡ has here r) → (r : ℕ) → has first r ≡ has (set_in_row rows p) r
 copied rows p here first within read same r =
     same r ∙ ap (λ (m : List Bool). has m r) (read ∙ get_or_default rows p here [] within)
 
@@ -48,7 +48,7 @@ lent_in marks put numbers lent e told r = told r ∙ ap (λ (l : List ℕ). has 
 pub lent_places : (marks : List Bool) (old new : List (List Bool)) (places lent : List ℕ) (grew : Bool) → lent ≡ places → Pushed marks old new lent grew → Pushed marks old new places grew
 lent_places marks old new places lent grew e told = let P : List ℕ → Type 0 = λ l. Pushed marks old new l grew in subst P e told
 
-pub spread_is : (x : place.Place) (bound : ℕ) (old mid new : List (List Bool)) (p : ℕ) (s0 s1 s2 : List Bool) (g1 g2 g : Bool) → ((r : ℕ) → has s0 r ≡ has (row old p) r) → Pushed s0 old mid (contents x.aside) g1 →
+pub spread_is : (x : place.Place) (bound : ℕ) (old mid new : List (List Bool)) (p : ℕ) (s0 s1 s2 : List Bool) (g1 g2 g : Bool) → ((r : ℕ) → has s0 r ≡ has (set_in_row old p) r) → Pushed s0 old mid (contents x.aside) g1 →
     ((r : ℕ) → has s1 r ≡ (has s0 r && not (list_any (λ k. k == r) (contents x.writes)))) → ((r : ℕ) → has s2 r ≡ (has s1 r || list_any (λ k. k == r) (contents x.reads))) → Pushed s2 mid new (contents x.next) g2 → length s2 ≡ bound → g ≡ (g1 || g2) → Spread x bound old new p g
 spread_is x bound old mid new p s0 s1 s2 g1 g2 g first aside out put next size flag =
     let P : ℕ → Type 0 = λ n. HasSizes n new in
@@ -60,10 +60,10 @@ spread_is x bound old mid new p s0 s1 s2 g1 g2 g first aside out put next size f
           let n : Bool = list_any (λ k. k == q) (contents x.next) in
           let w : Bool = not (list_any (λ k. k == r) (contents x.writes)) in
           let d : Bool = list_any (λ k. k == r) (contents x.reads) in
-          let here : Bool = has (row old p) r in
+          let here : Bool = has (set_in_row old p) r in
           let last : has s2 r ≡ ((here && w) || d) = put r ∙ (ap (λ (b : Bool). b || d) (out r) ∙ ap (λ (b : Bool). (b && w) || d) (first r)) in
-          let middle : has (row mid q) r ≡ (has (row old q) r || (a && here)) = aside.members q r below ∙ ap (λ (b : Bool). has (row old q) r || (a && b)) (first r) in
-          next.members q r (omega (arith, aside.len, below)) ∙ (ap (λ (b : Bool). b || (n && has s2 r)) middle ∙ (ap (λ (b : Bool). (has (row old q) r || (a && here)) || (n && b)) last ∙ or_assoc (has (row old q) r) (a && here) (n && ((here && w) || d))));
+          let middle : has (set_in_row mid q) r ≡ (has (set_in_row old q) r || (a && here)) = aside.members q r below ∙ ap (λ (b : Bool). has (set_in_row old q) r || (a && b)) (first r) in
+          next.members q r (omega (arith, aside.len, below)) ∙ (ap (λ (b : Bool). b || (n && has s2 r)) middle ∙ (ap (λ (b : Bool). (has (set_in_row old q) r || (a && here)) || (n && b)) last ∙ or_assoc (has (set_in_row old q) r) (a && here) (n && ((here && w) || d))));
       same = λ e. let parts = or_parts g1 g2 (sym flag ∙ e) in next.same parts.1 ∙ aside.same parts.0;
       fewer = λ e. elim (or_cases g1 g2 (sym flag ∙ e)) [
         | inl before ↦ omega (arith, aside.fewer before, next.most)
@@ -87,7 +87,7 @@ arrives_comes g rows p q r coming e =
     let n : Bool = list_any (λ k. k == q) (g.next p) in
     let w : Bool = list_any (λ k. k == r) (g.writes p) in
     let d : Bool = list_any (λ k. k == r) (g.reads p) in
-    let here : Bool = has (row rows p) r in
+    let here : Bool = has (set_in_row rows p) r in
     elim (or_cases (a && here) (n && ((here && not w) || d)) e) [
       | inl past ↦
           let parts = and_parts a here past in
@@ -110,13 +110,13 @@ moved_sound : (f : flow.Flow) (old new : List (List Bool)) (p : ℕ) (x : place.
 moved_sound f old new p x grew within read s coming = record {
   comes = λ q r is.
       elim (cases_lt q (length old)) [
-        | inl below ↦ elim (or_cases (has (row old q) r) (arrives (contents x.next) (contents x.aside) (contents x.reads) (contents x.writes) old p q r) (sym (s.members q r below) ∙ is)) [
+        | inl below ↦ elim (or_cases (has (set_in_row old q) r) (arrives (contents x.next) (contents x.aside) (contents x.reads) (contents x.writes) old p q r) (sym (s.members q r below) ∙ is)) [
           | inl before ↦ coming.comes q r before
           | inr arrived ↦ arrives_comes (graph f) old p q r coming (arrives_at f old p x q r within read ∙ arrived)
         ]
         | inr past ↦
-            let none : has (row new q) r ≡ false = ap (λ (m : List Bool). has m r) (get_or_past new q [] (omega (arith, s.len, past))) in
-            absurd (both_ways (has (row new q) r) none is)
+            let none : has (set_in_row new q) r ≡ false = ap (λ (m : List Bool). has m r) (get_or_past new q [] (omega (arith, s.len, past))) in
+            absurd (both_ways (has (set_in_row new q) r) none is)
       ];
 }
 
@@ -132,7 +132,7 @@ moved f old new p x bound grew within read same_bound told =
         s.same e,
         record {
           member = λ q r below arrived.
-              ap (λ (rows : List (List Bool)). has (row rows q) r) (sym (s.same e)) ∙ (s.members q r below ∙ or_right (has (row old q) r) (arrives (contents x.next) (contents x.aside) (contents x.reads) (contents x.writes) old p q r) (sym (arrives_at f old p x q r within read) ∙ arrived));
+              ap (λ (rows : List (List Bool)). has (set_in_row rows q) r) (sym (s.same e)) ∙ (s.members q r below ∙ or_right (has (set_in_row old q) r) (arrives (contents x.next) (contents x.aside) (contents x.reads) (contents x.writes) old p q r) (sym (arrives_at f old p x q r within read) ∙ arrived));
         },
       );
       fewer = s.fewer;
@@ -228,37 +228,37 @@ to_within field (x ∷ xs) n o q all step =
     let P : List ℕ → Type 0 = λ l. Contains l q in
     All-contains (λ k. k < n) (field (get_or (x ∷ xs) o x)) q (all x within) (subst P (get_or-map field (x ∷ xs) o x [] within) step)
 
-next_within : (f : flow.Flow) (o q : ℕ) → WellFormed f → Contains ((graph f).next o) q → q < length (contents f.places)
+next_within : (f : flow.Flow) (o q : ℕ) → IsFlowFormed f → Contains ((graph f).next o) q → q < length (contents f.places)
 next_within f o q formed step =
     to_within (λ y. contents y.next) (contents f.places) (length (contents f.places)) o q (λ d within. (All-get_or (IsPlace (length (contents f.places)) f.bound) (contents f.places) o d within formed).next) step
 
-aside_within : (f : flow.Flow) (o q : ℕ) → WellFormed f → Contains ((graph f).aside o) q → q < length (contents f.places)
+aside_within : (f : flow.Flow) (o q : ℕ) → IsFlowFormed f → Contains ((graph f).aside o) q → q < length (contents f.places)
 aside_within f o q formed step =
     to_within (λ y. contents y.aside) (contents f.places) (length (contents f.places)) o q (λ d within. (All-get_or (IsPlace (length (contents f.places)) f.bound) (contents f.places) o d within formed).aside) step
 
-comes_member : (f : flow.Flow) (rows : List (List Bool)) → WellFormed f → length rows ≡ length (contents f.places) → ((p : ℕ) → p < length rows → IsSpreadFrom (graph f) rows p) → (n q r : ℕ) → ComesIn (graph f) r n q → has (row rows q) r ≡ true
+comes_member : (f : flow.Flow) (rows : List (List Bool)) → IsFlowFormed f → length rows ≡ length (contents f.places) → ((p : ℕ) → p < length rows → IsSpreadFrom (graph f) rows p) → (n q r : ℕ) → ComesIn (graph f) r n q → has (set_in_row rows q) r ≡ true
 comes_member f rows formed len closed zero q r walk = absurd walk
 comes_member f rows formed len closed (suc n) q r (inl (o, step, inl reads)) =
     let g = graph f in
     let from : o < length rows = omega (arith, len, from_within (λ y. contents y.next) (contents f.places) o q step) in
     let to : q < length rows = omega (arith, len, next_within f o q formed step) in
-    (closed o from).member q r to (or_right (list_any (λ k. k == q) (g.aside o) && has (row rows o) r) (list_any (λ k. k == q) (g.next o) && ((has (row rows o) r && not (list_any (λ k. k == r) (g.writes o))) || list_any (λ k. k == r) (g.reads o))) (and_from (list_any (λ k. k == q) (g.next o)) ((has (row rows o) r && not (list_any (λ k. k == r) (g.writes o))) || list_any (λ k. k == r) (g.reads o)) (from_contains (g.next o) q step) (or_right (has (row rows o) r && not (list_any (λ k. k == r) (g.writes o))) (list_any (λ k. k == r) (g.reads o)) (from_contains (g.reads o) r reads))))
+    (closed o from).member q r to (or_right (list_any (λ k. k == q) (g.aside o) && has (set_in_row rows o) r) (list_any (λ k. k == q) (g.next o) && ((has (set_in_row rows o) r && not (list_any (λ k. k == r) (g.writes o))) || list_any (λ k. k == r) (g.reads o))) (and_from (list_any (λ k. k == q) (g.next o)) ((has (set_in_row rows o) r && not (list_any (λ k. k == r) (g.writes o))) || list_any (λ k. k == r) (g.reads o)) (from_contains (g.next o) q step) (or_right (has (set_in_row rows o) r && not (list_any (λ k. k == r) (g.writes o))) (list_any (λ k. k == r) (g.reads o)) (from_contains (g.reads o) r reads))))
 comes_member f rows formed len closed (suc n) q r (inl (o, step, inr (unwritten, walk))) =
     let g = graph f in
     let from : o < length rows = omega (arith, len, from_within (λ y. contents y.next) (contents f.places) o q step) in
     let to : q < length rows = omega (arith, len, next_within f o q formed step) in
-    let there : has (row rows o) r ≡ true = comes_member f rows formed len closed n o r walk in
+    let there : has (set_in_row rows o) r ≡ true = comes_member f rows formed len closed n o r walk in
     let kept : not (list_any (λ k. k == r) (g.writes o)) ≡ true = not_from (list_any (λ k. k == r) (g.writes o)) (λ t. unwritten (contains_from (g.writes o) r t)) in
-    (closed o from).member q r to (or_right (list_any (λ k. k == q) (g.aside o) && has (row rows o) r) (list_any (λ k. k == q) (g.next o) && ((has (row rows o) r && not (list_any (λ k. k == r) (g.writes o))) || list_any (λ k. k == r) (g.reads o))) (and_from (list_any (λ k. k == q) (g.next o)) ((has (row rows o) r && not (list_any (λ k. k == r) (g.writes o))) || list_any (λ k. k == r) (g.reads o)) (from_contains (g.next o) q step) (or_left (has (row rows o) r && not (list_any (λ k. k == r) (g.writes o))) (list_any (λ k. k == r) (g.reads o)) (and_from (has (row rows o) r) (not (list_any (λ k. k == r) (g.writes o))) there kept))))
+    (closed o from).member q r to (or_right (list_any (λ k. k == q) (g.aside o) && has (set_in_row rows o) r) (list_any (λ k. k == q) (g.next o) && ((has (set_in_row rows o) r && not (list_any (λ k. k == r) (g.writes o))) || list_any (λ k. k == r) (g.reads o))) (and_from (list_any (λ k. k == q) (g.next o)) ((has (set_in_row rows o) r && not (list_any (λ k. k == r) (g.writes o))) || list_any (λ k. k == r) (g.reads o)) (from_contains (g.next o) q step) (or_left (has (set_in_row rows o) r && not (list_any (λ k. k == r) (g.writes o))) (list_any (λ k. k == r) (g.reads o)) (and_from (has (set_in_row rows o) r) (not (list_any (λ k. k == r) (g.writes o))) there kept))))
 comes_member f rows formed len closed (suc n) q r (inr (o, step, walk)) =
     let g = graph f in
     let from : o < length rows = omega (arith, len, from_within (λ y. contents y.aside) (contents f.places) o q step) in
     let to : q < length rows = omega (arith, len, aside_within f o q formed step) in
-    let there : has (row rows o) r ≡ true = comes_member f rows formed len closed n o r walk in
-    (closed o from).member q r to (or_left (list_any (λ k. k == q) (g.aside o) && has (row rows o) r) (list_any (λ k. k == q) (g.next o) && ((has (row rows o) r && not (list_any (λ k. k == r) (g.writes o))) || list_any (λ k. k == r) (g.reads o))) (and_from (list_any (λ k. k == q) (g.aside o)) (has (row rows o) r) (from_contains (g.aside o) q step) there))
+    let there : has (set_in_row rows o) r ≡ true = comes_member f rows formed len closed n o r walk in
+    (closed o from).member q r to (or_left (list_any (λ k. k == q) (g.aside o) && has (set_in_row rows o) r) (list_any (λ k. k == q) (g.next o) && ((has (set_in_row rows o) r && not (list_any (λ k. k == r) (g.writes o))) || list_any (λ k. k == r) (g.reads o))) (and_from (list_any (λ k. k == q) (g.aside o)) (has (set_in_row rows o) r) (from_contains (g.aside o) q step) there))
 
 -- the sets say exactly what comes to each place
-pub solved_on : (f : flow.Flow) (rows : List (List Bool)) (marks : List Bool) (grew : Bool) → WellFormed f → grew ≡ false → SolvingOn f rows marks grew → IsReaching f rows
+pub solved_on : (f : flow.Flow) (rows : List (List Bool)) (marks : List Bool) (grew : Bool) → IsFlowFormed f → grew ≡ false → SolvingOn f rows marks grew → IsReaching f rows
 solved_on f rows marks grew formed unchanged s = record {
   len = s.len;
   sizes = s.sizes;

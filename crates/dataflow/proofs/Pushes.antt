@@ -10,7 +10,7 @@ use Rattle.std.proofs.lemmas.List.Sums.{sum_by-set}
 use Rattle.std.proofs.lemmas.Bool.{cases_eq, both_ways, eq-eqb, ne_eqb, or_cases}
 use Rattle.bs_bits.specs.Set.{has, union, Grew}
 use Rattle.bs_bits.proofs.Sets.{length-union, has-union, union_cases, grew_not}
-use Rattle.dataflow.specs.Rows.{row, HasSizes}
+use Rattle.dataflow.specs.Rows.{set_in_row, HasSizes}
 use Rattle.dataflow.specs.Sweep.{absent, missing}
 use Rattle.dataflow.specs.Spread.{Pushed}
 use Rattle.dataflow.proofs.Visits.{absent_less}
@@ -23,7 +23,7 @@ pub pushed_none : (marks : List Bool) (rows : List (List Bool)) (places : List �
 pushed_none marks rows places sizes = record {
   len = refl;
   sizes = sizes;
-  members = λ q r below. or_false (has (row rows q) r);
+  members = λ q r below. or_false (has (set_in_row rows q) r);
   same = λ e. refl;
   most = omega arith;
   fewer = λ e. cc;
@@ -65,7 +65,7 @@ pub pushed_more : (marks : List Bool) (old now : List (List Bool)) (places : Lis
 pushed_more marks old now places i here here' grew grew_here grew' below all p read is told flag =
     let k : ℕ = get_or places i 0 in
     let within : k < length now = omega (arith, All-get_or (λ q. q < length old) places i 0 below all, p.len) in
-    let at : here ≡ row now k = read ∙ get_or_default now k here [] within in
+    let at : here ≡ set_in_row now k = read ∙ get_or_default now k here [] within in
     let P : List Bool → Type 0 = λ s. length s ≡ length marks in
     let size : length here ≡ length marks = subst P (sym read) (All-get_or P now k here within p.sizes) in
     let any : (q : ℕ) → list_any (λ j. j == q) (take (i + 1) places) ≡ (list_any (λ j. j == q) (take i places) || (k == q)) = λ q. list_any_more (λ j. j == q) places i 0 below in
@@ -78,9 +78,9 @@ pushed_more marks old now places i here here' grew grew_here grew' below all p r
       members = λ q r less_q.
           elim (cases_eq q k) [
             | inl e ↦
-                ap (λ (n : ℕ). has (row (Seq.set now k here') n) r) e ∙ (ap (λ (m : List Bool). has m r) (get_or-set_same now k here' [] within) ∙ (ap (λ (m : List Bool). has m r) is ∙ (has-union here marks size r ∙ (ap (λ (m : List Bool). has m r || has marks r) at ∙ (ap (λ (n : ℕ). has (row now n) r || has marks r) (sym e) ∙ (ap (λ (b : Bool). b || has marks r) (p.members q r less_q) ∙ (at_it (has (row old q) r) (list_any (λ j. j == q) (take i places)) (has marks r) ∙ (ap (λ (b : Bool). has (row old q) r || ((list_any (λ j. j == q) (take i places) || b) && has marks r)) (sym (eq-eqb k q (sym e))) ∙ ap (λ (b : Bool). has (row old q) r || (b && has marks r)) (sym (any q))))))))))
+                ap (λ (n : ℕ). has (set_in_row (Seq.set now k here') n) r) e ∙ (ap (λ (m : List Bool). has m r) (get_or-set_same now k here' [] within) ∙ (ap (λ (m : List Bool). has m r) is ∙ (has-union here marks size r ∙ (ap (λ (m : List Bool). has m r || has marks r) at ∙ (ap (λ (n : ℕ). has (set_in_row now n) r || has marks r) (sym e) ∙ (ap (λ (b : Bool). b || has marks r) (p.members q r less_q) ∙ (at_it (has (set_in_row old q) r) (list_any (λ j. j == q) (take i places)) (has marks r) ∙ (ap (λ (b : Bool). has (set_in_row old q) r || ((list_any (λ j. j == q) (take i places) || b) && has marks r)) (sym (eq-eqb k q (sym e))) ∙ ap (λ (b : Bool). has (set_in_row old q) r || (b && has marks r)) (sym (any q))))))))))
             | inr ne ↦
-                ap (λ (m : List Bool). has m r) (get_or-set_other now k q here' [] ne) ∙ (p.members q r less_q ∙ (elsewhere (has (row old q) r) (list_any (λ j. j == q) (take i places)) (has marks r) ∙ (ap (λ (b : Bool). has (row old q) r || ((list_any (λ j. j == q) (take i places) || b) && has marks r)) (sym (ne_eqb k q (λ e. ne (sym e)))) ∙ ap (λ (b : Bool). has (row old q) r || (b && has marks r)) (sym (any q)))))
+                ap (λ (m : List Bool). has m r) (get_or-set_other now k q here' [] ne) ∙ (p.members q r less_q ∙ (elsewhere (has (set_in_row old q) r) (list_any (λ j. j == q) (take i places)) (has marks r) ∙ (ap (λ (b : Bool). has (set_in_row old q) r || ((list_any (λ j. j == q) (take i places) || b) && has marks r)) (sym (ne_eqb k q (λ e. ne (sym e)))) ∙ ap (λ (b : Bool). has (set_in_row old q) r || (b && has marks r)) (sym (any q)))))
           ];
       same = λ e.
           let parts = or_parts grew grew_here (sym flag ∙ e) in

@@ -8,7 +8,7 @@ use Rattle.std.proofs.lemmas.Bool.{cases_eq, cases_lt, both_ways, or_cases, or_p
 use Rattle.dataflow.specs.declared.flow.Place as place
 use Rattle.dataflow.specs.Live.{IsLiveness}
 use Rattle.dataflow.proofs.Steps.{live_member}
-use Rattle.dataflow.specs.Sweep.{enters, IsSound, IsClosedAt, missing, Visited, Swept}
+use Rattle.dataflow.specs.Sweep.{enters, AreRowsLive, IsClosedAt, missing, Visited, Swept}
 
 -- the places from p on were visited
 pub record Sweeping (f : flow.Flow) (old now : List (List Bool)) (set : List Bool) (p : ℕ) (grew : Bool) : Type 0 where
@@ -16,7 +16,7 @@ pub record Sweeping (f : flow.Flow) (old now : List (List Bool)) (set : List Boo
   pub len : length now ≡ length old
   pub size : length set ≡ f.bound
   pub sizes : HasSizes f.bound now
-  pub sound : IsSound (graph f) old → IsSound (graph f) now
+  pub sound : AreRowsLive (graph f) old → AreRowsLive (graph f) now
   pub same : grew ≡ false → (now ≡ old) × ((q : ℕ) → p ≤ q → q < length old → IsClosedAt (graph f) old q)
   pub fewer : grew ≡ true → missing now < missing old
 
@@ -25,7 +25,7 @@ pub record Solving (f : flow.Flow) (rows : List (List Bool)) (set : List Bool) (
   pub len : length rows ≡ length (contents f.places)
   pub size : length set ≡ f.bound
   pub sizes : HasSizes f.bound rows
-  pub sound : IsSound (graph f) rows
+  pub sound : AreRowsLive (graph f) rows
   pub closed : grew ≡ false → (p : ℕ) → p < length rows → IsClosedAt (graph f) rows p
 
 pub sweeping_more : (f : flow.Flow) (old now now' : List (List Bool)) (set set' : List Bool) (p : ℕ) (grew here : Bool) → 0 < p → grew ≡ false → Sweeping f old now set p grew → length set' ≡ f.bound → Visited f now now' (p - 1) here → Sweeping f old now' set' (p - 1) here
@@ -83,7 +83,7 @@ pub record SweepingUp (f : flow.Flow) (old now : List (List Bool)) (marks : List
   pub len : length now ≡ length old
   pub size : length marks ≡ f.bound
   pub sizes : HasSizes f.bound now
-  pub sound : IsSound (graph f) old → IsSound (graph f) now
+  pub sound : AreRowsLive (graph f) old → AreRowsLive (graph f) now
   pub same : grew ≡ false → (now ≡ old) × ((q : ℕ) → q < p → IsClosedAt (graph f) old q)
   pub most : missing now ≤ missing old
   pub fewer : grew ≡ true → missing now < missing old

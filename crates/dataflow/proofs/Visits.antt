@@ -10,9 +10,9 @@ use Rattle.bs_bits.specs.Set.{has, union, Grew}
 use Rattle.bs_bits.proofs.Sets.{length-union, has-union, union_cases, grew_not}
 use Rattle.dataflow.specs.declared.flow.Place as place
 use Rattle.dataflow.specs.declared.flow.Flow as flow
-use Rattle.dataflow.specs.Flow.{graph, LiveBefore, IsPlace, WellFormed}
-use Rattle.dataflow.specs.Rows.{row, HasSizes}
-use Rattle.dataflow.specs.Sweep.{enters, enters_place, IsSound, IsClosedAt, absent, missing, Visited}
+use Rattle.dataflow.specs.Flow.{graph, LiveBefore, IsPlace, IsFlowFormed}
+use Rattle.dataflow.specs.Rows.{set_in_row, HasSizes}
+use Rattle.dataflow.specs.Sweep.{enters, enters_place, AreRowsLive, IsClosedAt, absent, missing, Visited}
 use Rattle.dataflow.proofs.Steps.{enters_live, or_right}
 
 -- a table of the graph at a place that was read
@@ -27,7 +27,7 @@ enters_at f rows p x r within read =
     let w : (graph f).writes p ≡ contents x.writes = table_at (λ y. contents y.writes) (contents f.places) p x within read in
     ap (λ (l : List ℕ). enters l ((graph f).aside p) ((graph f).reads p) ((graph f).writes p) rows r) n ∙ (ap (λ (l : List ℕ). enters (contents x.next) l ((graph f).reads p) ((graph f).writes p) rows r) a ∙ (ap (λ (l : List ℕ). enters (contents x.next) (contents x.aside) l ((graph f).writes p) rows r) d ∙ ap (λ (l : List ℕ). enters (contents x.next) (contents x.aside) (contents x.reads) l rows r) w))
 
-pub is_place : (f : flow.Flow) (count bound p : ℕ) (x : place.Place) → WellFormed f → count ≡ length (contents f.places) → bound ≡ f.bound → p < count → x ≡ get_or (contents f.places) p x → IsPlace count bound x
+pub is_place : (f : flow.Flow) (count bound p : ℕ) (x : place.Place) → IsFlowFormed f → count ≡ length (contents f.places) → bound ≡ f.bound → p < count → x ≡ get_or (contents f.places) p x → IsPlace count bound x
 is_place f count bound p x formed e b within read =
     let P : ℕ → Type 0 = λ n. IsPlace n bound x in
     let Q : ℕ → Type 0 = λ n. IsPlace (length (contents f.places)) n x in
@@ -59,7 +59,7 @@ pub record Visit (f : flow.Flow) (rows : List (List Bool)) (p : ℕ) (set here h
   pub all : here' ≡ union here set
   pub grew_is : (grew ≡ true → Grew here here') × (Grew here here' → grew ≡ true)
 
-here_row : (f : flow.Flow) (rows : List (List Bool)) (p : ℕ) (set here here' : List Bool) (grew : Bool) → Visit f rows p set here here' grew → here ≡ row rows p
+here_row : (f : flow.Flow) (rows : List (List Bool)) (p : ℕ) (set here here' : List Bool) (grew : Bool) → Visit f rows p set here here' grew → here ≡ set_in_row rows p
 here_row f rows p set here here' grew v = v.read ∙ get_or_default rows p here [] v.within
 
 here_size : (f : flow.Flow) (rows : List (List Bool)) (p : ℕ) (set here here' : List Bool) (grew : Bool) → Visit f rows p set here here' grew → length here ≡ f.bound
@@ -71,12 +71,12 @@ has_here : (f : flow.Flow) (rows : List (List Bool)) (p : ℕ) (set here here' :
 has_here f rows p set here here' grew v r =
     ap (λ (m : List Bool). has m r) v.all ∙ has-union here set (here_size f rows p set here here' grew v ∙ sym v.size) r
 
-visit_sound : (f : flow.Flow) (rows : List (List Bool)) (p : ℕ) (set here here' : List Bool) (grew : Bool) → Visit f rows p set here here' grew → IsSound (graph f) rows → IsSound (graph f) (Seq.set rows p here')
+visit_sound : (f : flow.Flow) (rows : List (List Bool)) (p : ℕ) (set here here' : List Bool) (grew : Bool) → Visit f rows p set here here' grew → AreRowsLive (graph f) rows → AreRowsLive (graph f) (Seq.set rows p here')
 visit_sound f rows p set here here' grew v sound = record {
   live = λ q r is.
       elim (cases_eq q p) [
         | inl at ↦
-            let new : has here' r ≡ true = sym (ap (λ (n : ℕ). has (row (Seq.set rows p here') n) r) at ∙ ap (λ (m : List Bool). has m r) (get_or-set_same rows p here' [] v.within)) ∙ is in
+            let new : has here' r ≡ true = sym (ap (λ (n : ℕ). has (set_in_row (Seq.set rows p here') n) r) at ∙ ap (λ (m : List Bool). has m r) (get_or-set_same rows p here' [] v.within)) ∙ is in
             let P : ℕ → Type 0 = λ n. LiveBefore (graph f) n r in
             subst
             P

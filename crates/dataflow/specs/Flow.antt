@@ -48,5 +48,5 @@ pub record IsBare (x : place.Place) : Type 0 where
   pub writes : contents x.writes ≡ []
 
 -- every place that is named exists, and every number is below the bound
-abbrev pub WellFormed : flow.Flow → Type 0
-WellFormed f = All (IsPlace (length (contents f.places)) f.bound) (contents f.places)
+abbrev pub IsFlowFormed : flow.Flow → Type 0
+IsFlowFormed f = All (IsPlace (length (contents f.places)) f.bound) (contents f.places)

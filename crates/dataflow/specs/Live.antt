@@ -4,9 +4,9 @@ use Rattle.bs_words.specs.Contents.{contents}
 use Rattle.bs_bits.specs.Set.{has}
 use Rattle.dataflow.specs.declared.flow.Flow as flow
 use Rattle.dataflow.specs.Flow.{graph, LiveBefore}
-use Rattle.dataflow.specs.Rows.{row, HasSizes}
+use Rattle.dataflow.specs.Rows.{set_in_row, HasSizes}
 
 pub record IsLiveness (f : flow.Flow) (rows : List (List Bool)) : Type 0 where
   pub len : length rows ≡ length (contents f.places)
   pub sizes : HasSizes f.bound rows
-  pub exact : (p r : ℕ) → (has (row rows p) r ≡ true) ↔ LiveBefore (graph f) p r
+  pub exact : (p r : ℕ) → (has (set_in_row rows p) r ≡ true) ↔ LiveBefore (graph f) p r

@@ -5,7 +5,7 @@ use Rattle.bs_words.specs.Contents.{contents}
 use Rattle.bs_bits.specs.Set.{has}
 use Rattle.dataflow.specs.declared.flow.Flow as flow
 use Rattle.dataflow.specs.Flow.{Graph, graph}
-use Rattle.dataflow.specs.Rows.{row, HasSizes}
+use Rattle.dataflow.specs.Rows.{set_in_row, HasSizes}
 
 -- Some walk of at most n steps brings r to p: the last step leaves a place that reads r, or one that
 -- does not write r and to which r came; or it goes aside from one to which r came.
@@ -24,4 +24,4 @@ ComesTo g p r = (n : ℕ) × ComesIn g r n p
 pub record IsReaching (f : flow.Flow) (rows : List (List Bool)) : Type 0 where
   pub len : length rows ≡ length (contents f.places)
   pub sizes : HasSizes f.bound rows
-  pub exact : (p r : ℕ) → (has (row rows p) r ≡ true) ↔ ComesTo (graph f) p r
+  pub exact : (p r : ℕ) → (has (set_in_row rows p) r ≡ true) ↔ ComesTo (graph f) p r

@@ -3,8 +3,8 @@ use Rattle.std.specs.Prelude.{◌≡◌, ℕ, Bool, List, [], slice_index_or, le
 use Rattle.std.specs.List.{All}
 
 -- the set of a place; past the last place it is empty
-abbrev pub row : List (List Bool) → ℕ → List Bool
-row rows p = slice_index_or rows p []
+abbrev pub set_in_row : List (List Bool) → ℕ → List Bool
+set_in_row rows p = slice_index_or rows p []
 
 -- each set is one of numbers below `bound`
 abbrev pub HasSizes : ℕ → List (List Bool) → Type 0

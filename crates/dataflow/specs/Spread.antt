@@ -7,7 +7,7 @@ use Rattle.dataflow.specs.declared.flow.Place as place
 use Rattle.dataflow.specs.declared.flow.Flow as flow
 use Rattle.dataflow.specs.Flow.{Graph, graph}
 use Rattle.dataflow.specs.Reach.{ComesTo}
-use Rattle.dataflow.specs.Rows.{row, HasSizes}
+use Rattle.dataflow.specs.Rows.{set_in_row, HasSizes}
 use Rattle.dataflow.specs.Sweep.{missing}
 
 -- a set was added to the sets of places
@@ -17,7 +17,7 @@ pub record Pushed (marks : List Bool) (old new : List (List Bool)) (places : Lis
   pub sizes : HasSizes (length marks) new
   pub members : (q r : ℕ)
       → q < length old
-      → has (row new q) r ≡ (has (row old q) r || (list_any (λ k. k == q) places && has marks r))
+      → has (set_in_row new q) r ≡ (has (set_in_row old q) r || (list_any (λ k. k == q) places && has marks r))
   pub same : grew ≡ false → new ≡ old
   pub most : missing new ≤ missing old
   pub fewer : grew ≡ true → missing new < missing old
@@ -26,8 +26,8 @@ pub record Pushed (marks : List Bool) (old new : List (List Bool)) (places : Lis
 -- `gen`, and kills those of `kill`.
 abbrev pub arrives : List ℕ → List ℕ → List ℕ → List ℕ → List (List Bool) → ℕ → ℕ → ℕ → Bool
 arrives next aside gen kill rows p q r =
-    let kept = has (row rows p) r && not (list_any (λ k. k == r) kill) in
-    (list_any (λ k. k == q) aside && has (row rows p) r)
+    let kept = has (set_in_row rows p) r && not (list_any (λ k. k == r) kill) in
+    (list_any (λ k. k == q) aside && has (set_in_row rows p) r)
     || (list_any (λ k. k == q) next && (kept || list_any (λ k. k == r) gen))
 
 -- what comes to a place was spread from it; what comes to it by its own edges waits for the next time
@@ -37,22 +37,22 @@ pub record Spread (x : place.Place) (bound : ℕ) (old new : List (List Bool)) (
   pub sizes : HasSizes bound new
   pub members : (q r : ℕ)
       → q < length old
-      → has (row new q) r ≡
-      (has (row old q) r || arrives (contents x.next) (contents x.aside) (contents x.reads)
+      → has (set_in_row new q) r ≡
+      (has (set_in_row old q) r || arrives (contents x.next) (contents x.aside) (contents x.reads)
       (contents x.writes) old p q r)
   pub same : grew ≡ false → new ≡ old
   pub fewer : grew ≡ true → missing new < missing old
 
 -- each member comes
 pub record IsComing (g : Graph) (rows : List (List Bool)) : Type 0 where
-  pub comes : (p r : ℕ) → has (row rows p) r ≡ true → ComesTo g p r
+  pub comes : (p r : ℕ) → has (set_in_row rows p) r ≡ true → ComesTo g p r
 
 -- what arrives from place p is a member
 pub record IsSpreadFrom (g : Graph) (rows : List (List Bool)) (p : ℕ) : Type 0 where
   pub member : (q r : ℕ)
       → q < length rows
       → arrives (g.next p) (g.aside p) (g.reads p) (g.writes p) rows p q r ≡ true
-      → has (row rows q) r ≡ true
+      → has (set_in_row rows q) r ≡ true
 
 -- a visit of place p
 pub record Moved (f : flow.Flow) (old new : List (List Bool)) (p : ℕ) (grew : Bool) : Type 0 where

@@ -68,11 +68,11 @@ impl Place {
 
 impl Flow {
     ghost use Rattle.std.specs.Prelude.{◌↔◌, IsTrue};
-    ghost use Rattle.dataflow.specs.Flow.{WellFormed};
+    ghost use Rattle.dataflow.specs.Flow.{IsFlowFormed};
 
     /// Whether every place that is named exists, and every number is below the bound.
     pub fn is_well_formed(&self) -> bool
-        ensures { IsTrue result ↔ WellFormed self.now }
+        ensures { IsTrue result ↔ IsFlowFormed self.now }
     {
         let count = self.places.len();
         let bound = self.bound;

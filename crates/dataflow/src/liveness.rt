@@ -1,6 +1,6 @@
 //! Which numbers are live before each place.
 ghost use Rattle.std.specs.Prelude.{◌≡◌, ◌<◌, false, replicate, IfOk};
-ghost use Rattle.dataflow.specs.Flow.{WellFormed};
+ghost use Rattle.dataflow.specs.Flow.{IsFlowFormed};
 ghost use Rattle.dataflow.specs.Live.{IsLiveness};
 
 use crate::sweep::{sweep, sweep_both};
@@ -27,7 +27,7 @@ pub fn empty_rows(alloc: Global, count: usize, bound: u32) -> Result<Vec<Bits>, 
 /// of control takes one sweep for each depth of loops and two more. Its memory is a row of
 /// `bound / 8` bytes for each place and one more. The only error is want of memory.
 pub fn live(alloc: Global, flow: &Flow) -> Result<Rows, AllocError>
-    requires { WellFormed flow.now }
+    requires { IsFlowFormed flow.now }
     ensures { IfOk result (λ rows. IsLiveness flow.now rows.rows.items) }
 {
     let mut rows = empty_rows(alloc, flow.places.len(), flow.bound)?;
@@ -44,7 +44,7 @@ pub fn live(alloc: Global, flow: &Flow) -> Result<Rows, AllocError>
 /// It sweeps over the places in both directions until no set grows, so a graph takes one turn for each time
 /// that a walk changes between the directions, and two more. The only error is want of memory.
 pub fn live_in_any_order(alloc: Global, flow: &Flow) -> Result<Rows, AllocError>
-    requires { WellFormed flow.now }
+    requires { IsFlowFormed flow.now }
     ensures { IfOk result (λ rows. IsLiveness flow.now rows.rows.items) }
 {
     let mut rows = empty_rows(alloc, flow.places.len(), flow.bound)?;

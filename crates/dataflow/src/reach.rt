@@ -1,6 +1,6 @@
 //! Which numbers reach each place.
 ghost use Rattle.std.specs.Prelude.{IfOk};
-ghost use Rattle.dataflow.specs.Flow.{WellFormed};
+ghost use Rattle.dataflow.specs.Flow.{IsFlowFormed};
 ghost use Rattle.dataflow.specs.Reach.{IsReaching};
 
 use crate::liveness::empty_rows;
@@ -18,7 +18,7 @@ use std::alloc::{AllocError, Global};
 /// and two more. Its memory is a row of `bound / 8` bytes for each place and one more.
 /// The only error is want of memory.
 pub fn reaching(alloc: Global, flow: &Flow) -> Result<Rows, AllocError>
-    requires { WellFormed flow.now }
+    requires { IsFlowFormed flow.now }
     ensures { IfOk result (λ rows. IsReaching flow.now rows.rows.items) }
 {
     let mut rows = empty_rows(alloc, flow.places.len(), flow.bound)?;

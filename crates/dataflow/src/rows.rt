@@ -1,7 +1,7 @@
 //! A set of numbers for each place.
 ghost use Rattle.std.specs.Prelude.{◌≡◌, ◌<◌, length};
 ghost use Rattle.bs_bits.specs.Set.{has};
-ghost use Rattle.dataflow.specs.Rows.{row};
+ghost use Rattle.dataflow.specs.Rows.{set_in_row};
 
 use bs_bits::Bits;
 
@@ -16,7 +16,7 @@ impl Rows {
     /// The set of the place.
     pub fn at(&self, place: usize) -> &Bits
         requires { place < length self.now.rows.items }
-        ensures { result.now ≡ row self.now.rows.items place }
+        ensures { result.now ≡ set_in_row self.now.rows.items place }
     {
         &self.rows[place]
     }
@@ -24,7 +24,7 @@ impl Rows {
     /// Whether the number is in the set of the place. There is none past the last place, or from the
     /// bound on.
     pub fn contains(&self, place: usize, number: u32) -> bool
-        ensures { result ≡ has (row self.now.rows.items place) number }
+        ensures { result ≡ has (set_in_row self.now.rows.items place) number }
     {
         match self.rows.get(place) {
             None => false,

@@ -4,7 +4,7 @@ ghost use Rattle.std.specs.List.{All};
 ghost use Rattle.bs_bits.specs.Set.{has};
 ghost use Rattle.bs_words.specs.Contents.{contents};
 ghost use Rattle.dataflow.specs.Rows.{HasSizes};
-ghost use Rattle.dataflow.specs.Flow.{IsPlace, WellFormed};
+ghost use Rattle.dataflow.specs.Flow.{IsPlace, IsFlowFormed};
 ghost use Rattle.dataflow.specs.Spread.{Pushed, Spread, Moved, SweptOn};
 
 use crate::sweep::{put_in, take_out};
@@ -61,7 +61,7 @@ fn spread(place: &Place, p: usize, rows: &mut Vec<Bits>, set: &mut Bits) -> bool
 
 /// The same for a place of a graph.
 fn move_on(flow: &Flow, p: usize, rows: &mut Vec<Bits>, set: &mut Bits) -> bool
-    requires flow { WellFormed flow.now }
+    requires flow { IsFlowFormed flow.now }
     requires len { length rows.old.items ≡ length (contents flow.now.places) }
     requires within { p < length rows.old.items }
     requires size { length set.old ≡ flow.now.bound }
@@ -74,7 +74,7 @@ fn move_on(flow: &Flow, p: usize, rows: &mut Vec<Bits>, set: &mut Bits) -> bool
 
 /// Visits each place, from the first to the last, and answers whether a set grew.
 pub(crate) fn sweep_on(flow: &Flow, rows: &mut Vec<Bits>, set: &mut Bits) -> bool
-    requires flow { WellFormed flow.now }
+    requires flow { IsFlowFormed flow.now }
     requires len { length rows.old.items ≡ length (contents flow.now.places) }
     requires size { length set.old ≡ flow.now.bound }
     requires sizes { HasSizes flow.now.bound rows.old.items }

@@ -3,8 +3,8 @@ ghost use Rattle.std.specs.Prelude.{◌≡◌, ℕ, ◌<◌, ◌||◌, ◌&&◌,
 ghost use Rattle.std.specs.List.{All, list_any};
 ghost use Rattle.bs_bits.specs.Set.{has};
 ghost use Rattle.bs_words.specs.Contents.{contents};
-ghost use Rattle.dataflow.specs.Rows.{row, HasSizes};
-ghost use Rattle.dataflow.specs.Flow.{IsPlace, WellFormed};
+ghost use Rattle.dataflow.specs.Rows.{set_in_row, HasSizes};
+ghost use Rattle.dataflow.specs.Flow.{IsPlace, IsFlowFormed};
 ghost use Rattle.dataflow.specs.Sweep.{enters_place, Visited, Swept};
 
 use crate::spread::either;
@@ -17,7 +17,7 @@ pub fn add_rows(set: &mut Bits, rows: &[Bits], places: &[u32])
     requires within { All (λ q. q < length rows.now) places.now }
     ensures size { length set.new ≡ length set.old }
     ensures members { (r : ℕ) → has set.new r ≡ (has set.old r || list_any (λ q.
-        has (row rows.now q) r) places.now) }
+        has (set_in_row rows.now q) r) places.now) }
 {
     for q in places {
         let _grew = set.union_with(&rows[*q as usize]);
@@ -64,7 +64,7 @@ fn flow_back(place: &Place, rows: &[Bits], set: &mut Bits)
 
 /// Adds to the set of place `p` what is live before it, and answers whether it grew.
 fn visit(flow: &Flow, p: usize, rows: &mut Vec<Bits>, set: &mut Bits) -> bool
-    requires flow { WellFormed flow.now }
+    requires flow { IsFlowFormed flow.now }
     requires len { length rows.old.items ≡ length (contents flow.now.places) }
     requires within { p < length rows.old.items }
     requires size { length set.old ≡ flow.now.bound }
@@ -78,7 +78,7 @@ fn visit(flow: &Flow, p: usize, rows: &mut Vec<Bits>, set: &mut Bits) -> bool
 
 /// Visits each place, from the last to the first, and answers whether a set grew.
 pub(crate) fn sweep(flow: &Flow, rows: &mut Vec<Bits>, set: &mut Bits) -> bool
-    requires flow { WellFormed flow.now }
+    requires flow { IsFlowFormed flow.now }
     requires len { length rows.old.items ≡ length (contents flow.now.places) }
     requires size { length set.old ≡ flow.now.bound }
     requires sizes { HasSizes flow.now.bound rows.old.items }
@@ -97,7 +97,7 @@ pub(crate) fn sweep(flow: &Flow, rows: &mut Vec<Bits>, set: &mut Bits) -> bool
 
 /// Visits each place, from the first to the last, and answers whether a set grew.
 fn sweep_up(flow: &Flow, rows: &mut Vec<Bits>, set: &mut Bits) -> bool
-    requires flow { WellFormed flow.now }
+    requires flow { IsFlowFormed flow.now }
     requires len { length rows.old.items ≡ length (contents flow.now.places) }
     requires size { length set.old ≡ flow.now.bound }
     requires sizes { HasSizes flow.now.bound rows.old.items }
@@ -115,7 +115,7 @@ fn sweep_up(flow: &Flow, rows: &mut Vec<Bits>, set: &mut Bits) -> bool
 
 /// Visits the places in both directions, and answers whether a set grew.
 pub(crate) fn sweep_both(flow: &Flow, rows: &mut Vec<Bits>, set: &mut Bits) -> bool
-    requires flow { WellFormed flow.now }
+    requires flow { IsFlowFormed flow.now }
     requires len { length rows.old.items ≡ length (contents flow.now.places) }
     requires size { length set.old ≡ flow.now.bound }
     requires sizes { HasSizes flow.now.bound rows.old.items }

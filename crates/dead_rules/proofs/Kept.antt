@@ -6,10 +6,10 @@ use Rattle.bs_words.proofs.Lists.{head_same, tail_same}
 use Rattle.cmm_meaning.specs.State.{Doing}
 use Rattle.mach_ir.specs.Acts.{Around, Target, On, At, Landing, AtLabel, AtHandler, Replaces}
 use Rattle.mach_ir.specs.Formed.{WellFormed}
-use Rattle.mach_ir.specs.Runs.{Place, entered}
-use Rattle.mach_ir.specs.Meaning.{State, File, put_all, clear, killed, written, values, past_frame, passes_frame, after_label, at_handler, code_at, tries_at, landing_code, start}
-use Rattle.mach_ir.specs.Walks.{Among, OneOf, targets, may_raise, goes, raises, Live, LiveAcross}
-use Rattle.mach_ir.specs.Keeps.{ValsWritten, wrote_unless, Begins, Does}
+use Rattle.mach_ir.specs.Runs.{ActivationSetting, entry_around}
+use Rattle.mach_ir.specs.Meaning.{State, File, put_all, clear_registers, killed, registers_written, values, past_frame, passes_frame, after_label, at_handler, code_at, tries_at, landing_code, mach_start}
+use Rattle.mach_ir.specs.Walks.{AmongRegisters, OneOf, targets, may_raise, goes, raises, Live, LiveAcross}
+use Rattle.mach_ir.specs.Keeps.{ValsWritten, wrote_unless, Begins, MachSimulation}
 use Rattle.mach_ir.specs.declared.reg.Reg.{Reg}
 use Rattle.mach_ir.specs.declared.mach.Instr.{Instr}
 use Rattle.mach_ir.specs.declared.mach.Mach.{Mach}
@@ -23,7 +23,7 @@ use Rattle.mach_laws.proofs.Simulate.{Agrees}
 use Rattle.mach_laws.proofs.Among.{split_among, among_or_not}
 use Rattle.mach_laws.proofs.Raised.{IsRaised, IsSilent, label_silent, try_silent, told}
 use Rattle.places_rules.proofs.Files.{values_same, past_same, cleared, not_cleared, PutsBoth, put_both}
-use Rattle.dead_rules.specs.Dropped.{may_go, IsUsed, on, aside, without, dropped, AreDead}
+use Rattle.dead_rules.specs.Dropped.{may_go, IsUsed, on, aside, unless_dropped, dropped, AreDead}
 use Rattle.dead_rules.proofs.Live.{used_live, none_killed, lift, live_back, across_back, was_register, used_by}
 use Rattle.dead_rules.proofs.Left.{tries_here, label_is}
 use Rattle.dead_rules.proofs.Text.{pure_of, pure_no_frame, goes_on, Fate, falls, remains, fate, keeps_marks}
@@ -33,7 +33,7 @@ module _ (m : Mach) (drops : ℕ → Bool) (dead : AreDead m drops) (formed : We
   q = dropped drops m
 
   abbrev f : ℕ → Instr → List Instr
-  f = without drops
+  f = unless_dropped drops
 
   -- what is used holds the same
   abbrev Same : List Instr → File → File → Type 0
@@ -43,7 +43,7 @@ module _ (m : Mach) (drops : ℕ → Bool) (dead : AreDead m drops) (formed : We
 
   -- what has just been written holds the same
   abbrev WroteSame : Option Value → List Reg → File → File → Type 0
-  WroteSame raised ws a b = (n : ℕ) → Among n (wrote_unless raised ws) → a n ≡ b n
+  WroteSame raised ws a b = (n : ℕ) → AmongRegisters n (wrote_unless raised ws) → a n ≡ b n
 
   agrees_by : (rest : List Instr) → Ending rest m.code → (a b : File) (y : Around) (ws : List Reg) → Same rest a b →
       WroteSame y.raised ws a b → Agrees m ws (at rest a y) → Agrees q ws (at (expand f rest) b y)
@@ -56,14 +56,14 @@ module _ (m : Mach) (drops : ℕ → Bool) (dead : AreDead m drops) (formed : We
             (one.1 ∙ s) (two.1 ∙ t);
       }
     where
-      was_there : (r : Reg) → Live q r.number (expand f rest) ⊎ Among r.number (wrote_unless y.raised ws) →
-          (Live m r.number rest ⊎ Among r.number (wrote_unless y.raised ws)) × (a r.number ≡ b r.number)
+      was_there : (r : Reg) → Live q r.number (expand f rest) ⊎ AmongRegisters r.number (wrote_unless y.raised ws) →
+          (Live m r.number rest ⊎ AmongRegisters r.number (wrote_unless y.raised ws)) × (a r.number ≡ b r.number)
       was_there r l =
           ⊎_elim
           (λ v. let u = live_back m drops dead v rest ending refl in (inl (used_live u), same r.number u))
           (λ z. (inr z, wrote r.number z)) l
 
-  silent_wrote : (i : Instr) (o : Option Value) (a b : File) → IsSilent m i ⊎ IsRaised o → WroteSame o (written m i) a b
+  silent_wrote : (i : Instr) (o : Option Value) (a b : File) → IsSilent m i ⊎ IsRaised o → WroteSame o (registers_written m i) a b
   silent_wrote i None a b (inl s) n z = absurd (s n z)
   silent_wrote i None a b (inr r) n z = elim r [ ]
   silent_wrote i (Some v) a b s n z = elim z [ ]
@@ -92,7 +92,7 @@ module _ (m : Mach) (drops : ℕ → Bool) (dead : AreDead m drops) (formed : We
 
   -- ---- each instruction
 
-  module _ (c : Place) (Suit : Around → Around → Type 0) (i : Instr) (next : List Instr) (a b : File)
+  module _ (c : ActivationSetting) (Suit : Around → Around → Type 0) (i : Instr) (next : List Instr) (a b : File)
       (ending : Ending (i ∷ next) m.code) (same : Same (i ∷ next) a b) where
     abbrev Round : List Instr → Around → Around → File → File → Type 0
     Round = level.Level c m q f (keeps_marks drops) refl Same
@@ -107,9 +107,9 @@ module _ (m : Mach) (drops : ℕ → Bool) (dead : AreDead m drops) (formed : We
     still n u = past_same (passes_frame i.op) a b n n (same n u)
 
     abbrev Puts : List Value → File → Type 0
-    Puts vs d = PutsBoth c.setting.end i.results vs (clear (killed m i) a') (clear (killed m i) b') d
+    Puts vs d = PutsBoth c.setting.end i.results vs (clear_registers (killed m i) a') (clear_registers (killed m i) b') d
 
-    gone : (vs : List Value) (d : File) (p : Puts vs d) (n : ℕ) → (Among n i.results → ⊥) → Among n (killed m i) → d n ≡ p.file n
+    gone : (vs : List Value) (d : File) (p : Puts vs d) (n : ℕ) → (AmongRegisters n i.results → ⊥) → AmongRegisters n (killed m i) → d n ≡ p.file n
     gone vs d p n free z =
         p.others n free ∙ cleared (killed m i) a' n z ∙ sym (p.others_new n free ∙ cleared (killed m i) b' n z)
 
@@ -120,13 +120,13 @@ module _ (m : Mach) (drops : ℕ → Bool) (dead : AreDead m drops) (formed : We
         (λ free. ⊎_elim (λ z. gone vs d p n free z) (λ h. kept free h) (among_or_not n (killed m i)))
         (among_or_not n i.results)
       where
-        kept : (Among n i.results → ⊥) → (Among n (killed m i) → ⊥) → d n ≡ p.file n
+        kept : (AmongRegisters n i.results → ⊥) → (AmongRegisters n (killed m i) → ⊥) → d n ≡ p.file n
         kept free h =
             p.others n free ∙ not_cleared (killed m i) a' n h
             ∙ still n (on (λ w. ⊎_elim free h (split_among n i.results (killed m i) w)) (goes t o) u)
             ∙ sym (p.others_new n free ∙ not_cleared (killed m i) b' n h)
 
-    put_wrote : (vs : List Value) (d : File) (p : Puts vs d) (o : Option Value) → WroteSame o (written m i) d p.file
+    put_wrote : (vs : List Value) (d : File) (p : Puts vs d) (o : Option Value) → WroteSame o (registers_written m i) d p.file
     put_wrote vs d p None n z =
         ⊎_elim (λ r. p.same n r)
         (λ free.
@@ -139,14 +139,14 @@ module _ (m : Mach) (drops : ℕ → Bool) (dead : AreDead m drops) (formed : We
     past_to vs d p y On o =
         general.on
         (λ w.
-        agrees_by next (ending_next ending) d p.file y (written m i) (after_same vs d p On o) (put_wrote vs d p y.raised) w)
+        agrees_by next (ending_next ending) d p.file y (registers_written m i) (after_same vs d p On o) (put_wrote vs d p y.raised) w)
         general.passed (λ w. (refl, after_same vs d p On o))
     past_to vs d p y (At l) o =
         general.elsewhere refl
         (λ w. (
           (refl, after_same vs d p (At l) o),
-          subst (λ code. Agrees q (written m i) (at code p.file y)) (sym (label_is m drops l))
-              (agrees_by (after_label l m.code) (ending_label l m.code) d p.file y (written m i) (after_same vs d p (At l) o)
+          subst (λ code. Agrees q (registers_written m i) (at code p.file y)) (sym (label_is m drops l))
+              (agrees_by (after_label l m.code) (ending_label l m.code) d p.file y (registers_written m i) (after_same vs d p (At l) o)
               (put_wrote vs d p y.raised) w),
         ))
 
@@ -158,9 +158,9 @@ module _ (m : Mach) (drops : ℕ → Bool) (dead : AreDead m drops) (formed : We
         general.Lands c m q f (keeps_marks drops) refl Suit Round i i next [] to y y a' b'
     lands to may y s w = (
       (refl, landed to may),
-      subst (λ code. Agrees q (written m i) (at code b' y))
+      subst (λ code. Agrees q (registers_written m i) (at code b' y))
           (sym (land_expand f (keeps_marks drops) m.code (i ∷ next) (i ∷ expand f next) to (tries_here drops i next refl)))
-          (agrees_by (landing_code m.code (i ∷ next) to) (ending_land to (i ∷ next) m.code) a' b' y (written m i)
+          (agrees_by (landing_code m.code (i ∷ next) to) (ending_land to (i ∷ next) m.code) a' b' y (registers_written m i)
           (landed to may) (silent_wrote i y.raised a' b' s) w),
     )
 
@@ -171,7 +171,7 @@ module _ (m : Mach) (drops : ℕ → Bool) (dead : AreDead m drops) (formed : We
     same_operation =
         record {
           goes = λ vs d e.
-              let p = put_both c.setting.end i.results vs (clear (killed m i) a') (clear (killed m i) b') d e in
+              let p = put_both c.setting.end i.results vs (clear_registers (killed m i) a') (clear_registers (killed m i) b') d e in
               (p.file, p.puts, λ y to o. past_to vs d p y to o);
           lands = λ y to l s. lands to l y s;
           tries = tries_here drops i next refl;
@@ -179,7 +179,7 @@ module _ (m : Mach) (drops : ℕ → Bool) (dead : AreDead m drops) (formed : We
             refl,
             λ y w. (
               (refl, pushed t),
-              agrees_by next (ending_next ending) a' b' y (written m i) (pushed t)
+              agrees_by next (ending_next ending) a' b' y (registers_written m i) (pushed t)
                   (silent_wrote i y.raised a' b' (inl (try_silent m (form_of formed ending) t))) w,
             ),
           );
@@ -224,19 +224,19 @@ module _ (m : Mach) (drops : ℕ → Bool) (dead : AreDead m drops) (formed : We
         }
       where
         unchanged : (results : List Value) (e : File) →
-            put_all c.setting.end i.results results (clear (killed m i) a') ≡ Some e → Same next e b
+            put_all c.setting.end i.results results (clear_registers (killed m i) a') ≡ Some e → Same next e b
         unchanged results e t n u =
-            let p = put_both c.setting.end i.results results (clear (killed m i) a') (clear (killed m i) a') e t in
+            let p = put_both c.setting.end i.results results (clear_registers (killed m i) a') (clear_registers (killed m i) a') e t in
             p.others n
             (λ z. dead.dead i next (stands_of ending) g d (record { number = n; among = z; used = u }))
             ∙ not_cleared (killed m i) a' n (none_killed m drops dead i n g)
             ∙ ap (λ t. past_frame t a n) (pure_no_frame (pure_of i.op g))
             ∙ same n (lift m drops dead (stands_of ending) g d u)
 
-  abbrev Level : Place → List Instr → Around → Around → File → File → Type 0
+  abbrev Level : ActivationSetting → List Instr → Around → Around → File → File → Type 0
   Level c = level.Level c m q f (keeps_marks drops) refl Same
 
-  module _ (c : Place) where
+  module _ (c : ActivationSetting) where
     serves : (Suit : Around → Around → Type 0) → ((x y : Around) → x ≡ y → Suit x y) →
         level.Serves c m q f (keeps_marks drops) refl Same Suit
     serves Suit suits =
@@ -259,12 +259,12 @@ module _ (m : Mach) (drops : ℕ → Bool) (dead : AreDead m drops) (formed : We
             (left_there c Suit i next a b ending l.1 x vs e s k))
 
     does_at : (arguments : List Value) (memory : Memory) (doings : List Doing) (s : State) →
-        start c m arguments memory ≡ Some s → Begins c m q arguments memory doings s
+        mach_start c m arguments memory ≡ Some s → Begins c m q arguments memory doings s
     does_at =
         level.begins_at c m q refl
         (λ arguments memory a t n e proper.
-        level.follows_from c m q f (keeps_marks drops) refl Same serves a a (entered memory) (λ n u. refl) n t proper)
+        level.follows_from c m q f (keeps_marks drops) refl Same serves a a (entry_around memory) (λ n u. refl) n t proper)
 
   -- The function without its dead instructions does what it did.
-  pub does_dropped : Does m (dropped drops m)
+  pub does_dropped : MachSimulation m (dropped drops m)
   does_dropped = λ c arguments memory doings s e. does_at c arguments memory doings s e

@@ -5,32 +5,32 @@ use Rattle.std.specs.List.{Contains}
 use Rattle.std.proofs.lemmas.Bool.{both_ways}
 use Rattle.bs_words.proofs.Lists.{none_in, first_in, later_in, in_cons, head_same, tail_same, none_there}
 use Rattle.mach_ir.specs.Acts.{Target, On, At}
-use Rattle.mach_ir.specs.Formed.{HasPlace, place_here, place_below, HasHandler, handler_here, handler_below}
+use Rattle.mach_ir.specs.Formed.{LabelOccursIn, place_here, place_below, HasHandler, handler_here, handler_below}
 use Rattle.mach_ir.specs.Meaning.{after_label, from_handler, code_at, tries_at, tries_past}
 use Rattle.mach_ir.specs.Placed.{is_straight, AreStraight}
-use Rattle.mach_ir.specs.Walks.{Among, OneOf, targets, may_raise, Leads, goes, Raises, raises, Reached, by_step, by_raise, Writes, Live, read, on, aside, LiveAfter, after_step, LiveAcross, across_step, across_raise, InCode, in_args, in_results, further, Stands, here, below}
+use Rattle.mach_ir.specs.Walks.{AmongRegisters, OneOf, targets, may_raise, WalkStep, goes, Raises, raises, Reached, by_step, by_raise, Writes, Live, read, on, aside, LiveAfter, after_step, LiveAcross, across_step, across_raise, InCode, in_args, in_results, further, StandsAsInstr, here, below}
 use Rattle.mach_ir.specs.declared.reg.Reg.{Reg}
 use Rattle.mach_ir.specs.declared.mach.Instr.{Instr}
 use Rattle.mach_ir.specs.declared.mach.Mach.{Mach}
 use Rattle.mach_laws.specs.Expand.{expand, Ending}
 use Rattle.mach_laws.proofs.Places.{label_expand, handler_expand, tries_expand, ending_next, ending_label, ending_from_handler, stands_of, head_of, tail_of, straight_cons, straight_none, stands_in, contains_of}
 use Rattle.pass_rules.specs.Carried.{EndsInReturn, at_return, further as end_below}
-use Rattle.dead_rules.specs.Dropped.{may_go, without}
+use Rattle.dead_rules.specs.Dropped.{may_go, unless_dropped}
 use Rattle.dead_rules.proofs.Text.{pure_of, pure_on, pure_straight, label_stays, handler_stays, Fate, falls, remains, fate, keeps_marks}
 
 module _ (drops : ℕ → Bool) where
   abbrev pub f : ℕ → Instr → List Instr
-  f = without drops
+  f = unless_dropped drops
 
   -- ---- where an instruction that is left was
 
   pub record IsMain (j : Instr) (zs code : List Instr) : Type 0 where
     pub next : List Instr
-    pub stands : Stands j next code
+    pub stands : StandsAsInstr j next code
     pub same : zs ≡ expand f next
     pub kept : may_go j.op ≡ true → drops (length next) ≡ false
 
-  pub was_main : (code : List Instr) (j : Instr) (zs : List Instr) → Stands j zs (expand f code) → IsMain j zs code
+  pub was_main : (code : List Instr) (j : Instr) (zs : List Instr) → StandsAsInstr j zs (expand f code) → IsMain j zs code
   was_main [] j zs s = elim s [ ]
   was_main (i ∷ is) j zs s = by (fate drops i is) (λ t. was_main is j zs t)
     where
@@ -38,14 +38,14 @@ module _ (drops : ℕ → Bool) where
       more_of w = record { next = w.next; stands = below w.stands; same = w.same; kept = w.kept }
 
       at_head : {x : Instr} {ys : List Instr} → (may_go i.op ≡ true → drops (length is) ≡ false) → i ≡ x → ys ≡ expand f is →
-          Stands j zs (x ∷ ys) → (Stands j zs (expand f is) → IsMain j zs is) → IsMain j zs (i ∷ is)
+          StandsAsInstr j zs (x ∷ ys) → (StandsAsInstr j zs (expand f is) → IsMain j zs is) → IsMain j zs (i ∷ is)
       at_head k e h here again =
           subst (λ (x : Instr). IsMain x zs (i ∷ is)) e (record { next = is; stands = here; same = h; kept = k })
-      at_head k e h (below t) again = more_of (again (subst (Stands j zs) h t))
+      at_head k e h (below t) again = more_of (again (subst (StandsAsInstr j zs) h t))
 
-      by : Fate drops i is → (Stands j zs (expand f is) → IsMain j zs is) → IsMain j zs (i ∷ is)
-      by (falls g d e h) again = more_of (again (subst (Stands j zs) h s))
-      by (remains k e h) again = at_head k refl refl (subst (Stands j zs) h s) again
+      by : Fate drops i is → (StandsAsInstr j zs (expand f is) → IsMain j zs is) → IsMain j zs (i ∷ is)
+      by (falls g d e h) again = more_of (again (subst (StandsAsInstr j zs) h s))
+      by (remains k e h) again = at_head k refl refl (subst (StandsAsInstr j zs) h s) again
 
   pub contains_back : (code : List Instr) (i : Instr) → Contains (expand f code) i → Contains code i
   contains_back code i c = let s = stands_in (expand f code) i c in contains_of (was_main code i s.0 s.1).stands
@@ -78,17 +78,17 @@ module _ (drops : ℕ → Bool) where
           (⊎_elim (λ e. subst (Contains (j ∷ expand f is)) e (first_in j (expand f is)))
           (λ t. later_in j i (expand f is) (again t)) (in_cons j i is c))
 
-  pub place_left : {l : ℕ} {code : List Instr} → HasPlace l code → HasPlace l (expand f code)
+  pub place_left : {l : ℕ} {code : List Instr} → LabelOccursIn l code → LabelOccursIn l (expand f code)
   place_left {l} (place_here {i = i} {is = is} e) = by (fate drops i is)
     where
-      by : Fate drops i is → HasPlace l (expand f (i ∷ is))
+      by : Fate drops i is → LabelOccursIn l (expand f (i ∷ is))
       by (falls g d s h) = absurd (both_ways (may_go i.op) (label_stays l i.op e) g)
-      by (remains k s h) = subst (HasPlace l) (sym h) (place_here e)
+      by (remains k s h) = subst (LabelOccursIn l) (sym h) (place_here e)
   place_left {l} (place_below {i = i} {is = is} p) = by (fate drops i is) (place_left p)
     where
-      by : Fate drops i is → HasPlace l (expand f is) → HasPlace l (expand f (i ∷ is))
-      by (falls g d s h) t = subst (HasPlace l) (sym h) t
-      by (remains k s h) t = subst (HasPlace l) (sym h) (place_below t)
+      by : Fate drops i is → LabelOccursIn l (expand f is) → LabelOccursIn l (expand f (i ∷ is))
+      by (falls g d s h) t = subst (LabelOccursIn l) (sym h) t
+      by (remains k s h) t = subst (LabelOccursIn l) (sym h) (place_below t)
 
   pub handler_left : {l : ℕ} {code : List Instr} → HasHandler l code → HasHandler l (expand f code)
   handler_left {l} (handler_here {i = i} {is = is} e) = by (fate drops i is)
@@ -164,7 +164,7 @@ module _ (m : Mach) (drops : ℕ → Bool) where
   -- the second code is the first without instructions at its head, all of which go
   pub data Goes : List Instr → List Instr → Type 0 where
     none_goes : {rest : List Instr} → Goes rest rest
-    one_goes : {i : Instr} {next rest : List Instr} → Stands i next m.code → may_go i.op ≡ true →
+    one_goes : {i : Instr} {next rest : List Instr} → StandsAsInstr i next m.code → may_go i.op ≡ true →
         drops (length next) ≡ true → Goes next rest → Goes (i ∷ next) rest
 
   pub record IsFirst (rest : List Instr) (j : Instr) (zs : List Instr) : Type 0 where
@@ -241,11 +241,11 @@ module _ (m : Mach) (drops : ℕ → Bool) where
 
   -- What holds of code where what is left reads a register, and of code before that: with it the register is live.
   pub record GoesBack (n : ℕ) (Back : List Instr → Type 0) : Type 0 where
-    pub over : (i : Instr) (next : List Instr) → Stands i next m.code → may_go i.op ≡ true → drops (length next) ≡ true →
+    pub over : (i : Instr) (next : List Instr) → StandsAsInstr i next m.code → may_go i.op ≡ true → drops (length next) ≡ true →
         Back next → Back (i ∷ next)
-    pub at_read : (i : Instr) (next : List Instr) → Stands i next m.code → (may_go i.op ≡ true → drops (length next) ≡ false) →
-        Among n i.args → Back (i ∷ next)
-    pub at_step : (i : Instr) (next to : List Instr) → (Writes m i n → ⊥) → Leads m i next to → Back to → Back (i ∷ next)
+    pub at_read : (i : Instr) (next : List Instr) → StandsAsInstr i next m.code → (may_go i.op ≡ true → drops (length next) ≡ false) →
+        AmongRegisters n i.args → Back (i ∷ next)
+    pub at_step : (i : Instr) (next to : List Instr) → (Writes m i n → ⊥) → WalkStep m i next to → Back to → Back (i ∷ next)
     pub at_raise : (i : Instr) (next to : List Instr) → Raises m i next to → Back to → Back (i ∷ next)
     pub is_live : (rest : List Instr) → Back rest → Live m n rest
 

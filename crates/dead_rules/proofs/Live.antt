@@ -4,14 +4,14 @@ use Rattle.std.proofs.lemmas.Bool.{cases_Bool, both_ways}
 use Rattle.mach_ir.specs.Acts.{Target, On, At}
 use Rattle.mach_ir.specs.Meaning.{from_handler, code_at, killed}
 use Rattle.mach_ir.specs.Walks as walks
-use Rattle.mach_ir.specs.Walks.{Among, OneOf, targets, may_raise, goes, raises, Reached, at_entry, by_step, by_raise, Live, LiveAfter, LiveAcross, IsRegister, is_param, is_colour, is_in_code, Stands, Meets, at_write, at_params, Joined, one_way, other_way}
+use Rattle.mach_ir.specs.Walks.{AmongRegisters, OneOf, targets, may_raise, goes, raises, Reached, at_entry, by_step, by_raise, Live, LiveAfter, LiveAcross, IsRegister, is_param, is_colour, is_in_code, StandsAsInstr, Meets, at_write, at_params, Joined, one_way, other_way}
 use Rattle.mach_ir.specs.declared.reg.Reg.{Reg}
 use Rattle.mach_ir.specs.declared.mach.Instr.{Instr}
 use Rattle.mach_ir.specs.declared.mach.Mach.{Mach}
 use Rattle.mach_laws.specs.Expand.{expand, Ending, all}
 use Rattle.mach_laws.proofs.Places.{ending_next, ending_label, ending_from_handler, stands_of, ending_of}
 use Rattle.mach_laws.proofs.Among.{none_among, split_among}
-use Rattle.dead_rules.specs.Dropped.{may_go, IsUsed, read, read_for, on, aside, without, dropped, AreDead}
+use Rattle.dead_rules.specs.Dropped.{may_go, IsUsed, read, read_for, on, aside, unless_dropped, dropped, AreDead}
 use Rattle.dead_rules.proofs.Left as left
 use Rattle.dead_rules.proofs.Left.{code_back, tries_here, was_main, label_is, handler_is, first_kept, gone_reached, WasReached, reached_on, reached_aside, GoesBack}
 use Rattle.dead_rules.proofs.Text.{pure_of, pure_on, pure_only, pure_quiet, pure_kills, Fate, falls, remains, fate}
@@ -28,13 +28,13 @@ module _ (m : Mach) (drops : ℕ → Bool) (dead : AreDead m drops) where
   q = dropped drops m
 
   abbrev pub f : ℕ → Instr → List Instr
-  f = without drops
+  f = unless_dropped drops
 
   -- what goes writes nothing but dead results
-  pub none_killed : (i : Instr) (n : ℕ) → may_go i.op ≡ true → Among n (killed m i) → ⊥
-  none_killed i n e a = none_among (subst (Among n) (pure_kills m.colours i.results (pure_of i.op e)) a)
+  pub none_killed : (i : Instr) (n : ℕ) → may_go i.op ≡ true → AmongRegisters n (killed m i) → ⊥
+  none_killed i n e a = none_among (subst (AmongRegisters n) (pure_kills m.colours i.results (pure_of i.op e)) a)
 
-  pub lift : {n : ℕ} {i : Instr} {next : List Instr} → Stands i next m.code → may_go i.op ≡ true → drops (length next) ≡ true →
+  pub lift : {n : ℕ} {i : Instr} {next : List Instr} → StandsAsInstr i next m.code → may_go i.op ≡ true → drops (length next) ≡ true →
       IsUsed m n next → IsUsed m n (i ∷ next)
   lift {n} {i} {next} s e d u =
       on
@@ -45,7 +45,7 @@ module _ (m : Mach) (drops : ℕ → Bool) (dead : AreDead m drops) where
 
   -- it is read here by what is left
   pub used_by : {n : ℕ} {j : Instr} {next : List Instr} → Ending (j ∷ next) m.code →
-      (may_go j.op ≡ true → drops (length next) ≡ false) → Among n j.args → IsUsed m n (j ∷ next)
+      (may_go j.op ≡ true → drops (length next) ≡ false) → AmongRegisters n j.args → IsUsed m n (j ∷ next)
   used_by {n} {j} {next} ending kept a =
       ⊎_elim
       (λ e. let w = dead.wanted j next (stands_of ending) e (kept e) in read_for e a w.among w.used)

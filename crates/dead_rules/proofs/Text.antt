@@ -22,7 +22,7 @@ use Rattle.mach_ir.specs.declared.mach.MachOp.TheVariants as mach
 use Rattle.mach_ir.specs.declared.mach.Instr.{Instr}
 use Rattle.mach_laws.specs.Expand.{expand, KeepsMarks, NoLabel, no_label, not_labelled, NoHandler, no_handler, not_handled, bounds_try, NoBound, no_bound, not_bound}
 use Rattle.mach_laws.proofs.InPlace.{same_head, IsPure, is_pure}
-use Rattle.dead_rules.specs.Dropped.{may_go, without}
+use Rattle.dead_rules.specs.Dropped.{may_go, unless_dropped}
 
 -- ---- what may go
 
@@ -109,7 +109,7 @@ pure_labels i is p = by i.op i.args i.results p
 
 module _ (drops : ℕ → Bool) where
   abbrev pub f : ℕ → Instr → List Instr
-  f = without drops
+  f = unless_dropped drops
 
   -- ---- what becomes of an instruction
 
@@ -142,7 +142,7 @@ module _ (drops : ℕ → Bool) where
   kept_if P i true x y = x
   kept_if P i false x y = y
 
-  pub keeps_marks : KeepsMarks (without drops)
+  pub keeps_marks : KeepsMarks (unless_dropped drops)
   keeps_marks =
       record {
         mark = λ l n i e. (i, alone n i (label_stays l i.op e), refl);

@@ -2,13 +2,13 @@
 use Rattle.std.proofs.Common.{◌≡◌, ℕ, ◌≤◌, Bool, true, false, cond, ◌&&◌, inl, inr, List, [], ◌∷◌, ◌++◌, length, refl, sym, ap, ◌∙◌, subst, arith}
 use Rattle.std.proofs.Math.Nat.{le_trans}
 use Rattle.mach_ir.specs.Acts.{On}
-use Rattle.mach_ir.specs.Formed.{IsFormed, AreDistinct, HasPlace, HasHandler, WellFormed}
+use Rattle.mach_ir.specs.Formed.{IsFormedInstruction, AreDistinct, LabelOccursIn, HasHandler, WellFormed}
 use Rattle.mach_ir.specs.Keeps.{Keeps, NamesSymbol, NamesExternal}
 use Rattle.mach_ir.specs.Meaning.{after_label, from_handler}
 use Rattle.mach_ir.specs.Placed.{WellPlaced, AllocatesFresh}
 use Rattle.mach_ir.specs.Seats.{Seated}
 use Rattle.mach_ir.specs.Sizes.{operand_count, Size, HasSize}
-use Rattle.mach_ir.specs.Walks.{goes, after_step, Live, IsRegister, Stands, here, below}
+use Rattle.mach_ir.specs.Walks.{goes, after_step, Live, IsRegister, StandsAsInstr, here, below}
 use Rattle.mach_ir.specs.declared.reg.Reg.{Reg}
 use Rattle.mach_ir.specs.declared.mach.Instr.{Instr}
 use Rattle.mach_ir.specs.declared.mach.Mach.{Mach}
@@ -16,7 +16,7 @@ use Rattle.mach_laws.specs.Expand.{expand}
 use Rattle.mach_laws.proofs.Places.{ending_next, ending_of, stands_behind, stands_within, head_of, tail_of, straight_cons}
 use Rattle.pass_rules.proofs.Formed.{KeepsPlaces, stood}
 use Rattle.pass_rules.proofs.Formed as places
-use Rattle.dead_rules.specs.Dropped.{may_go, without, dropped, AreDead, IsDropped, IsLive, IsKept}
+use Rattle.dead_rules.specs.Dropped.{may_go, unless_dropped, dropped, AreDead, IsDropped, HasLiveResult, IsDropKept}
 use Rattle.dead_rules.proofs.Kept.{does_dropped}
 use Rattle.dead_rules.proofs.Left.{IsMain, was_main, contains_left, place_left, handler_left, tries_before, run_back, label_is, handler_is, contains_back}
 use Rattle.dead_rules.proofs.Live.{used_there, was_register, joined_back, no_addr_back}
@@ -27,9 +27,9 @@ module _ (m : Mach) (drops : ℕ → Bool) (dead : AreDead m drops) where
   q = dropped drops m
 
   abbrev f : ℕ → Instr → List Instr
-  f = without drops
+  f = unless_dropped drops
 
-  main : (j : Instr) (zs : List Instr) → Stands j zs q.code → IsMain drops j zs m.code
+  main : (j : Instr) (zs : List Instr) → StandsAsInstr j zs q.code → IsMain drops j zs m.code
   main j zs s = was_main drops m.code j zs s
 
   was : (r : Reg) → IsRegister q r → IsRegister m r
@@ -54,7 +54,7 @@ module _ (m : Mach) (drops : ℕ → Bool) (dead : AreDead m drops) where
               unread = λ j run t st a.
                   let v = main j (run ++ i ∷ zs) t in
                   let u = run_back drops v.next run i zs v.same (tail_of j run st) in
-                  let there : Stands j (u.run ++ i ∷ u.next) m.code = subst (λ xs. Stands j xs m.code) u.same v.stands in
+                  let there : StandsAsInstr j (u.run ++ i ∷ u.next) m.code = subst (λ xs. StandsAsInstr j xs m.code) u.same v.stands in
                   (known.fresh i u.next (stands_within there (stands_behind u.run i u.next)) blocks e r c).unread j u.run there
                   (straight_cons j u.run (head_of j run st) u.straight) a;
             };
@@ -90,7 +90,7 @@ module _ (m : Mach) (drops : ℕ → Bool) (dead : AreDead m drops) where
 
   -- ---- none is left
 
-  left_live : (i : Instr) (zs : List Instr) → Stands i zs q.code → may_go i.op ≡ true → IsLive q i zs
+  left_live : (i : Instr) (zs : List Instr) → StandsAsInstr i zs q.code → may_go i.op ≡ true → HasLiveResult q i zs
   left_live i zs s g =
       let w = main i zs s in
       let u = dead.wanted i w.next w.stands g (w.kept g) in
@@ -109,7 +109,7 @@ module _ (m : Mach) (drops : ℕ → Bool) (dead : AreDead m drops) where
       record {
         whence = λ i zs s.
             let w = main i zs s in
-            stood w.stands (tries_before drops w.next w.same) (λ l p. subst (HasPlace l) (sym w.same) (place_left drops p))
+            stood w.stands (tries_before drops w.next w.same) (λ l p. subst (LabelOccursIn l) (sym w.same) (place_left drops p))
             (λ l p. subst (HasHandler l) (sym w.same) (handler_left drops p));
         among = λ i c. inr (contains_back drops m.code i c);
         marks = λ i g e c. contains_left drops m.code i (mark_stays g i.op e) c;
@@ -125,7 +125,7 @@ module _ (m : Mach) (drops : ℕ → Bool) (dead : AreDead m drops) where
     still_formed : WellFormed q
     still_formed =
         places.still_formed m q.code formed keeps_places
-        (places.all_still m q.code (contains_back drops m.code) IsFormed formed.instrs)
+        (places.all_still m q.code (contains_back drops m.code) IsFormedInstruction formed.instrs)
         (places.all_still m q.code (contains_back drops m.code) (λ (i : Instr). AreDistinct i.results) formed.distinct)
 
     still_placed : WellPlaced q
@@ -144,7 +144,7 @@ module _ (m : Mach) (drops : ℕ → Bool) (dead : AreDead m drops) where
           addrs = no_addr_back m drops dead;
         }
 
-    pub kept_by : IsKept m (dropped drops m)
+    pub kept_by : IsDropKept m (dropped drops m)
     kept_by =
         record {
           keeps = still_keeps;
@@ -158,13 +158,13 @@ module _ (m : Mach) (drops : ℕ → Bool) (dead : AreDead m drops) where
           size = smaller;
         }
 
-pub dropped_kept : (m q : Mach) → WellFormed m → WellPlaced m → IsDropped m q → IsKept m q
-dropped_kept m q formed placed d = subst (IsKept m) (sym d.is) (kept_by m d.drops d.dead formed placed)
+pub dropped_kept : (m q : Mach) → WellFormed m → WellPlaced m → IsDropped m q → IsDropKept m q
+dropped_kept m q formed placed d = subst (IsDropKept m) (sym d.is) (kept_by m d.drops d.dead formed placed)
 
 -- ---- one result
 
 module _ (m : Mach) (x y : ℕ → Bool) (dx : AreDead m x) (dy : AreDead m y) where
-  one_block : (i : Instr) (next : List Instr) → Stands i next m.code → without x (length next) i ≡ without y (length next) i
+  one_block : (i : Instr) (next : List Instr) → StandsAsInstr i next m.code → unless_dropped x (length next) i ≡ unless_dropped y (length next) i
   one_block i next s = by (may_go i.op) (x (length next)) (y (length next)) refl refl refl
     where
       by : (g a b : Bool) → may_go i.op ≡ g → x (length next) ≡ a → y (length next) ≡ b → cond (g && a) [] (i ∷ []) ≡ cond (g && b) [] (i ∷ [])
@@ -174,12 +174,12 @@ module _ (m : Mach) (x y : ℕ → Bool) (dx : AreDead m x) (dy : AreDead m y) w
       by true true false e h k = absurd (dx.dead i next s e h (dy.wanted i next s e k))
       by true false true e h k = absurd (dy.dead i next s e k (dx.wanted i next s e h))
 
-  pub one_code : (code : List Instr) → ((i : Instr) (next : List Instr) → Stands i next code → Stands i next m.code) →
-      expand (without x) code ≡ expand (without y) code
+  pub one_code : (code : List Instr) → ((i : Instr) (next : List Instr) → StandsAsInstr i next code → StandsAsInstr i next m.code) →
+      expand (unless_dropped x) code ≡ expand (unless_dropped y) code
   one_code [] known = refl
   one_code (i ∷ is) known =
-      ap (λ xs. xs ++ expand (without x) is) (one_block i is (known i is here))
-      ∙ ap (λ xs. without y (length is) i ++ xs) (one_code is (λ j next s. known j next (below s)))
+      ap (λ xs. xs ++ expand (unless_dropped x) is) (one_block i is (known i is here))
+      ∙ ap (λ xs. unless_dropped y (length is) i ++ xs) (one_code is (λ j next s. known j next (below s)))
 
 -- Dropping makes one function of each.
 pub one_dropped : (m q k : Mach) → IsDropped m q → IsDropped m k → q ≡ k

@@ -5,7 +5,7 @@ use Rattle.mach_ir.specs.Keeps.{Keeps}
 use Rattle.mach_ir.specs.Placed.{WellPlaced, AllocatesFresh}
 use Rattle.mach_ir.specs.Seats.{Seated}
 use Rattle.mach_ir.specs.Sizes.{Size, HasSize}
-use Rattle.mach_ir.specs.Walks.{Among, Writes, Leads, Raises, LiveAfter, Stands, IsRegister}
+use Rattle.mach_ir.specs.Walks.{AmongRegisters, Writes, WalkStep, Raises, LiveAfter, StandsAsInstr, IsRegister}
 use Rattle.mach_ir.specs.declared.op.CopyKind.TheVariants as copy
 use Rattle.mach_ir.specs.declared.op.Op.TheVariants as op
 use Rattle.mach_ir.specs.declared.op.Pure.{Pure}
@@ -37,11 +37,11 @@ may_go (mach.Mark f) = false
 -- Some walk from this code on uses the register before it writes it. What may go uses what it reads
 -- only where its own result is used.
 pub data IsUsed (m : Mach) : ℕ → List Instr → Type 0 where
-  read : {n : ℕ} {i : Instr} {next : List Instr} → may_go i.op ≡ false → Among n i.args →
+  read : {n : ℕ} {i : Instr} {next : List Instr} → may_go i.op ≡ false → AmongRegisters n i.args →
       IsUsed m n (i ∷ next)
-  read_for : {n k : ℕ} {i : Instr} {next : List Instr} → may_go i.op ≡ true → Among n i.args →
-      Among k i.results → IsUsed m k next → IsUsed m n (i ∷ next)
-  on : {n : ℕ} {i : Instr} {next to : List Instr} → (Writes m i n → ⊥) → Leads m i next to →
+  read_for : {n k : ℕ} {i : Instr} {next : List Instr} → may_go i.op ≡ true → AmongRegisters n i.args →
+      AmongRegisters k i.results → IsUsed m k next → IsUsed m n (i ∷ next)
+  on : {n : ℕ} {i : Instr} {next to : List Instr} → (Writes m i n → ⊥) → WalkStep m i next to →
       IsUsed m n to → IsUsed m n (i ∷ next)
   aside : {n : ℕ} {i : Instr} {next to : List Instr} → Raises m i next to → IsUsed m n to →
       IsUsed m n (i ∷ next)
@@ -49,23 +49,23 @@ pub data IsUsed (m : Mach) : ℕ → List Instr → Type 0 where
 -- the result of an instruction, before this code, is used
 pub record HasUse (m : Mach) (i : Instr) (next : List Instr) : Type 0 where
   pub number : ℕ
-  pub among : Among number i.results
+  pub among : AmongRegisters number i.results
   pub used : IsUsed m number next
 
 -- an instruction, which so many come after, or none in its place
-abbrev pub without : (ℕ → Bool) → ℕ → Instr → List Instr
-without drops k i = cond (may_go i.op && drops k) [] (i ∷ [])
+abbrev pub unless_dropped : (ℕ → Bool) → ℕ → Instr → List Instr
+unless_dropped drops k i = cond (may_go i.op && drops k) [] (i ∷ [])
 
 -- The function without the instructions that may go and of which this is said, by how many come
 -- after them. All else is as it was.
 abbrev pub dropped : (ℕ → Bool) → Mach → Mach
-dropped drops m = record m { code = expand (without drops) m.code }
+dropped drops m = record m { code = expand (unless_dropped drops) m.code }
 
 -- exactly those go whose results nothing uses
 pub record AreDead (m : Mach) (drops : ℕ → Bool) : Type 0 where
-  pub dead : (i : Instr) (next : List Instr) → Stands i next m.code → may_go i.op ≡ true →
+  pub dead : (i : Instr) (next : List Instr) → StandsAsInstr i next m.code → may_go i.op ≡ true →
       drops (length next) ≡ true → HasUse m i next → ⊥
-  pub wanted : (i : Instr) (next : List Instr) → Stands i next m.code → may_go i.op ≡ true →
+  pub wanted : (i : Instr) (next : List Instr) → StandsAsInstr i next m.code → may_go i.op ≡ true →
       drops (length next) ≡ false → HasUse m i next
 
 -- The second is the first without exactly the instructions that only compute what nothing uses.
@@ -75,13 +75,13 @@ pub record IsDropped (m q : Mach) : Type 0 where
   pub is : q ≡ dropped drops m
 
 -- a result of it is live after it
-pub record IsLive (q : Mach) (i : Instr) (next : List Instr) : Type 0 where
+pub record HasLiveResult (q : Mach) (i : Instr) (next : List Instr) : Type 0 where
   pub number : ℕ
-  pub among : Among number i.results
+  pub among : AmongRegisters number i.results
   pub live : LiveAfter q number i next
 
 -- What a function without its dead instructions keeps.
-pub record IsKept (p q : Mach) : Type 0 where
+pub record IsDropKept (p q : Mach) : Type 0 where
   pub keeps : Keeps p q
   pub formed : WellFormed q
   pub placed : WellPlaced q
@@ -91,6 +91,6 @@ pub record IsKept (p q : Mach) : Type 0 where
   -- no register is new, and none gets a place
   pub registers : (r : Reg) → IsRegister q r → IsRegister p r
   -- what may go and is left has a result that is live after it
-  pub none_left : (i : Instr) (next : List Instr) → Stands i next q.code → may_go i.op ≡ true →
-      IsLive q i next
+  pub none_left : (i : Instr) (next : List Instr) → StandsAsInstr i next q.code → may_go i.op ≡ true →
+      HasLiveResult q i next
   pub size : (s : Size) → HasSize p s → HasSize q s

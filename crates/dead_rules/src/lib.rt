@@ -12,11 +12,11 @@ ghost use Rattle.std.specs.Prelude.{◌≡◌};
 ghost use Rattle.mach_ir.specs.Formed.{WellFormed};
 ghost use Rattle.mach_ir.specs.Placed.{WellPlaced};
 ghost use Rattle.mach_ir.specs.declared.mach.Mach.{Mach};
-ghost use Rattle.dead_rules.specs.Dropped.{IsDropped, IsKept};
+ghost use Rattle.dead_rules.specs.Dropped.{IsDropped, IsDropKept};
 
 /// Law: a function without its dead instructions is kept.
 pub fn what_is_dropped_is_kept()
-    ensures { (m q : Mach) → WellFormed m → WellPlaced m → IsDropped m q → IsKept m q }
+    ensures { (m q : Mach) → WellFormed m → WellPlaced m → IsDropped m q → IsDropKept m q }
 {}
 
 /// Law: dropping makes one function of each.

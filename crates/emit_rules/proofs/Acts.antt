@@ -6,7 +6,7 @@ use Rattle.bs_words.specs.declared.operators.IntOp.{IntOp}
 use Rattle.bs_words.specs.declared.operators.IntOp.TheVariants as operator
 use Rattle.bs_words.specs.declared.types.Loc.{Loc}
 use Rattle.bs_words.specs.declared.types.Loc.TheVariants as loc
-use Rattle.mach_ir.specs.Blocks.{bytes_of}
+use Rattle.mach_ir.specs.Blocks.{total_block_bytes}
 use Rattle.mach_ir.specs.Forms.{is_immediate_12}
 use Rattle.mach_ir.specs.declared.mach.Test.{Test}
 use Rattle.mach_ir.specs.declared.mach.Test.TheVariants as test
@@ -39,14 +39,14 @@ use Rattle.rv_pieces.specs.declared.piece.Piece.TheVariants as piece
 use Rattle.lin_laws.proofs.Forms.{same_loc_is}
 use Rattle.emit_rules.specs.Instructions.{low_12}
 use Rattle.rv_isa.specs.Registers.{register_at}
-use Rattle.emit_rules.specs.Constants.{is_word_32, constant_32, higher, constant_shifted, constant, lowered}
-use Rattle.emit_rules.specs.Slots.{stack_load, stack_store, slot_offset, first, second, register_of, fetched, target, copied}
+use Rattle.emit_rules.specs.Constants.{is_word_32, constant_32, upper_constant, constant_shifted, constant_pieces, bytes_taken_off}
+use Rattle.emit_rules.specs.Slots.{stack_load, stack_store, slot_offset, first_location, second, register_of, fetch_pieces, target, copy_pieces}
 use Rattle.emit_rules.specs.Operators.{compared, operated, compared_with, operated_with}
 use Rattle.emit_rules.specs.Tests.{right_register, right_words, signed_branch, unsigned_branch, test_words, test_branch, value_words}
 use Rattle.emit_rules.specs.Memory.{address_words}
-use Rattle.emit_rules.specs.Entry.{Frame, given_back}
+use Rattle.emit_rules.specs.Entry.{FrameLayout, frame_release}
 use Rattle.emit_rules.specs.Calls.{mark_of}
-use Rattle.emit_rules.specs.Emitted.{operator_part, op_part, flow_part, lin_part, part_of, descriptor, left_after, parts}
+use Rattle.emit_rules.specs.Emitted.{operator_part, op_part, flow_part, lin_part, part_of_line, descriptor, left_after, parts_of_lines}
 use Rattle.emit_rules.specs.Units.{is_branch}
 use Rattle.emit_rules.proofs.Units.{FallsTo, falls_here, falls_past, if_branch, branch_is_not_free, part_unless_free}
 use Rattle.mach_ir.specs.declared.op.CopyKind.{CopyKind}
@@ -85,11 +85,11 @@ word-acts r w = chosen (is_immediate_12 w) known known
 steps-acts : (n : ℕ) (r : Register) (w amount : ℕ) → Acts (constant_shifted n r w amount)
 steps-acts zero r w amount = before _ (word-acts r w)
 steps-acts (suc n) r w amount =
-    chosen (is_word_32 w) (before _ (word-acts r w)) (chosen (nat_eq (low_12 w) 0) (steps-acts n r (higher w) (amount + 12)) (before _ (steps-acts n r
-    (higher w) 12)))
+    chosen (is_word_32 w) (before _ (word-acts r w)) (chosen (nat_eq (low_12 w) 0) (steps-acts n r (upper_constant w) (amount + 12)) (before _ (steps-acts n r
+    (upper_constant w) 12)))
 
-constant-acts : (r : Register) (w : ℕ) → Acts (constant r w)
-unfolding constant
+constant-acts : (r : Register) (w : ℕ) → Acts (constant_pieces r w)
+unfolding constant_pieces
 constant-acts r w = steps-acts 3 r w 0
 
 stack_load-acts : (scratch to : Register) (offset : ℕ) → Acts (stack_load scratch to offset)
@@ -165,7 +165,7 @@ is-set : {m : Lin} {l : Loc} → IsLocation m l → IsSet l
 is-set (is_home h) = is-set-by h
 is-set {m} {l} (is_spare e) = subst IsSet (sym e) (set_register {n = 5})
 
-copied-acts : (t : ℕ) (from to : Loc) → IsSet from → IsSet to → Acts (copied t from to)
+copied-acts : (t : ℕ) (from to : Loc) → IsSet from → IsSet to → Acts (copy_pieces t from to)
 copied-acts t (loc.Slot j) to a b = before _ (stack_load-acts T2 (target to) (slot_offset t j))
 copied-acts t (loc.Machine n) (loc.Slot k) a b = stack_store-acts T2 (register_at n) (slot_offset t k)
 copied-acts t (loc.Machine n) (loc.Machine o) a b = known
@@ -173,7 +173,7 @@ copied-acts t (loc.Machine n) loc.Unset a b = elim b [ ]
 copied-acts t loc.Unset to a b = elim a [ ]
 
 moved-acts : (t : ℕ) (from to : Loc) (same : Bool) → same_loc from to ≡ same → (same ≡ true → ⊥) → IsSet from → IsSet to →
-    Acts (cond same [] (copied t from to))
+    Acts (cond same [] (copy_pieces t from to))
 moved-acts t from to true e apart a b = absurd (apart refl)
 moved-acts t from to false e apart a b = copied-acts t from to a b
 
@@ -216,50 +216,50 @@ flow-acts : (t : ℕ) (g : Flow) (args results : List Spot) → DoesMore (lin.Fl
 flow-acts t (flow.Label l) args results h = absurd h
 flow-acts t (flow.Jump l) args results h = acts_here refl
 flow-acts t (flow.Exit l) args results h = acts_here refl
-flow-acts t (flow.Branch f l) args results h = after (fetched t T1 (first args) ++ test_words t f args) (test-acts f args (register_of T1 (first args)) l)
-flow-acts t (flow.Switch ls) args results h = before _ (value-acts t (first args))
+flow-acts t (flow.Branch f l) args results h = after (fetch_pieces t T1 (first_location args) ++ test_words t f args) (test-acts f args (register_of T1 (first_location args)) l)
+flow-acts t (flow.Switch ls) args results h = before _ (value-acts t (first_location args))
 flow-acts t (flow.PushTrap l) args results h = acts_here refl
 flow-acts t flow.PopTrap args results h = known
 flow-acts t flow.EnterTrap args results h = absurd h
 
 operator-acts : (t : ℕ) (f : IntOp) (r : Right) (args results : List Spot) → Acts (operator_part t f r args results)
 operator-acts t f right.Register args results =
-    before _ (after (fetched t T1 (first args) ++ fetched t T2 (second args)) (operated-acts f (target (first results)) (register_of T1 (first args))
+    before _ (after (fetch_pieces t T1 (first_location args) ++ fetch_pieces t T2 (second args)) (operated-acts f (target (first_location results)) (register_of T1 (first_location args))
     (register_of T2 (second args))))
 operator-acts t f (right.Constant w) args results =
-    before _ (after (fetched t T1 (first args)) (operated_with-acts f (target (first results)) (register_of T1 (first args)) w))
+    before _ (after (fetch_pieces t T1 (first_location args)) (operated_with-acts f (target (first_location results)) (register_of T1 (first_location args)) w))
 
 -- a copy is from a set location to another one
 abbrev pub CopiesOther : Op → List Spot → List Spot → Type 0
-CopiesOther (op.Pure (pure.Copy kind)) args results = IsSet (first args) × IsSet (first results) × (same_loc (first args) (first results) ≡ true → ⊥)
+CopiesOther (op.Pure (pure.Copy kind)) args results = IsSet (first_location args) × IsSet (first_location results) × (same_loc (first_location args) (first_location results) ≡ true → ⊥)
 CopiesOther _ args results = Unit {0}
 
-op-acts : (t : ℕ) (f : Frame) (mark : List Piece) (g : Op) (args results : List Spot) → CopiesOther g args results → Acts (op_part t f mark g args results)
-op-acts t f mark (op.Pure (pure.Copy kind)) args results h = moved-acts t (first args) (first results) (same_loc (first args) (first results)) refl h.2 h.0 h.1
-op-acts t f mark (op.Pure (pure.Constant w)) args results h = before _ (constant-acts (target (first results)) w)
+op-acts : (t : ℕ) (f : FrameLayout) (mark : List Piece) (g : Op) (args results : List Spot) → CopiesOther g args results → Acts (op_part t f mark g args results)
+op-acts t f mark (op.Pure (pure.Copy kind)) args results h = moved-acts t (first_location args) (first_location results) (same_loc (first_location args) (first_location results)) refl h.2 h.0 h.1
+op-acts t f mark (op.Pure (pure.Constant w)) args results h = before _ (constant-acts (target (first_location results)) w)
 op-acts t f mark (op.Pure (pure.Symbol name)) args results h = acts_here refl
 op-acts t f mark (op.Pure (pure.Operator g r)) args results h = operator-acts t g r args results
 op-acts t f mark (op.Access (access.Load k offset)) args results h =
-    before _ (after (fetched t T1 (first args)) (after (address_words (register_of T1 (first args)) offset) known))
+    before _ (after (fetch_pieces t T1 (first_location args)) (after (address_words (register_of T1 (first_location args)) offset) known))
 op-acts t f mark (op.Access (access.Store k offset)) args results h =
-    after (fetched t T1 (first args) ++ address_words (register_of T1 (first args)) offset ++ fetched t T2 (second args)) known
-op-acts t f mark (op.Access (access.Alloc blocks)) args results h = before _ (before _ (after (lowered T1 S10 (bytes_of blocks)) known))
+    after (fetch_pieces t T1 (first_location args) ++ address_words (register_of T1 (first_location args)) offset ++ fetch_pieces t T2 (second args)) known
+op-acts t f mark (op.Access (access.Alloc blocks)) args results h = before _ (before _ (after (bytes_taken_off T1 S10 (total_block_bytes blocks)) known))
 op-acts t f mark (op.Calling (calling.Call (callee.Symbol name) result)) args results h = acts_here refl
-op-acts t f mark (op.Calling (calling.Call callee.Register result)) args results h = before _ (after (fetched t T1 (first args)) known)
-op-acts t f mark (op.Calling (calling.TailCall (callee.Symbol name) result)) args results h = after (given_back f) (acts_here refl)
-op-acts t f mark (op.Calling (calling.TailCall callee.Register result)) args results h = after (value_words t (first args) ++ given_back f) known
+op-acts t f mark (op.Calling (calling.Call callee.Register result)) args results h = before _ (after (fetch_pieces t T1 (first_location args)) known)
+op-acts t f mark (op.Calling (calling.TailCall (callee.Symbol name) result)) args results h = after (frame_release f) (acts_here refl)
+op-acts t f mark (op.Calling (calling.TailCall callee.Register result)) args results h = after (value_words t (first_location args) ++ frame_release f) known
 op-acts t f mark (op.Calling (calling.External row frame)) args results h = acts_here refl
-op-acts t f mark (op.Leaving (leaving.Checkbound r)) args results h = after (fetched t T1 (first args) ++ right_words t r args) known
+op-acts t f mark (op.Leaving (leaving.Checkbound r)) args results h = after (fetch_pieces t T1 (first_location args) ++ right_words t r args) known
 op-acts t f mark (op.Leaving leaving.Raise) args results h = known
-op-acts t f mark (op.Leaving leaving.Return) args results h = after (given_back f) known
+op-acts t f mark (op.Leaving leaving.Return) args results h = after (frame_release f) known
 
 abbrev pub ActsAt : LinOp → List Spot → List Spot → Type 0
 ActsAt (lin.Op g) args results = CopiesOther g args results
 ActsAt (lin.Flow g) args results = DoesMore (lin.Flow g)
 
 -- a part has an instruction
-pub part_acts : (t : ℕ) (f : Frame) (d : Option Descr) (g : LinOp) (args results : List Spot) → ActsAt g args results →
-    1 ≤ words_at_least (part_of t f d (record { op = g; args = args; results = results }))
+pub part_acts : (t : ℕ) (f : FrameLayout) (d : Option Descr) (g : LinOp) (args results : List Spot) → ActsAt g args results →
+    1 ≤ words_at_least (part_of_line t f d (record { op = g; args = args; results = results }))
 part_acts t f d (lin.Op g) args results h = acts-some (op-acts t f (mark_of d) g args results h)
 part_acts t f d (lin.Flow g) args results h = acts-some (flow-acts t g args results h)
 
@@ -271,8 +271,8 @@ copies_other m kind from to a b apart = (is-set a, is-set b, λ e. apart (is_sel
 
 -- ---- code after an exit that has no words
 
-module _ (traps : ℕ → ℕ) (f : Frame) where
-  branch_acts : (ds : List Descr) (i : Line) (next : List Line) → is_branch i.op ≡ true → Acts (parts traps f ds (i ∷ next))
+module _ (traps : ℕ → ℕ) (f : FrameLayout) where
+  branch_acts : (ds : List Descr) (i : Line) (next : List Line) → is_branch i.op ≡ true → Acts (parts_of_lines traps f ds (i ∷ next))
   branch_acts ds i next e =
       let t = traps (length next) in
       let d = descriptor (passes_frame i.op) ds in
@@ -280,9 +280,9 @@ module _ (traps : ℕ → ℕ) (f : Frame) where
       before _ (subst Acts (sym (part_unless_free t f d i next (branch_is_not_free i.op next e))) own)
 
   -- it has an instruction: its branch has
-  falls_acts : {l : ℕ} {code : List Line} (ds : List Descr) → FallsTo l code → Acts (parts traps f ds code)
+  falls_acts : {l : ℕ} {code : List Line} (ds : List Descr) → FallsTo l code → Acts (parts_of_lines traps f ds code)
   falls_acts ds (falls_here {i = i} {j = j} {rest = rest} has tests) = after _ (branch_acts (left_after (passes_frame i.op) ds) j rest tests)
   falls_acts ds (falls_past {i = i} other mark falls) = after _ (falls_acts (left_after (passes_frame i.op) ds) falls)
 
-  pub falls_act : (ds : List Descr) (l : ℕ) (code : List Line) → FallsTo l code → 1 ≤ words_at_least (parts traps f ds code)
+  pub falls_act : (ds : List Descr) (l : ℕ) (code : List Line) → FallsTo l code → 1 ≤ words_at_least (parts_of_lines traps f ds code)
   falls_act ds l code falls = acts-some (falls_acts ds falls)

@@ -1,7 +1,7 @@
 -- The descriptors are among the pieces as they are handed in, in their order.
 use Rattle.std.proofs.Common.{◌≡◌, ℕ, suc, Bool, true, false, cond, List, [], ◌∷◌, ◌++◌, length, Some, None, refl, sym, ◌∙◌, ap, append_assoc, arith}
 use Rattle.std.proofs.lemmas.Bool.{true≢false}
-use Rattle.mach_ir.specs.Blocks.{bytes_of}
+use Rattle.mach_ir.specs.Blocks.{total_block_bytes}
 use Rattle.mach_ir.specs.declared.op.Access.TheVariants as access
 use Rattle.mach_ir.specs.declared.op.Calling.TheVariants as calling
 use Rattle.mach_ir.specs.declared.op.Op.TheVariants as op
@@ -15,19 +15,19 @@ use Rattle.lin_ir.specs.declared.lin.Spot.{Spot}
 use Rattle.rv_pieces.specs.declared.piece.Piece.{Piece}
 use Rattle.rv_pieces.specs.declared.piece.Piece.TheVariants as piece
 use Rattle.emit_rules.specs.Calls.{call_words, external_words}
-use Rattle.emit_rules.specs.Emitted.{part_of, part_before, parts, descriptor, left_after, emitted}
-use Rattle.emit_rules.specs.Entry.{Frame, frame_of, entry}
+use Rattle.emit_rules.specs.Emitted.{part_of_line, part_before, parts_of_lines, descriptor, left_after, emitted}
+use Rattle.emit_rules.specs.Entry.{FrameLayout, frame_of, entry_pieces}
 use Rattle.emit_rules.specs.Memory.{reserved, addresses}
 use Rattle.rv_pieces.specs.Named.{mark_in, marks_in}
-use Rattle.lin_ir.specs.Descriptors.{frame_points}
-use Rattle.emit_rules.specs.Traversal.{Each, each_none, each_more, Allows}
+use Rattle.lin_ir.specs.Descriptors.{frame_point_count}
+use Rattle.emit_rules.specs.Traversal.{EachPiece, each_none, each_more, Allows}
 use Rattle.emit_rules.proofs.Traverse.{entry-in, part-in, before-in}
 use Rattle.emit_rules.proofs.Units.{free_passes_no_frame, part_by}
 
 abbrev pub NoMark : Piece → Type 0
 NoMark p = mark_in p ≡ []
 
-pub no-marks : {ps : List Piece} → Each NoMark ps → marks_in ps ≡ []
+pub no-marks : {ps : List Piece} → EachPiece NoMark ps → marks_in ps ≡ []
 no-marks each_none = refl
 no-marks (each_more {p} {ps} h hs) = rw h (no-marks hs)
 
@@ -51,7 +51,7 @@ allows-unmarked f = record {
 }
 
 -- with no descriptor a part has no mark
-pub part-unmarked : (t : ℕ) (f : Frame) (i : Line) → marks_in (part_of t f None i) ≡ []
+pub part-unmarked : (t : ℕ) (f : FrameLayout) (i : Line) → marks_in (part_of_line t f None i) ≡ []
 part-unmarked t f i = no-marks (part-in NoMark None t f i (allows-unmarked i.op))
 
 pub nil-first : {A : Type 0} (xs ys : List A) → xs ++ ys ≡ [] → xs ≡ []
@@ -78,15 +78,15 @@ one-last pre e h =
     marks-join pre (piece.Descriptor e ∷ []) ∙ ap (λ (x : List Descr). x ++ e ∷ []) a
 
 -- the part of a frame point has the mark of its descriptor
-part-marked : (t : ℕ) (f : Frame) (e : Descr) (g : LinOp) (args results : List Spot) → passes_frame g ≡ true →
-    marks_in (part_of t f (Some e) (record { op = g; args = args; results = results })) ≡ e ∷ []
+part-marked : (t : ℕ) (f : FrameLayout) (e : Descr) (g : LinOp) (args results : List Spot) → passes_frame g ≡ true →
+    marks_in (part_of_line t f (Some e) (record { op = g; args = args; results = results })) ≡ e ∷ []
 part-marked t f e (lin.Flow g) args results h = cc
 part-marked t f e (lin.Op (op.Pure g)) args results h = cc
 part-marked t f e (lin.Op (op.Leaving g)) args results h = cc
 part-marked t f e (lin.Op (op.Access (access.Load k offset))) args results h = cc
 part-marked t f e (lin.Op (op.Access (access.Store k offset))) args results h = cc
 part-marked t f e (lin.Op (op.Access (access.Alloc blocks))) args results h =
-    one-mark (reserved (bytes_of blocks)) (addresses t blocks results) e (part-unmarked t f (record {
+    one-mark (reserved (total_block_bytes blocks)) (addresses t blocks results) e (part-unmarked t f (record {
       op = lin.Op (op.Access (access.Alloc blocks));
       args =
           args;
@@ -99,38 +99,38 @@ part-marked t f e (lin.Op (op.Calling (calling.External row frame))) args result
     one-last (external_words row frame) e (part-unmarked t f (record { op = lin.Op (op.Calling (calling.External row frame)); args = args; results = results }))
 
 -- a frame point is no exit, and has its words
-before-marked : (t : ℕ) (f : Frame) (e : Descr) (i : Line) (next : List Line) → passes_frame i.op ≡ true →
+before-marked : (t : ℕ) (f : FrameLayout) (e : Descr) (i : Line) (next : List Line) → passes_frame i.op ≡ true →
     marks_in (part_before t f (Some e) i next) ≡ e ∷ []
 before-marked t f e i next h =
     part_by t f (Some e) i next (λ ps. marks_in ps ≡ e ∷ []) (λ free. absurd (true≢false (sym h ∙ free_passes_no_frame i.op next free)))
     (λ free. part-marked t f e i.op i.args i.results h)
 
-before-unmarked : (t : ℕ) (f : Frame) (i : Line) (next : List Line) → marks_in (part_before t f None i next) ≡ []
+before-unmarked : (t : ℕ) (f : FrameLayout) (i : Line) (next : List Line) → marks_in (part_before t f None i next) ≡ []
 before-unmarked t f i next = no-marks (before-in NoMark None t f i next (allows-unmarked i.op))
 
-module _ (f : Frame) (traps : ℕ → ℕ) where
-  marks-by : (i : Line) (next : List Line) (b : Bool) → passes_frame i.op ≡ b → ((ds : List Descr) → length ds ≡ frame_points next →
-      marks_in (parts traps f ds next) ≡ ds) →
-      (ds : List Descr) → length ds ≡ cond b (suc (frame_points next)) (frame_points next) →
-      marks_in (part_before (traps (length next)) f (descriptor b ds) i next ++ parts traps f (left_after b ds) next) ≡ ds
+module _ (f : FrameLayout) (traps : ℕ → ℕ) where
+  marks-by : (i : Line) (next : List Line) (b : Bool) → passes_frame i.op ≡ b → ((ds : List Descr) → length ds ≡ frame_point_count next →
+      marks_in (parts_of_lines traps f ds next) ≡ ds) →
+      (ds : List Descr) → length ds ≡ cond b (suc (frame_point_count next)) (frame_point_count next) →
+      marks_in (part_before (traps (length next)) f (descriptor b ds) i next ++ parts_of_lines traps f (left_after b ds) next) ≡ ds
   marks-by i next true p rest [] e = absurd (omega arith)
   marks-by i next true p rest (d ∷ ds) e =
-      marks-join (part_before (traps (length next)) f (Some d) i next) (parts traps f ds next)
-      ∙ ap (λ (x : List Descr). x ++ marks_in (parts traps f ds next)) (before-marked (traps (length next)) f d i next p)
+      marks-join (part_before (traps (length next)) f (Some d) i next) (parts_of_lines traps f ds next)
+      ∙ ap (λ (x : List Descr). x ++ marks_in (parts_of_lines traps f ds next)) (before-marked (traps (length next)) f d i next p)
       ∙ ap (λ (x : List Descr). d ∷ x) (rest ds (omega arith))
   marks-by i next false p rest ds e =
-      marks-join (part_before (traps (length next)) f None i next) (parts traps f ds next)
-      ∙ ap (λ (x : List Descr). x ++ marks_in (parts traps f ds next)) (before-unmarked (traps (length next)) f i next)
+      marks-join (part_before (traps (length next)) f None i next) (parts_of_lines traps f ds next)
+      ∙ ap (λ (x : List Descr). x ++ marks_in (parts_of_lines traps f ds next)) (before-unmarked (traps (length next)) f i next)
       ∙ rest ds e
 
-  parts-marks : (is : List Line) (ds : List Descr) → length ds ≡ frame_points is → marks_in (parts traps f ds is) ≡ ds
+  parts-marks : (is : List Line) (ds : List Descr) → length ds ≡ frame_point_count is → marks_in (parts_of_lines traps f ds is) ≡ ds
   parts-marks [] [] e = refl
   parts-marks [] (d ∷ ds) e = absurd (omega arith)
   parts-marks (i ∷ next) ds e = marks-by i next (passes_frame i.op) refl (parts-marks next) ds e
 
 -- a descriptor for each frame point: they are carried unchanged
-pub descriptors_are_carried : (m : Lin) (traps : ℕ → ℕ) (ds : List Descr) → length ds ≡ frame_points m.code → marks_in (emitted m traps ds).code ≡ ds
+pub descriptors_are_carried : (m : Lin) (traps : ℕ → ℕ) (ds : List Descr) → length ds ≡ frame_point_count m.code → marks_in (emitted m traps ds).code ≡ ds
 descriptors_are_carried m traps ds e =
-    marks-join (entry (frame_of m)) (parts traps (frame_of m) ds m.code)
-    ∙ ap (λ (x : List Descr). x ++ marks_in (parts traps (frame_of m) ds m.code)) (no-marks (entry-in NoMark (λ j h. refl) (frame_of m)))
+    marks-join (entry_pieces (frame_of m)) (parts_of_lines traps (frame_of m) ds m.code)
+    ∙ ap (λ (x : List Descr). x ++ marks_in (parts_of_lines traps (frame_of m) ds m.code)) (no-marks (entry-in NoMark (λ j h. refl) (frame_of m)))
     ∙ parts-marks (frame_of m) traps m.code ds e

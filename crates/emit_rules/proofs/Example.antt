@@ -19,7 +19,7 @@ use Rattle.rv_isa.specs.declared.instr.Instr.TheVariants as instr
 use Rattle.rv_isa.specs.declared.instr.LoadWidth.TheVariants as loads
 use Rattle.rv_isa.specs.declared.instr.StoreWidth.TheVariants as stores
 use Rattle.rv_pieces.specs.declared.piece.Piece.TheVariants as piece
-use Rattle.emit_rules.specs.Constants.{constant}
+use Rattle.emit_rules.specs.Constants.{constant_pieces}
 use Rattle.emit_rules.specs.Emitted.{emitted}
 
 allocates : Line
@@ -58,5 +58,5 @@ pub two_blocks_emitted : emitted two_blocks (λ left. 0) (at_first ∷ at_second
       -- ld ra, 8(sp); addi sp, sp, 16; jalr x0, 0(ra)
       ∷ piece.Known (instr.Load loads.Ld 1 2 8) ∷ piece.Known (instr.OpImm imm.Addi 2 2 16) ∷ piece.Known (instr.Jalr 0 1 0) ∷ [];
 }
-unfolding two_blocks allocates calls returns constant
+unfolding two_blocks allocates calls returns constant_pieces
 two_blocks_emitted = refl

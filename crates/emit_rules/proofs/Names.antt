@@ -7,7 +7,7 @@ use Rattle.mach_ir.specs.declared.op.External.{External}
 use Rattle.lin_ir.specs.Formed.{NamesLabel, label_of, labels_in, WellFormed}
 use Rattle.lin_ir.specs.Keeps.{IsNamedIn}
 use Rattle.lin_ir.specs.Meaning.{passes_frame}
-use Rattle.lin_ir.specs.Walks.{Stands, here, below}
+use Rattle.lin_ir.specs.Walks.{StandsAsLine, here, below}
 use Rattle.lin_ir.specs.declared.descr.Descr.{Descr}
 use Rattle.lin_ir.specs.declared.lin.Flow.TheVariants as flow
 use Rattle.lin_ir.specs.declared.lin.Line.{Line}
@@ -19,30 +19,30 @@ use Rattle.rv_isa.specs.Encoding.{InstrFits}
 use Rattle.rv_isa.specs.declared.instr.Instr.{Instr}
 use Rattle.rv_pieces.specs.declared.piece.Piece.{Piece}
 use Rattle.rv_pieces.specs.declared.piece.Piece.TheVariants as piece
-use Rattle.emit_rules.specs.Entry.{Frame, frame_of, entry}
-use Rattle.emit_rules.specs.Emitted.{part_of, part_before, parts, descriptor, left_after, emitted}
-use Rattle.rv_pieces.specs.Named.{PieceFits, label_named, symbol_named, external_named, place_in, places_in}
+use Rattle.emit_rules.specs.Entry.{FrameLayout, frame_of, entry_pieces}
+use Rattle.emit_rules.specs.Emitted.{part_of_line, part_before, parts_of_lines, descriptor, left_after, emitted}
+use Rattle.rv_pieces.specs.Named.{PieceFits, label_named, symbol_named, external_named, labels_of_piece, places_in}
 use Rattle.emit_rules.specs.Named.{IsLabelOf, IsExternalOf}
-use Rattle.emit_rules.specs.Traversal.{Each, each_none, each_more, Names, Allows}
+use Rattle.emit_rules.specs.Traversal.{EachPiece, each_none, each_more, Names, Allows}
 use Rattle.emit_rules.proofs.Units.{part_by, free_has_no_label}
 use Rattle.emit_rules.proofs.Traverse.{join, entry-in, part-in, before-in}
 
 -- ---- all lines
 
-module _ (P : Piece → Type 0) (f : Frame) (traps : ℕ → ℕ) where
+module _ (P : Piece → Type 0) (f : FrameLayout) (traps : ℕ → ℕ) where
   -- what each line allows holds of each piece of its part
-  pub parts-in : (is : List Line) (ds : List Descr) → ((i : Line) (next : List Line) → Stands i next is → (d : Option Descr) → Allows P i.op d) →
-      Each P (parts traps f ds is)
+  pub parts-in : (is : List Line) (ds : List Descr) → ((i : Line) (next : List Line) → StandsAsLine i next is → (d : Option Descr) → Allows P i.op d) →
+      EachPiece P (parts_of_lines traps f ds is)
   parts-in [] ds all = each_none
   parts-in (i ∷ next) ds all =
       join (before-in P (descriptor (passes_frame i.op) ds) (traps (length next)) f i next (all i next here (descriptor (passes_frame i.op) ds)))
       (parts-in next (left_after (passes_frame i.op) ds) (λ j after s d. all j after (below s) d))
 
 pub emitted-in : (P : Piece → Type 0) (m : Lin) (traps : ℕ → ℕ) (ds : List Descr) → ((j : Instr) → InstrFits j → P (piece.Known j)) →
-    ((i : Line) (next : List Line) → Stands i next m.code → (d : Option Descr) → Allows P i.op d) → Each P (emitted m traps ds).code
+    ((i : Line) (next : List Line) → StandsAsLine i next m.code → (d : Option Descr) → Allows P i.op d) → EachPiece P (emitted m traps ds).code
 emitted-in P m traps ds known all = join (entry-in P known (frame_of m)) (parts-in P (frame_of m) traps m.code ds all)
 
-pub stands-contains : {i : Line} {next : List Line} (code : List Line) → Stands i next code → Contains code i
+pub stands-contains : {i : Line} {next : List Line} (code : List Line) → StandsAsLine i next code → Contains code i
 stands-contains {i} [] s = elim s [ ]
 stands-contains {i} (j ∷ is) here = (0, omega arith, refl)
 stands-contains {i} (j ∷ is) (below s) = Contains-append_right (j ∷ []) is i (stands-contains is s)
@@ -50,7 +50,7 @@ stands-contains {i} (j ∷ is) (below s) = Contains-append_right (j ∷ []) is i
 -- ---- numbers
 
 -- the numbers of each instruction fit their fields
-pub numbers_fit : (m : Lin) (traps : ℕ → ℕ) (ds : List Descr) → Each PieceFits (emitted m traps ds).code
+pub numbers_fit : (m : Lin) (traps : ℕ → ℕ) (ds : List Descr) → EachPiece PieceFits (emitted m traps ds).code
 numbers_fit m traps ds = emitted-in PieceFits m traps ds (λ j h. h) (λ i next s d. record {
   known = λ j h. h;
   place = λ l e. tt;
@@ -74,7 +74,7 @@ label-is : (m : Lin) (k l : ℕ) → IsLabelOf m k → Some k ≡ Some l → IsL
 label-is m k l is e = let same : k ≡ l = cc in let Q : ℕ → Type 0 = λ n. IsLabelOf m n in subst Q same is
 
 -- each label that a piece names is one that a line names
-pub labels_are_named : (m : Lin) (traps : ℕ → ℕ) (ds : List Descr) → Each (LabelIn m) (emitted m traps ds).code
+pub labels_are_named : (m : Lin) (traps : ℕ → ℕ) (ds : List Descr) → EachPiece (LabelIn m) (emitted m traps ds).code
 labels_are_named m traps ds = emitted-in (LabelIn m) m traps ds (λ j h l e. cc) (λ i next s d.
     let of : (k : ℕ) → NamesLabel k i.op → (l : ℕ) → Some k ≡ Some l → IsLabelOf m l =
     λ k n l e. label-is m k l (record { line = i; next = next; stands = s; named = n }) e in
@@ -101,7 +101,7 @@ symbol-is : (m : Lin) (a b : List ℕ) → IsNamedIn (NamesSymbol a) m → Some 
 symbol-is m a b is e = let same : a ≡ b = cc in let Q : List ℕ → Type 0 = λ n. IsNamedIn (NamesSymbol n) m in subst Q same is
 
 -- each symbol that a piece names is one that the function names
-pub symbols_are_named : (m : Lin) (traps : ℕ → ℕ) (ds : List Descr) → Each (SymbolIn m) (emitted m traps ds).code
+pub symbols_are_named : (m : Lin) (traps : ℕ → ℕ) (ds : List Descr) → EachPiece (SymbolIn m) (emitted m traps ds).code
 symbols_are_named m traps ds = emitted-in (SymbolIn m) m traps ds (λ j h l e. cc) (λ i next s d.
     let of : (a : List ℕ) → Names a i.op → (b : List ℕ) → Some a ≡ Some b → IsNamedIn (NamesSymbol b) m =
     λ a n b e. symbol-is m a b (record { line = i; among = stands-contains m.code s; op = n.op; is = n.is; named = n.named }) e in
@@ -126,7 +126,7 @@ external-is : (m : Lin) (a b : External) → IsExternalOf m a → Some a ≡ Som
 external-is m a b is e = let same : a ≡ b = cc in let Q : External → Type 0 = λ n. IsExternalOf m n in subst Q same is
 
 -- each external call that a piece names is one of the function, by its row
-pub externals_are_named : (m : Lin) (traps : ℕ → ℕ) (ds : List Descr) → Each (ExternalIn m) (emitted m traps ds).code
+pub externals_are_named : (m : Lin) (traps : ℕ → ℕ) (ds : List Descr) → EachPiece (ExternalIn m) (emitted m traps ds).code
 externals_are_named m traps ds = emitted-in (ExternalIn m) m traps ds (λ j h l e. cc) (λ i next s d. record {
   known = λ j h l e. cc;
   place = λ k is l e. cc;
@@ -145,15 +145,15 @@ externals_are_named m traps ds = emitted-in (ExternalIn m) m traps ds (λ j h l 
 -- ---- places of labels
 
 abbrev NoPlace : Piece → Type 0
-NoPlace p = place_in p ≡ []
+NoPlace p = labels_of_piece p ≡ []
 
-no-places : {ps : List Piece} → Each NoPlace ps → places_in ps ≡ []
+no-places : {ps : List Piece} → EachPiece NoPlace ps → places_in ps ≡ []
 no-places each_none = refl
 no-places (each_more {p} {ps} h hs) = rw h (no-places hs)
 
 places-join : (xs ys : List Piece) → places_in (xs ++ ys) ≡ places_in xs ++ places_in ys
 places-join [] ys = refl
-places-join (x ∷ xs) ys = ap (λ (t : List ℕ). place_in x ++ t) (places-join xs ys) ∙ sym (append_assoc (place_in x) (places_in xs) (places_in ys))
+places-join (x ∷ xs) ys = ap (λ (t : List ℕ). labels_of_piece x ++ t) (places-join xs ys) ∙ sym (append_assoc (labels_of_piece x) (places_in xs) (places_in ys))
 
 allows-none : (f : LinOp) (d : Option Descr) → label_of f ≡ [] → Allows NoPlace f d
 allows-none f d none = record {
@@ -170,11 +170,11 @@ allows-none f d none = record {
   mark = λ e is. refl;
 }
 
-places-part : (t : ℕ) (f : Frame) (d : Option Descr) (i : Line) → label_of i.op ≡ [] → places_in (part_of t f d i) ≡ label_of i.op
+places-part : (t : ℕ) (f : FrameLayout) (d : Option Descr) (i : Line) → label_of i.op ≡ [] → places_in (part_of_line t f d i) ≡ label_of i.op
 places-part t f d i none = no-places (part-in NoPlace d t f i (allows-none i.op d none)) ∙ sym none
 
-places-of : (t : ℕ) (f : Frame) (d : Option Descr) (g : LinOp) (args results : List Spot) →
-    places_in (part_of t f d (record { op = g; args = args; results = results })) ≡ label_of g
+places-of : (t : ℕ) (f : FrameLayout) (d : Option Descr) (g : LinOp) (args results : List Spot) →
+    places_in (part_of_line t f d (record { op = g; args = args; results = results })) ≡ label_of g
 places-of t f d (lin.Op g) args results = places-part t f d (record { op = lin.Op g; args = args; results = results }) refl
 places-of t f d (lin.Flow (flow.Label l)) args results = refl
 places-of t f d (lin.Flow (flow.Jump l)) args results = places-part t f d (record { op = lin.Flow (flow.Jump l); args = args; results = results }) refl
@@ -185,23 +185,23 @@ places-of t f d (lin.Flow (flow.PushTrap l)) args results = places-part t f d (r
 places-of t f d (lin.Flow flow.PopTrap) args results = places-part t f d (record { op = lin.Flow flow.PopTrap; args = args; results = results }) refl
 places-of t f d (lin.Flow flow.EnterTrap) args results = places-part t f d (record { op = lin.Flow flow.EnterTrap; args = args; results = results }) refl
 
-places-before : (t : ℕ) (f : Frame) (d : Option Descr) (i : Line) (next : List Line) → places_in (part_before t f d i next) ≡ label_of i.op
+places-before : (t : ℕ) (f : FrameLayout) (d : Option Descr) (i : Line) (next : List Line) → places_in (part_before t f d i next) ≡ label_of i.op
 places-before t f d i next =
     part_by t f d i next (λ ps. places_in ps ≡ label_of i.op) (λ e. sym (free_has_no_label i.op next e)) (λ e. places-of t f d i.op i.args i.results)
 
-places-parts : (f : Frame) (traps : ℕ → ℕ) (ds : List Descr) (is : List Line) → places_in (parts traps f ds is) ≡ labels_in is
+places-parts : (f : FrameLayout) (traps : ℕ → ℕ) (ds : List Descr) (is : List Line) → places_in (parts_of_lines traps f ds is) ≡ labels_in is
 places-parts f traps ds [] = refl
 places-parts f traps ds (i ∷ next) =
     let d : Option Descr = descriptor (passes_frame i.op) ds in
-    places-join (part_before (traps (length next)) f d i next) (parts traps f (left_after (passes_frame i.op) ds) next)
-    ∙ ap (λ (x : List ℕ). x ++ places_in (parts traps f (left_after (passes_frame i.op) ds) next)) (places-before (traps (length next)) f d i next)
+    places-join (part_before (traps (length next)) f d i next) (parts_of_lines traps f (left_after (passes_frame i.op) ds) next)
+    ∙ ap (λ (x : List ℕ). x ++ places_in (parts_of_lines traps f (left_after (passes_frame i.op) ds) next)) (places-before (traps (length next)) f d i next)
     ∙ ap (λ (x : List ℕ). label_of i.op ++ x) (places-parts f traps (left_after (passes_frame i.op) ds) next)
 
 -- the places among the pieces are the labels of the lines, in order
 pub places_are_labels : (m : Lin) (traps : ℕ → ℕ) (ds : List Descr) → places_in (emitted m traps ds).code ≡ labels_in m.code
 places_are_labels m traps ds =
-    places-join (entry (frame_of m)) (parts traps (frame_of m) ds m.code)
-    ∙ ap (λ (x : List ℕ). x ++ places_in (parts traps (frame_of m) ds m.code)) (no-places (entry-in NoPlace (λ j h. refl) (frame_of m)))
+    places-join (entry_pieces (frame_of m)) (parts_of_lines traps (frame_of m) ds m.code)
+    ∙ ap (λ (x : List ℕ). x ++ places_in (parts_of_lines traps (frame_of m) ds m.code)) (no-places (entry-in NoPlace (λ j h. refl) (frame_of m)))
     ∙ places-parts (frame_of m) traps ds m.code
 
 -- in a well-formed function each label that a piece names has a place

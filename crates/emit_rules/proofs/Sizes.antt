@@ -7,7 +7,7 @@ use Rattle.bs_words.specs.declared.operators.IntOp.TheVariants as operator
 use Rattle.bs_words.specs.declared.types.Chunk.{Chunk}
 use Rattle.bs_words.specs.declared.types.Loc.{Loc}
 use Rattle.bs_words.specs.declared.types.Loc.TheVariants as loc
-use Rattle.mach_ir.specs.Blocks.{bytes_of}
+use Rattle.mach_ir.specs.Blocks.{total_block_bytes}
 use Rattle.mach_ir.specs.Forms.{is_immediate_12}
 use Rattle.mach_ir.specs.declared.blocks.NewBlock.{NewBlock}
 use Rattle.mach_ir.specs.declared.mach.Test.{Test}
@@ -45,21 +45,21 @@ use Rattle.rv_pieces.specs.declared.piece.Piece.{Piece}
 use Rattle.rv_pieces.specs.declared.piece.Piece.TheVariants as piece
 use Rattle.emit_rules.specs.Instructions.{low_12}
 use Rattle.rv_isa.specs.Registers.{register_at}
-use Rattle.emit_rules.specs.Constants.{is_word_32, lower_part, constant_32, higher, shifted, constant_shifted, constant, sum_to, lowered}
-use Rattle.emit_rules.specs.Slots.{stack_load, stack_store, slot_offset, first, second, register_of, fetched, target, kept, copied, moved}
+use Rattle.emit_rules.specs.Constants.{is_word_32, lower_part, constant_32, upper_constant, shifted, constant_shifted, constant_pieces, sum_to, bytes_taken_off}
+use Rattle.emit_rules.specs.Slots.{stack_load, stack_store, slot_offset, first_location, second, register_of, fetch_pieces, target, keep_pieces, copy_pieces, move_pieces}
 use Rattle.emit_rules.specs.Operators.{compared, operated, compared_with, operated_with}
 use Rattle.emit_rules.specs.Tests.{constant_words, right_register, right_words, signed_branch, unsigned_branch, test_words, test_branch, branch_part, value_words, tests_in_turn, table_of_jumps, switch_part}
 use Rattle.emit_rules.specs.Memory.{address_words, load_from, load_part, store_part, ask, reserved, addresses, alloc_part}
-use Rattle.emit_rules.specs.Entry.{Frame, restored, return_offset, taken, entry, given_back}
+use Rattle.emit_rules.specs.Entry.{FrameLayout, restored, return_offset, frame_allocation, entry_pieces, frame_release}
 use Rattle.emit_rules.specs.Calls.{mark_of, external_service}
 use Rattle.emit_rules.specs.Traps.{raise_words, check_part}
-use Rattle.emit_rules.specs.Emitted.{operator_part, pure_part, access_part, calling_part, leaving_part, op_part, flow_part, part_of}
+use Rattle.emit_rules.specs.Emitted.{operator_part, pure_part, access_part, calling_part, leaving_part, op_part, flow_part, part_of_line}
 use Rattle.lin_ir.specs.declared.lin.Lin.{Lin}
 use Rattle.lin_ir.specs.Meaning.{passes_frame}
 use Rattle.emit_rules.specs.Entry.{frame_of}
-use Rattle.emit_rules.specs.Emitted.{part_before, parts, descriptor, left_after, emitted}
+use Rattle.emit_rules.specs.Emitted.{part_before, parts_of_lines, descriptor, left_after, emitted}
 use Rattle.emit_rules.proofs.Units.{part_by}
-use Rattle.emit_rules.specs.Sizes.{words_at_most, indexes_of, line_bound, lines_bound}
+use Rattle.emit_rules.specs.Sizes.{words_at_most, switch_index_count, line_bound, lines_bound}
 
 pub record Short (n : ℕ) (ps : List Piece) : Type 0 where
   pub fits : words_at_most ps ≤ n
@@ -112,24 +112,24 @@ shifted_0-in r w amount = join (constant_32-in r w) (shifted-in r amount)
 shifted_1-in : (r : Register) (w amount : ℕ) → Short 5 (constant_shifted 1 r w amount)
 shifted_1-in r w amount =
     chosen (is_word_32 w) (wide 2 (join (constant_32-in r w) (shifted-in r amount)))
-    (chosen (nat_eq (low_12 w) 0) (wide 2 (shifted_0-in r (higher w) (amount + 12))) (join (shifted_0-in r (higher w) 12) (put (shifted-in r amount))))
+    (chosen (nat_eq (low_12 w) 0) (wide 2 (shifted_0-in r (upper_constant w) (amount + 12))) (join (shifted_0-in r (upper_constant w) 12) (put (shifted-in r amount))))
 
 shifted_2-in : (r : Register) (w amount : ℕ) → Short 7 (constant_shifted 2 r w amount)
 shifted_2-in r w amount =
     chosen (is_word_32 w) (wide 4 (join (constant_32-in r w) (shifted-in r amount)))
-    (chosen (nat_eq (low_12 w) 0) (wide 2 (shifted_1-in r (higher w) (amount + 12))) (join (shifted_1-in r (higher w) 12) (put (shifted-in r amount))))
+    (chosen (nat_eq (low_12 w) 0) (wide 2 (shifted_1-in r (upper_constant w) (amount + 12))) (join (shifted_1-in r (upper_constant w) 12) (put (shifted-in r amount))))
 
 -- a constant has at most nine words
-pub constant-in : (r : Register) (w : ℕ) → Short 9 (constant r w)
-unfolding constant
+pub constant-in : (r : Register) (w : ℕ) → Short 9 (constant_pieces r w)
+unfolding constant_pieces
 constant-in r w =
     chosen (is_word_32 w) (wide 6 (join (constant_32-in r w) (shifted-in r 0)))
-    (chosen (nat_eq (low_12 w) 0) (wide 2 (shifted_2-in r (higher w) 12)) (join (shifted_2-in r (higher w) 12) (put (shifted-in r 0))))
+    (chosen (nat_eq (low_12 w) 0) (wide 2 (shifted_2-in r (upper_constant w) 12)) (join (shifted_2-in r (upper_constant w) 12) (put (shifted-in r 0))))
 
 sum_to-in : (scratch to from : Register) (n : ℕ) → Short 10 (sum_to scratch to from n)
 sum_to-in scratch to from n = chosen (nat_lt n 2048) (wide 9 one) (join (constant-in scratch n) one)
 
-lowered-in : (scratch r : Register) (n : ℕ) → Short 10 (lowered scratch r n)
+lowered-in : (scratch r : Register) (n : ℕ) → Short 10 (bytes_taken_off scratch r n)
 lowered-in scratch r n = chosen (nat_le n 2048) (wide 9 one) (join (constant-in scratch n) one)
 
 stack_load-in : (scratch to : Register) (offset : ℕ) → Short 3 (stack_load scratch to offset)
@@ -138,24 +138,24 @@ stack_load-in scratch to offset = chosen (nat_lt offset 2048) (wide 2 one) (put 
 stack_store-in : (scratch from : Register) (offset : ℕ) → Short 3 (stack_store scratch from offset)
 stack_store-in scratch from offset = chosen (nat_lt offset 2048) (wide 2 one) (put (put one))
 
-fetched-in : (t : ℕ) (scratch : Register) (l : Loc) → Short 3 (fetched t scratch l)
+fetched-in : (t : ℕ) (scratch : Register) (l : Loc) → Short 3 (fetch_pieces t scratch l)
 fetched-in t scratch (loc.Machine n) = wide 3 none
 fetched-in t scratch (loc.Slot k) = stack_load-in scratch scratch (slot_offset t k)
 fetched-in t scratch loc.Unset = wide 3 none
 
-kept-in : (t : ℕ) (l : Loc) → Short 3 (kept t l)
+kept-in : (t : ℕ) (l : Loc) → Short 3 (keep_pieces t l)
 kept-in t (loc.Machine n) = wide 3 none
 kept-in t (loc.Slot k) = stack_store-in T2 T1 (slot_offset t k)
 kept-in t loc.Unset = wide 3 none
 
-copied-in : (t : ℕ) (from to : Loc) → Short 6 (copied t from to)
+copied-in : (t : ℕ) (from to : Loc) → Short 6 (copy_pieces t from to)
 copied-in t (loc.Slot j) to = join (stack_load-in T2 (target to) (slot_offset t j)) (kept-in t to)
 copied-in t (loc.Machine n) (loc.Slot k) = wide 3 (stack_store-in T2 (register_at n) (slot_offset t k))
 copied-in t (loc.Machine n) (loc.Machine o) = wide 5 one
 copied-in t (loc.Machine n) loc.Unset = wide 6 none
 copied-in t loc.Unset to = wide 6 none
 
-moved-in : (t : ℕ) (from to : Loc) → Short 6 (moved t from to)
+moved-in : (t : ℕ) (from to : Loc) → Short 6 (move_pieces t from to)
 moved-in t from to = chosen (same_loc from to) (wide 6 none) (copied-in t from to)
 
 -- ---- operators
@@ -214,11 +214,11 @@ operated_with-in (operator.CmpU f) to a w = compared_with-in imm.Sltiu alu.Sltu 
 
 operator_part-in : (t : ℕ) (f : IntOp) (r : Right) (args results : List Spot) → Short 17 (operator_part t f r args results)
 operator_part-in t f right.Register args results =
-    wide 6 (join (join (join (fetched-in t T1 (first args)) (fetched-in t T2 (second args))) (operated-in f (target (first results)) (register_of T1
-    (first args)) (register_of T2 (second args))))
-    (kept-in t (first results)))
+    wide 6 (join (join (join (fetched-in t T1 (first_location args)) (fetched-in t T2 (second args))) (operated-in f (target (first_location results)) (register_of T1
+    (first_location args)) (register_of T2 (second args))))
+    (kept-in t (first_location results)))
 operator_part-in t f (right.Constant w) args results =
-    join (join (fetched-in t T1 (first args)) (operated_with-in f (target (first results)) (register_of T1 (first args)) w)) (kept-in t (first results))
+    join (join (fetched-in t T1 (first_location args)) (operated_with-in f (target (first_location results)) (register_of T1 (first_location args)) w)) (kept-in t (first_location results))
 
 -- ---- tests
 
@@ -266,7 +266,7 @@ test_branch-in (test.Signed f r) args a l = signed_branch-in f a (right_register
 test_branch-in (test.Unsigned f r) args a l = unsigned_branch-in f a (right_register r args) l
 
 branch_part-in : (t : ℕ) (f : Test) (l : ℕ) (args : List Spot) → Short 15 (branch_part t f l args)
-branch_part-in t f l args = join (join (fetched-in t T1 (first args)) (test_words-in t f args)) (test_branch-in f args (register_of T1 (first args)) l)
+branch_part-in t f l args = join (join (fetched-in t T1 (first_location args)) (test_words-in t f args)) (test_branch-in f args (register_of T1 (first_location args)) l)
 
 tests_in_turn-in : (ls : List ℕ) → Short (4 * length ls) (tests_in_turn ls)
 tests_in_turn-in [] = none
@@ -286,7 +286,7 @@ table-in ls = let h : words_at_most (map piece.Row ls) ≤ 4 * length ls = (rows
 
 switch_part-in : (t : ℕ) (ls : List ℕ) (args : List Spot) → Short (3 + (4 + 4 * length ls)) (switch_part t ls args)
 switch_part-in t ls args =
-    join (value_words-in t (first args)) (chosen (nat_le (length ls) 4) (within (tests_in_turn-in ls) (omega arith)) (table-in ls))
+    join (value_words-in t (first_location args)) (chosen (nat_le (length ls) 4) (within (tests_in_turn-in ls) (omega arith)) (table-in ls))
 
 -- ---- memory
 
@@ -298,11 +298,11 @@ load_from-in k offset base to = join (address_words-in base offset) one
 
 load_part-in : (t : ℕ) (k : Chunk) (offset : ℕ) (args results : List Spot) → Short 17 (load_part t k offset args results)
 load_part-in t k offset args results =
-    join (join (fetched-in t T1 (first args)) (load_from-in k offset (register_of T1 (first args)) (target (first results)))) (kept-in t (first results))
+    join (join (fetched-in t T1 (first_location args)) (load_from-in k offset (register_of T1 (first_location args)) (target (first_location results)))) (kept-in t (first_location results))
 
 store_part-in : (t : ℕ) (k : Chunk) (offset : ℕ) (args : List Spot) → Short 17 (store_part t k offset args)
 store_part-in t k offset args =
-    join (join (join (fetched-in t T1 (first args)) (address_words-in (register_of T1 (first args)) offset)) (fetched-in t T2 (second args))) one
+    join (join (join (fetched-in t T1 (first_location args)) (address_words-in (register_of T1 (first_location args)) offset)) (fetched-in t T2 (second args))) one
 
 ask-in : (bytes : ℕ) → Short 19 (ask bytes)
 ask-in bytes = join (join (constant-in T0 bytes) (constant-in T2 3)) one
@@ -314,7 +314,7 @@ addresses-in : (t : ℕ) (blocks : List NewBlock) (results : List Spot) → Shor
 addresses-in t [] results = record { fits = omega arith }
 addresses-in t (b ∷ blocks) [] = none
 addresses-in t (b ∷ blocks) (s ∷ results) =
-    within (join (join (addresses-in t blocks results) (sum_to-in T1 (target s.loc) S10 (bytes_of blocks + 8))) (kept-in t s.loc)) (omega arith)
+    within (join (join (addresses-in t blocks results) (sum_to-in T1 (target s.loc) S10 (total_block_bytes blocks + 8))) (kept-in t s.loc)) (omega arith)
 
 mark-in : (d : Option Descr) → Short 0 (mark_of d)
 mark-in None = none
@@ -322,7 +322,7 @@ mark-in (Some d) = record { fits = omega arith }
 
 alloc_part-in : (t : ℕ) (d : Option Descr) (blocks : List NewBlock) (results : List Spot) →
     Short (31 + 16 * length results) (alloc_part t (mark_of d) blocks results)
-alloc_part-in t d blocks results = join (join (reserved-in (bytes_of blocks)) (mark-in d)) (addresses-in t blocks results)
+alloc_part-in t d blocks results = join (join (reserved-in (total_block_bytes blocks)) (mark-in d)) (addresses-in t blocks results)
 
 -- ---- traps, frames, calls
 
@@ -330,26 +330,26 @@ raise_words-in : Short 5 raise_words
 raise_words-in = put (put (put (put one)))
 
 check_part-in : (t : ℕ) (r : Right) (args : List Spot) → Short 19 (check_part t r args)
-check_part-in t r args = join (join (fetched-in t T1 (first args)) (right_words-in t r args)) (put (put raise_words-in))
+check_part-in t r args = join (join (fetched-in t T1 (first_location args)) (right_words-in t r args)) (put (put raise_words-in))
 
-taken-in : (f : Frame) → Short 10 (taken f)
+taken-in : (f : FrameLayout) → Short 10 (frame_allocation f)
 taken-in f = chosen (nat_eq f.bytes 0) (wide 10 none) (lowered-in T1 Sp f.bytes)
 
 -- the entry has at most 13 words
-pub entry-in : (f : Frame) → Short 13 (entry f)
+pub entry-in : (f : FrameLayout) → Short 13 (entry_pieces f)
 entry-in f = join (taken-in f) (chosen f.saves (stack_store-in T1 Ra (return_offset f)) (wide 3 none))
 
-restored-in : (f : Frame) → Short 3 (restored f)
+restored-in : (f : FrameLayout) → Short 3 (restored f)
 restored-in f = chosen f.saves (stack_load-in T2 Ra (return_offset f)) (wide 3 none)
 
-given_back-in : (f : Frame) → Short 13 (given_back f)
+given_back-in : (f : FrameLayout) → Short 13 (frame_release f)
 given_back-in f = join (restored-in f) (chosen (nat_eq f.bytes 0) (wide 10 none) (sum_to-in T2 Sp Sp f.bytes))
 
 pure_part-in : (t : ℕ) (g : Pure) (args results : List Spot) → Short 17 (pure_part t g args results)
-pure_part-in t (pure.Copy kind) args results = wide 11 (moved-in t (first args) (first results))
-pure_part-in t (pure.Constant w) args results = wide 5 (join (constant-in (target (first results)) w) (kept-in t (first results)))
+pure_part-in t (pure.Copy kind) args results = wide 11 (moved-in t (first_location args) (first_location results))
+pure_part-in t (pure.Constant w) args results = wide 5 (join (constant-in (target (first_location results)) w) (kept-in t (first_location results)))
 pure_part-in t (pure.Symbol name) args results =
-    let h : words_at_most (kept t (first results)) ≤ 3 = (kept-in t (first results)).fits in
+    let h : words_at_most (keep_pieces t (first_location results)) ≤ 3 = (kept-in t (first_location results)).fits in
     record { fits = omega arith }
 pure_part-in t (pure.Operator f r) args results = operator_part-in t f r args results
 
@@ -359,30 +359,30 @@ access_part-in t d (access.Load k offset) args results = within (load_part-in t 
 access_part-in t d (access.Store k offset) args results = within (store_part-in t k offset args) (omega arith)
 access_part-in t d (access.Alloc blocks) args results = alloc_part-in t d blocks results
 
-calling_part-in : (t : ℕ) (f : Frame) (d : Option Descr) (g : Calling) (args : List Spot) → Short 18 (calling_part t f (mark_of d) g args)
+calling_part-in : (t : ℕ) (f : FrameLayout) (d : Option Descr) (g : Calling) (args : List Spot) → Short 18 (calling_part t f (mark_of d) g args)
 calling_part-in t f d (calling.Call (callee.Symbol name) result) args =
     let h : words_at_most (mark_of d) ≤ 0 = (mark-in d).fits in record { fits = omega arith }
-calling_part-in t f d (calling.Call callee.Register result) args = wide 14 (join (join (fetched-in t T1 (first args)) one) (mark-in d))
+calling_part-in t f d (calling.Call callee.Register result) args = wide 14 (join (join (fetched-in t T1 (first_location args)) one) (mark-in d))
 calling_part-in t f d (calling.TailCall (callee.Symbol name) result) args =
     let s : Short 3 (piece.TailCall name ∷ []) = record { fits = omega arith } in wide 2 (join (join none (given_back-in f)) s)
-calling_part-in t f d (calling.TailCall callee.Register result) args = wide 1 (join (join (value_words-in t (first args)) (given_back-in f)) one)
+calling_part-in t f d (calling.TailCall callee.Register result) args = wide 1 (join (join (value_words-in t (first_location args)) (given_back-in f)) one)
 calling_part-in t f d (calling.External row frame) args =
     let s : Short 2 (piece.ExternalNumber T0 row ∷ []) = record { fits = omega arith } in
     wide 6 (join (join (join s (constant-in T2 (external_service frame))) one) (mark-in d))
 
-leaving_part-in : (t : ℕ) (f : Frame) (g : Leaving) (args : List Spot) → Short 19 (leaving_part t f g args)
+leaving_part-in : (t : ℕ) (f : FrameLayout) (g : Leaving) (args : List Spot) → Short 19 (leaving_part t f g args)
 leaving_part-in t f (leaving.Checkbound r) args = check_part-in t r args
 leaving_part-in t f leaving.Raise args = wide 14 raise_words-in
 leaving_part-in t f leaving.Return args = wide 5 (join (given_back-in f) one)
 
-op_part-in : (t : ℕ) (f : Frame) (d : Option Descr) (g : Op) (args results : List Spot) →
+op_part-in : (t : ℕ) (f : FrameLayout) (d : Option Descr) (g : Op) (args results : List Spot) →
     Short (32 + 16 * length results) (op_part t f (mark_of d) g args results)
 op_part-in t f d (op.Pure g) args results = within (pure_part-in t g args results) (omega arith)
 op_part-in t f d (op.Access g) args results = within (access_part-in t d g args results) (omega arith)
 op_part-in t f d (op.Calling g) args results = within (calling_part-in t f d g args) (omega arith)
 op_part-in t f d (op.Leaving g) args results = within (leaving_part-in t f g args) (omega arith)
 
-flow_part-in : (t : ℕ) (g : Flow) (args results : List Spot) → Short (32 + 4 * indexes_of (lin.Flow g)) (flow_part t g args results)
+flow_part-in : (t : ℕ) (g : Flow) (args results : List Spot) → Short (32 + 4 * switch_index_count (lin.Flow g)) (flow_part t g args results)
 flow_part-in t (flow.Label l) args results = record { fits = omega arith }
 flow_part-in t (flow.Jump l) args results = record { fits = omega arith }
 flow_part-in t (flow.Exit l) args results = record { fits = omega arith }
@@ -390,38 +390,38 @@ flow_part-in t (flow.Branch f l) args results = within (branch_part-in t f l arg
 flow_part-in t (flow.Switch ls) args results = within (switch_part-in t ls args) (omega arith)
 flow_part-in t (flow.PushTrap l) args results = record { fits = omega arith }
 flow_part-in t flow.PopTrap args results = record { fits = omega arith }
-flow_part-in t flow.EnterTrap args results = within (moved-in t (loc.Machine 10) (first results)) (omega arith)
+flow_part-in t flow.EnterTrap args results = within (moved-in t (loc.Machine 10) (first_location results)) (omega arith)
 
-lin_part-in : (t : ℕ) (f : Frame) (d : Option Descr) (g : LinOp) (args results : List Spot) →
-    Short (32 + 16 * length results + 4 * indexes_of g) (part_of t f d (record { op = g; args = args; results = results }))
+lin_part-in : (t : ℕ) (f : FrameLayout) (d : Option Descr) (g : LinOp) (args results : List Spot) →
+    Short (32 + 16 * length results + 4 * switch_index_count g) (part_of_line t f d (record { op = g; args = args; results = results }))
 lin_part-in t f d (lin.Op g) args results = within (op_part-in t f d g args results) (omega arith)
 lin_part-in t f d (lin.Flow g) args results = within (flow_part-in t g args results) (omega arith)
 
 -- a part has few words
-pub part_is_short : (t : ℕ) (f : Frame) (d : Option Descr) (i : Line) → words_at_most (part_of t f d i) ≤ line_bound i
+pub part_is_short : (t : ℕ) (f : FrameLayout) (d : Option Descr) (i : Line) → words_at_most (part_of_line t f d i) ≤ line_bound i
 part_is_short t f d i = (lin_part-in t f d i.op i.args i.results).fits
 
-pub before_is_short : (t : ℕ) (f : Frame) (d : Option Descr) (i : Line) (next : List Line) → words_at_most (part_before t f d i next) ≤ line_bound i
+pub before_is_short : (t : ℕ) (f : FrameLayout) (d : Option Descr) (i : Line) (next : List Line) → words_at_most (part_before t f d i next) ≤ line_bound i
 before_is_short t f d i next = part_by t f d i next (λ ps. words_at_most ps ≤ line_bound i) (λ e. omega arith) (λ e. part_is_short t f d i)
 
-pub parts_are_short : (f : Frame) (traps : ℕ → ℕ) (ds : List Descr) (is : List Line) → words_at_most (parts traps f ds is) ≤ lines_bound is
+pub parts_are_short : (f : FrameLayout) (traps : ℕ → ℕ) (ds : List Descr) (is : List Line) → words_at_most (parts_of_lines traps f ds is) ≤ lines_bound is
 parts_are_short f traps ds [] = omega arith
 parts_are_short f traps ds (i ∷ next) =
     let d : Option Descr = descriptor (passes_frame i.op) ds in
     let rest : List Descr = left_after (passes_frame i.op) ds in
     let part = part_before (traps (length next)) f d i next in
-    let e : words_at_most (part ++ parts traps f rest next) ≡ words_at_most part + words_at_most (parts traps f rest next) =
-    words-join part (parts traps f rest next) in
+    let e : words_at_most (part ++ parts_of_lines traps f rest next) ≡ words_at_most part + words_at_most (parts_of_lines traps f rest next) =
+    words-join part (parts_of_lines traps f rest next) in
     let h : words_at_most part ≤ line_bound i = before_is_short (traps (length next)) f d i next in
-    let k : words_at_most (parts traps f rest next) ≤ lines_bound next = parts_are_short f traps rest next in
+    let k : words_at_most (parts_of_lines traps f rest next) ≤ lines_bound next = parts_are_short f traps rest next in
     omega arith
 
 -- so has a function
 pub function_is_short : (m : Lin) (traps : ℕ → ℕ) (ds : List Descr) → words_at_most (emitted m traps ds).code ≤ 13 + lines_bound m.code
 function_is_short m traps ds =
-    let e : words_at_most (entry (frame_of m) ++ parts traps (frame_of m) ds m.code) ≡ words_at_most (entry (frame_of m)) + words_at_most (parts traps
+    let e : words_at_most (entry_pieces (frame_of m) ++ parts_of_lines traps (frame_of m) ds m.code) ≡ words_at_most (entry_pieces (frame_of m)) + words_at_most (parts_of_lines traps
     (frame_of m) ds m.code) =
-    words-join (entry (frame_of m)) (parts traps (frame_of m) ds m.code) in
-    let h : words_at_most (entry (frame_of m)) ≤ 13 = (entry-in (frame_of m)).fits in
-    let k : words_at_most (parts traps (frame_of m) ds m.code) ≤ lines_bound m.code = parts_are_short (frame_of m) traps ds m.code in
+    words-join (entry_pieces (frame_of m)) (parts_of_lines traps (frame_of m) ds m.code) in
+    let h : words_at_most (entry_pieces (frame_of m)) ≤ 13 = (entry-in (frame_of m)).fits in
+    let k : words_at_most (parts_of_lines traps (frame_of m) ds m.code) ≤ lines_bound m.code = parts_are_short (frame_of m) traps ds m.code in
     omega arith

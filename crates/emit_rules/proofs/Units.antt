@@ -10,9 +10,9 @@ use Rattle.lin_ir.specs.declared.lin.Line.{Line}
 use Rattle.lin_ir.specs.declared.lin.LinOp.{LinOp}
 use Rattle.lin_ir.specs.declared.lin.LinOp.TheVariants as lin
 use Rattle.rv_pieces.specs.declared.piece.Piece.{Piece}
-use Rattle.emit_rules.specs.Emitted.{part_of, part_before}
-use Rattle.emit_rules.specs.Entry.{Frame}
-use Rattle.emit_rules.specs.Units.{is_branch, tests_first, falls_to, is_free}
+use Rattle.emit_rules.specs.Emitted.{part_of_line, part_before}
+use Rattle.emit_rules.specs.Entry.{FrameLayout}
+use Rattle.emit_rules.specs.Units.{is_branch, tests_first, falls_to, is_free_exit}
 
 -- ---- which lines they are
 
@@ -80,7 +80,7 @@ own_label_line l (lin.Flow flow.PopTrap) e = cc
 own_label_line l (lin.Flow flow.EnterTrap) e = cc
 
 -- only an exit has no words
-pub free_is_exit : (g : LinOp) (next : List Line) → is_free g next ≡ true → FreeExit g next
+pub free_is_exit : (g : LinOp) (next : List Line) → is_free_exit g next ≡ true → FreeExit g next
 free_is_exit (lin.Op g) next e = cc
 free_is_exit (lin.Flow (flow.Label l)) next e = cc
 free_is_exit (lin.Flow (flow.Jump l)) next e = cc
@@ -92,16 +92,16 @@ free_is_exit (lin.Flow flow.PopTrap) next e = cc
 free_is_exit (lin.Flow flow.EnterTrap) next e = cc
 
 -- so what holds of exits holds of these
-pub if_free : (Q : LinOp → Type 0) → ((l : ℕ) → Q (lin.Flow (flow.Exit l))) → (g : LinOp) (next : List Line) → is_free g next ≡ true → Q g
+pub if_free : (Q : LinOp → Type 0) → ((l : ℕ) → Q (lin.Flow (flow.Exit l))) → (g : LinOp) (next : List Line) → is_free_exit g next ≡ true → Q g
 if_free Q q g next e = let it = free_is_exit g next e in subst Q (sym it.is) (q it.to)
 
-pub free_has_no_label : (g : LinOp) (next : List Line) → is_free g next ≡ true → label_of g ≡ []
+pub free_has_no_label : (g : LinOp) (next : List Line) → is_free_exit g next ≡ true → label_of g ≡ []
 free_has_no_label = if_free (λ g. label_of g ≡ []) (λ l. refl)
 
-pub free_passes_no_frame : (g : LinOp) (next : List Line) → is_free g next ≡ true → passes_frame g ≡ false
+pub free_passes_no_frame : (g : LinOp) (next : List Line) → is_free_exit g next ≡ true → passes_frame g ≡ false
 free_passes_no_frame = if_free (λ g. passes_frame g ≡ false) (λ l. refl)
 
-pub free_is_no_branch : (g : LinOp) (next : List Line) → is_free g next ≡ true → is_branch g ≡ false
+pub free_is_no_branch : (g : LinOp) (next : List Line) → is_free_exit g next ≡ true → is_branch g ≡ false
 free_is_no_branch = if_free (λ g. is_branch g ≡ false) (λ l. refl)
 
 -- what holds of branches holds of these
@@ -116,23 +116,23 @@ if_branch Q q (lin.Flow (flow.PushTrap l)) e = cc
 if_branch Q q (lin.Flow flow.PopTrap) e = cc
 if_branch Q q (lin.Flow flow.EnterTrap) e = cc
 
-pub branch_is_not_free : (g : LinOp) (next : List Line) → is_branch g ≡ true → is_free g next ≡ false
-branch_is_not_free g next e = if_branch (λ g. is_free g next ≡ false) (λ t l. refl) g e
+pub branch_is_not_free : (g : LinOp) (next : List Line) → is_branch g ≡ true → is_free_exit g next ≡ false
+branch_is_not_free g next e = if_branch (λ g. is_free_exit g next ≡ false) (λ t l. refl) g e
 
 -- ---- parts
 
-module _ (t : ℕ) (f : Frame) (d : Option Descr) (i : Line) (next : List Line) where
-  pub part_if_free : is_free i.op next ≡ true → part_before t f d i next ≡ []
-  part_if_free e = ap (λ b. cond b [] (part_of t f d i)) e
+module _ (t : ℕ) (f : FrameLayout) (d : Option Descr) (i : Line) (next : List Line) where
+  pub part_if_free : is_free_exit i.op next ≡ true → part_before t f d i next ≡ []
+  part_if_free e = ap (λ b. cond b [] (part_of_line t f d i)) e
 
-  pub part_unless_free : is_free i.op next ≡ false → part_before t f d i next ≡ part_of t f d i
-  part_unless_free e = ap (λ b. cond b [] (part_of t f d i)) e
+  pub part_unless_free : is_free_exit i.op next ≡ false → part_before t f d i next ≡ part_of_line t f d i
+  part_unless_free e = ap (λ b. cond b [] (part_of_line t f d i)) e
 
   -- what holds of no words where they are an exit's, and else of the part
-  pub part_by : (Q : List Piece → Type 0) → (is_free i.op next ≡ true → Q []) → (is_free i.op next ≡ false → Q (part_of t f d i)) →
+  pub part_by : (Q : List Piece → Type 0) → (is_free_exit i.op next ≡ true → Q []) → (is_free_exit i.op next ≡ false → Q (part_of_line t f d i)) →
       Q (part_before t f d i next)
-  part_by Q none some = by (is_free i.op next) refl
+  part_by Q none some = by (is_free_exit i.op next) refl
     where
-      by : (b : Bool) → is_free i.op next ≡ b → Q (cond b [] (part_of t f d i))
+      by : (b : Bool) → is_free_exit i.op next ≡ b → Q (cond b [] (part_of_line t f d i))
       by true e = none e
       by false e = some e

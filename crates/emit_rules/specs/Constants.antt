@@ -10,7 +10,7 @@ use Rattle.rv_isa.specs.declared.instr.ShiftOp.TheVariants as shifts
 use Rattle.rv_isa.specs.declared.register.Register.{Register}
 use Rattle.rv_isa.specs.declared.register.Register.TheVariants.{Zero}
 use Rattle.rv_pieces.specs.declared.piece.Piece.{Piece}
-use Rattle.emit_rules.specs.Instructions.{low_12, addi, addiw, lui, add, operation, shift}
+use Rattle.emit_rules.specs.Instructions.{low_12, addi, addiw, lui, add, alu_operation, shift_piece}
 
 -- ---- words of 32 bits
 
@@ -36,24 +36,24 @@ abbrev pub spread_52 : ℕ → ℕ
 spread_52 x = cond (nat_lt x 0x8000000000000) x (x + 0xFFF0000000000000)
 
 -- the word above the lowest 12 bits
-abbrev pub higher : ℕ → ℕ
-higher w = spread_52 (above_12 w % 0x10000000000000)
+abbrev pub upper_constant : ℕ → ℕ
+upper_constant w = spread_52 (above_12 w % 0x10000000000000)
 
 abbrev pub shifted : Register → ℕ → List Piece
 shifted r zero = []
-shifted r (suc n) = shift shifts.Slli r r (suc n) ∷ []
+shifted r (suc n) = shift_piece shifts.Slli r r (suc n) ∷ []
 
 -- the word, shifted to the left by so many bits; after so many steps 32 bits are left of it
 abbrev pub constant_shifted : ℕ → Register → ℕ → ℕ → List Piece
 constant_shifted zero r w amount = constant_32 r w ++ shifted r amount
 constant_shifted (suc n) r w amount =
     cond (is_word_32 w) (constant_32 r w ++ shifted r amount)
-    (cond (nat_eq (low_12 w) 0) (constant_shifted n r (higher w) (amount + 12))
-    (constant_shifted n r (higher w) 12 ++ addi r r w ∷ shifted r amount))
+    (cond (nat_eq (low_12 w) 0) (constant_shifted n r (upper_constant w) (amount + 12))
+    (constant_shifted n r (upper_constant w) 12 ++ addi r r w ∷ shifted r amount))
 
 -- the word becomes the register's value
-unfoldable pub constant : Register → ℕ → List Piece
-constant r w = constant_shifted 3 r w 0
+unfoldable pub constant_pieces : Register → ℕ → List Piece
+constant_pieces r w = constant_shifted 3 r w 0
 
 -- ---- sums
 
@@ -61,10 +61,10 @@ constant r w = constant_shifted 3 r w 0
 abbrev pub sum_to : (scratch to from : Register) → ℕ → List Piece
 sum_to scratch to from n =
     cond (nat_lt n 2048) (addi to from n ∷ [])
-    (constant scratch n ++ add to from scratch ∷ [])
+    (constant_pieces scratch n ++ add to from scratch ∷ [])
 
 -- so many bytes, fewer than 2^31, are taken off a register
-abbrev pub lowered : (scratch r : Register) → ℕ → List Piece
-lowered scratch r n =
+abbrev pub bytes_taken_off : (scratch r : Register) → ℕ → List Piece
+bytes_taken_off scratch r n =
     cond (nat_le n 2048) (addi r r (4096 - n % 4096) ∷ [])
-    (constant scratch n ++ operation alu.Sub r r scratch ∷ [])
+    (constant_pieces scratch n ++ alu_operation alu.Sub r r scratch ∷ [])

@@ -2,7 +2,7 @@
 use Rattle.std.specs.Prelude.{ℕ, ◌+◌, ◌*◌, cond, List, [], ◌∷◌, ◌++◌, length}
 use Rattle.bs_words.specs.declared.types.Chunk.{Chunk}
 use Rattle.bs_words.specs.declared.types.Chunk.TheVariants as chunk
-use Rattle.mach_ir.specs.Blocks.{bytes_of}
+use Rattle.mach_ir.specs.Blocks.{total_block_bytes}
 use Rattle.mach_ir.specs.Forms.{is_immediate_12}
 use Rattle.mach_ir.specs.declared.blocks.NewBlock.{NewBlock}
 use Rattle.lin_ir.specs.declared.lin.Spot.{Spot}
@@ -14,16 +14,16 @@ use Rattle.rv_isa.specs.declared.instr.StoreWidth.TheVariants as stores
 use Rattle.rv_isa.specs.declared.register.Register.{Register}
 use Rattle.rv_isa.specs.declared.register.Register.TheVariants.{T0, T1, T2, S10, S11}
 use Rattle.rv_pieces.specs.declared.piece.Piece.{Piece}
-use Rattle.emit_rules.specs.Instructions.{add, load, store, skip, ecall}
-use Rattle.emit_rules.specs.Constants.{constant, sum_to, lowered}
-use Rattle.emit_rules.specs.Slots.{first, second, register_of, fetched, target, kept}
+use Rattle.emit_rules.specs.Instructions.{add, load_piece, store_piece, skip, ecall}
+use Rattle.emit_rules.specs.Constants.{constant_pieces, sum_to, bytes_taken_off}
+use Rattle.emit_rules.specs.Slots.{first_location, second, register_of, fetch_pieces, target, keep_pieces}
 
 -- ---- addresses with an offset, a word that wraps
 
 -- an offset past 12 bits is added first, into t1
 abbrev pub address_words : (base : Register) → (offset : ℕ) → List Piece
 address_words base offset =
-    cond (is_immediate_12 offset) [] (constant T2 offset ++ add T1 base T2 ∷ [])
+    cond (is_immediate_12 offset) [] (constant_pieces T2 offset ++ add T1 base T2 ∷ [])
 
 abbrev pub address_register : (base : Register) → (offset : ℕ) → Register
 address_register base offset = cond (is_immediate_12 offset) base T1
@@ -46,13 +46,13 @@ load_width chunk.Val = loads.Ld
 abbrev pub load_from : Chunk → (offset : ℕ) → (base to : Register) → List Piece
 load_from k offset base to =
     address_words base offset
-    ++ load (load_width k) to (address_register base offset) (address_offset offset) ∷ []
+    ++ load_piece (load_width k) to (address_register base offset) (address_offset offset) ∷ []
 
 abbrev pub load_part : (traps : ℕ) → Chunk → (offset : ℕ) → (args results : List Spot) → List Piece
 load_part traps k offset args results =
-    fetched traps T1 (first args)
-    ++ load_from k offset (register_of T1 (first args)) (target (first results))
-    ++ kept traps (first results)
+    fetch_pieces traps T1 (first_location args)
+    ++ load_from k offset (register_of T1 (first_location args)) (target (first_location results))
+    ++ keep_pieces traps (first_location results)
 
 -- ---- stores
 
@@ -69,11 +69,11 @@ store_width chunk.Val = stores.Sd
 -- the address is whole before the value is read into t2
 abbrev pub store_part : (traps : ℕ) → Chunk → (offset : ℕ) → (args : List Spot) → List Piece
 store_part traps k offset args =
-    fetched traps T1 (first args)
-    ++ address_words (register_of T1 (first args)) offset
-    ++ fetched traps T2 (second args)
-    ++ store (store_width k) (register_of T2 (second args))
-    (address_register (register_of T1 (first args)) offset) (address_offset offset)
+    fetch_pieces traps T1 (first_location args)
+    ++ address_words (register_of T1 (first_location args)) offset
+    ++ fetch_pieces traps T2 (second args)
+    ++ store_piece (store_width k) (register_of T2 (second args))
+    (address_register (register_of T1 (first_location args)) offset) (address_offset offset)
     ∷ []
 
 -- ---- allocations
@@ -83,14 +83,14 @@ abbrev pub allocation_service : ℕ
 allocation_service = 3
 
 abbrev pub ask : (bytes : ℕ) → List Piece
-ask bytes = constant T0 bytes ++ constant T2 allocation_service ++ ecall ∷ []
+ask bytes = constant_pieces T0 bytes ++ constant_pieces T2 allocation_service ++ ecall ∷ []
 
 -- The bytes are taken off s10, and the service is asked only where s10 is then below the limit
 -- word.
 abbrev pub reserved : (bytes : ℕ) → List Piece
 reserved bytes =
-    lowered T1 S10 bytes
-    ++ load loads.Ld T1 S11 0 ∷ skip condition.Bgeu S10 T1 (4 * (1 + length (ask bytes)))
+    bytes_taken_off T1 S10 bytes
+    ++ load_piece loads.Ld T1 S11 0 ∷ skip condition.Bgeu S10 T1 (4 * (1 + length (ask bytes)))
     ∷ ask bytes
 
 -- Each block lies above those after it, and its address is that of the cell after its header. The
@@ -98,10 +98,10 @@ reserved bytes =
 abbrev pub addresses : (traps : ℕ) → List NewBlock → List Spot → List Piece
 addresses traps (b ∷ blocks) (s ∷ results) =
     addresses traps blocks results
-    ++ sum_to T1 (target s.loc) S10 (bytes_of blocks + 8) ++ kept traps s.loc
+    ++ sum_to T1 (target s.loc) S10 (total_block_bytes blocks + 8) ++ keep_pieces traps s.loc
 addresses traps _ _ = []
 
 -- what is at the return address, its descriptor, comes between
 abbrev pub alloc_part : (traps : ℕ) → (mark : List Piece) → List NewBlock → List Spot → List Piece
 alloc_part traps mark blocks results =
-    reserved (bytes_of blocks) ++ mark ++ addresses traps blocks results
+    reserved (total_block_bytes blocks) ++ mark ++ addresses traps blocks results

@@ -9,22 +9,22 @@ use Rattle.lin_ir.specs.declared.lin.Line.{Line}
 use Rattle.rv_pieces.specs.declared.piece.Piece.{Piece}
 use Rattle.rv_pieces.specs.declared.piece.Piece.TheVariants as piece
 
-abbrev pub most_words : Piece → ℕ
-most_words (piece.Known j) = 1
-most_words (piece.Label l) = 0
-most_words (piece.Branch c a b l) = 3
-most_words (piece.Jump l) = 2
-most_words (piece.Row l) = 2
-most_words (piece.LabelAddress r l) = 2
-most_words (piece.Call name) = 3
-most_words (piece.TailCall name) = 3
-most_words (piece.SymbolAddress r name) = 2
-most_words (piece.ExternalNumber r row) = 2
-most_words (piece.Descriptor d) = 0
+abbrev pub most_piece_words : Piece → ℕ
+most_piece_words (piece.Known j) = 1
+most_piece_words (piece.Label l) = 0
+most_piece_words (piece.Branch c a b l) = 3
+most_piece_words (piece.Jump l) = 2
+most_piece_words (piece.Row l) = 2
+most_piece_words (piece.LabelAddress r l) = 2
+most_piece_words (piece.Call name) = 3
+most_piece_words (piece.TailCall name) = 3
+most_piece_words (piece.SymbolAddress r name) = 2
+most_piece_words (piece.ExternalNumber r row) = 2
+most_piece_words (piece.Descriptor d) = 0
 
 abbrev pub words_at_most : List Piece → ℕ
 words_at_most [] = 0
-words_at_most (p ∷ ps) = most_words p + words_at_most ps
+words_at_most (p ∷ ps) = most_piece_words p + words_at_most ps
 
 -- the instructions that pieces have whatever lies between them and their targets
 abbrev pub least_words : Piece → ℕ
@@ -39,12 +39,12 @@ words_at_least (p ∷ ps) = least_words p + words_at_least ps
 -- ---- bounds by the lines
 
 -- the indexes of a switch
-abbrev pub indexes_of : LinOp → ℕ
-indexes_of (lin.Flow (flow.Switch labels)) = length labels
-indexes_of _ = 0
+abbrev pub switch_index_count : LinOp → ℕ
+switch_index_count (lin.Flow (flow.Switch labels)) = length labels
+switch_index_count _ = 0
 
 abbrev pub line_bound : Line → ℕ
-line_bound i = 32 + 16 * length i.results + 4 * indexes_of i.op
+line_bound i = 32 + 16 * length i.results + 4 * switch_index_count i.op
 
 abbrev pub lines_bound : List Line → ℕ
 lines_bound [] = 0

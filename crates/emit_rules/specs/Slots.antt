@@ -12,7 +12,7 @@ use Rattle.rv_isa.specs.declared.instr.StoreWidth.TheVariants as stores
 use Rattle.rv_isa.specs.declared.register.Register.{Register}
 use Rattle.rv_isa.specs.declared.register.Register.TheVariants.{Zero, Sp, T1, T2}
 use Rattle.rv_pieces.specs.declared.piece.Piece.{Piece}
-use Rattle.emit_rules.specs.Instructions.{lui, add, mv, load, store}
+use Rattle.emit_rules.specs.Instructions.{lui, add, mv, load_piece, store_piece}
 use Rattle.rv_isa.specs.Registers.{register_at}
 use Rattle.emit_rules.specs.Constants.{above_12}
 
@@ -24,13 +24,13 @@ far_stack scratch offset = lui scratch (above_12 offset) ∷ add scratch scratch
 
 abbrev pub stack_load : (scratch to : Register) → ℕ → List Piece
 stack_load scratch to offset =
-    cond (nat_lt offset 2048) (load loads.Ld to Sp offset ∷ [])
-    (far_stack scratch offset ++ load loads.Ld to scratch offset ∷ [])
+    cond (nat_lt offset 2048) (load_piece loads.Ld to Sp offset ∷ [])
+    (far_stack scratch offset ++ load_piece loads.Ld to scratch offset ∷ [])
 
 abbrev pub stack_store : (scratch from : Register) → ℕ → List Piece
 stack_store scratch from offset =
-    cond (nat_lt offset 2048) (store stores.Sd from Sp offset ∷ [])
-    (far_stack scratch offset ++ store stores.Sd from scratch offset ∷ [])
+    cond (nat_lt offset 2048) (store_piece stores.Sd from Sp offset ∷ [])
+    (far_stack scratch offset ++ store_piece stores.Sd from scratch offset ∷ [])
 
 -- where a slot lies while so many traps are pushed
 abbrev pub slot_offset : (traps slot : ℕ) → ℕ
@@ -38,13 +38,13 @@ slot_offset traps slot = 8 * slot + 16 * traps
 
 -- ---- operands and results
 
-abbrev pub first : List Spot → Loc
-first [] = loc.Unset
-first (s ∷ ss) = s.loc
+abbrev pub first_location : List Spot → Loc
+first_location [] = loc.Unset
+first_location (s ∷ ss) = s.loc
 
 abbrev pub second : List Spot → Loc
 second [] = loc.Unset
-second (s ∷ ss) = first ss
+second (s ∷ ss) = first_location ss
 
 -- the register in which a location is read or written
 abbrev pub register_of : (scratch : Register) → Loc → Register
@@ -53,31 +53,31 @@ register_of scratch (loc.Slot k) = scratch
 register_of scratch loc.Unset = Zero
 
 -- what brings it there before it is read
-abbrev pub fetched : (traps : ℕ) → (scratch : Register) → Loc → List Piece
-fetched traps scratch (loc.Machine n) = []
-fetched traps scratch (loc.Slot k) = stack_load scratch scratch (slot_offset traps k)
-fetched traps scratch loc.Unset = []
+abbrev pub fetch_pieces : (traps : ℕ) → (scratch : Register) → Loc → List Piece
+fetch_pieces traps scratch (loc.Machine n) = []
+fetch_pieces traps scratch (loc.Slot k) = stack_load scratch scratch (slot_offset traps k)
+fetch_pieces traps scratch loc.Unset = []
 
 -- the register in which a result is made
 abbrev pub target : Loc → Register
 target l = register_of T1 l
 
 -- what takes the result from there to its location
-abbrev pub kept : (traps : ℕ) → Loc → List Piece
-kept traps (loc.Machine n) = []
-kept traps (loc.Slot k) = stack_store T2 T1 (slot_offset traps k)
-kept traps loc.Unset = []
+abbrev pub keep_pieces : (traps : ℕ) → Loc → List Piece
+keep_pieces traps (loc.Machine n) = []
+keep_pieces traps (loc.Slot k) = stack_store T2 T1 (slot_offset traps k)
+keep_pieces traps loc.Unset = []
 
 -- ---- copies
 
-abbrev pub copied : (traps : ℕ) → (from to : Loc) → List Piece
-copied traps (loc.Slot j) to = stack_load T2 (target to) (slot_offset traps j) ++ kept traps to
-copied traps (loc.Machine n) (loc.Slot k) =
+abbrev pub copy_pieces : (traps : ℕ) → (from to : Loc) → List Piece
+copy_pieces traps (loc.Slot j) to = stack_load T2 (target to) (slot_offset traps j) ++ keep_pieces traps to
+copy_pieces traps (loc.Machine n) (loc.Slot k) =
     stack_store T2 (register_at n) (slot_offset traps k)
-copied traps (loc.Machine n) (loc.Machine o) = mv (register_at o) (register_at n) ∷ []
-copied traps (loc.Machine n) loc.Unset = []
-copied traps loc.Unset to = []
+copy_pieces traps (loc.Machine n) (loc.Machine o) = mv (register_at o) (register_at n) ∷ []
+copy_pieces traps (loc.Machine n) loc.Unset = []
+copy_pieces traps loc.Unset to = []
 
 -- a copy from a location to itself has no words
-abbrev pub moved : (traps : ℕ) → (from to : Loc) → List Piece
-moved traps from to = cond (same_loc from to) [] (copied traps from to)
+abbrev pub move_pieces : (traps : ℕ) → (from to : Loc) → List Piece
+move_pieces traps from to = cond (same_loc from to) [] (copy_pieces traps from to)

@@ -15,9 +15,9 @@ use Rattle.rv_isa.specs.declared.register.Register.{Register}
 use Rattle.rv_isa.specs.declared.register.Register.TheVariants.{Zero, T1, T2}
 use Rattle.rv_pieces.specs.declared.piece.Piece.{Piece}
 use Rattle.rv_pieces.specs.declared.piece.Piece.TheVariants as piece
-use Rattle.emit_rules.specs.Instructions.{addi, add, mv, shift, auipc, goes_to}
-use Rattle.emit_rules.specs.Constants.{constant}
-use Rattle.emit_rules.specs.Slots.{first, second, register_of, fetched, slot_offset, stack_load}
+use Rattle.emit_rules.specs.Instructions.{addi, add, mv, shift_piece, auipc, goes_to_address}
+use Rattle.emit_rules.specs.Constants.{constant_pieces}
+use Rattle.emit_rules.specs.Slots.{first_location, second, register_of, fetch_pieces, slot_offset, stack_load}
 
 -- ---- right operands
 
@@ -26,14 +26,14 @@ abbrev pub constant_register : ℕ → Register
 constant_register w = cond (nat_eq w 0) Zero T2
 
 abbrev pub constant_words : ℕ → List Piece
-constant_words w = cond (nat_eq w 0) [] (constant T2 w)
+constant_words w = cond (nat_eq w 0) [] (constant_pieces T2 w)
 
 abbrev pub right_register : Right → List Spot → Register
 right_register right.Register args = register_of T2 (second args)
 right_register (right.Constant w) args = constant_register w
 
 abbrev pub right_words : (traps : ℕ) → Right → List Spot → List Piece
-right_words traps right.Register args = fetched traps T2 (second args)
+right_words traps right.Register args = fetch_pieces traps T2 (second args)
 right_words traps (right.Constant w) args = constant_words w
 
 -- ---- branches
@@ -69,8 +69,8 @@ test_branch (test.Unsigned f r) args a label = unsigned_branch f a (right_regist
 
 abbrev pub branch_part : (traps : ℕ) → Test → (label : ℕ) → List Spot → List Piece
 branch_part traps t label args =
-    fetched traps T1 (first args) ++ test_words traps t args
-    ++ test_branch t args (register_of T1 (first args)) label ∷ []
+    fetch_pieces traps T1 (first_location args) ++ test_words traps t args
+    ++ test_branch t args (register_of T1 (first_location args)) label ∷ []
 
 -- ---- switches
 
@@ -91,9 +91,9 @@ tests_in_turn (l ∷ k ∷ labels) =
 -- A row for each label, 8 bytes each. The first lies 12 bytes after the auipc.
 abbrev pub table_of_jumps : List ℕ → List Piece
 table_of_jumps labels =
-    shift shifts.Slli T1 T1 3 ∷ auipc T2 ∷ add T2 T2 T1 ∷ goes_to T2 12 ∷ map piece.Row labels
+    shift_piece shifts.Slli T1 T1 3 ∷ auipc T2 ∷ add T2 T2 T1 ∷ goes_to_address T2 12 ∷ map piece.Row labels
 
 abbrev pub switch_part : (traps : ℕ) → List ℕ → List Spot → List Piece
 switch_part traps labels args =
-    value_words traps (first args)
+    value_words traps (first_location args)
     ++ cond (nat_le (length labels) 4) (tests_in_turn labels) (table_of_jumps labels)

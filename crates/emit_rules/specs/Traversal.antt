@@ -18,9 +18,9 @@ use Rattle.rv_isa.specs.declared.register.Register.{Register}
 use Rattle.rv_pieces.specs.declared.piece.Piece.{Piece}
 use Rattle.rv_pieces.specs.declared.piece.Piece.TheVariants as piece
 
-pub data Each (P : Piece → Type 0) : List Piece → Type 0 where
-  each_none : Each P []
-  each_more : {p : Piece} {ps : List Piece} → P p → Each P ps → Each P (p ∷ ps)
+pub data EachPiece (P : Piece → Type 0) : List Piece → Type 0 where
+  each_none : EachPiece P []
+  each_more : {p : Piece} {ps : List Piece} → P p → EachPiece P ps → EachPiece P (p ∷ ps)
 
 -- the symbol is named by what a line does
 pub record Names (name : List ℕ) (f : LinOp) : Type 0 where

@@ -27,9 +27,9 @@ falls_to l (i ∷ next) =
     cond (has_label l i.op) (tests_first next) (is_label i.op && falls_to l next)
 
 -- before this code the operation is such an exit: a label occurs once, so it goes where it falls
-abbrev pub is_free : LinOp → List Line → Bool
-is_free (lin.Flow (flow.Exit l)) next = falls_to l next
-is_free _ next = false
+abbrev pub is_free_exit : LinOp → List Line → Bool
+is_free_exit (lin.Flow (flow.Exit l)) next = falls_to l next
+is_free_exit _ next = false
 
 -- The units that may have been counted before this code, at the most, without an instruction of
 -- their own.

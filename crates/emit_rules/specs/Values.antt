@@ -10,18 +10,18 @@ use Rattle.rv_isa.specs.declared.register.Register.{Register}
 use Rattle.rv_isa.specs.declared.register.Register.TheVariants.{Zero}
 use Rattle.rv_pieces.specs.declared.piece.Piece.{Piece}
 use Rattle.rv_pieces.specs.declared.piece.Piece.TheVariants as piece
-use Rattle.emit_rules.specs.Instructions.{addi, addiw, lui, shift}
+use Rattle.emit_rules.specs.Instructions.{addi, addiw, lui, shift_piece}
 
 -- what an instruction leaves in its register, which has this value before
-abbrev pub value_of : Instr → ℕ → ℕ
-value_of (instr.OpImm imm.Addi rd rs w) v = add_word (cond (nat_eq rs 0) 0 v) (sext_word w 12)
-value_of (instr.Addiw rd rs w) v = sext_word (add_word v (sext_word w 12)) 32
-value_of (instr.Lui rd upper) v = sext_word (4096 * upper) 32
-value_of (instr.Shift shifts.Slli rd rs amount) v = shl_word v amount
-value_of _ v = v
+abbrev pub value_left : Instr → ℕ → ℕ
+value_left (instr.OpImm imm.Addi rd rs w) v = add_word (cond (nat_eq rs 0) 0 v) (sext_word w 12)
+value_left (instr.Addiw rd rs w) v = sext_word (add_word v (sext_word w 12)) 32
+value_left (instr.Lui rd upper) v = sext_word (4096 * upper) 32
+value_left (instr.Shift shifts.Slli rd rs amount) v = shl_word v amount
+value_left _ v = v
 
 abbrev pub piece_value : Piece → ℕ → ℕ
-piece_value (piece.Known j) v = value_of j v
+piece_value (piece.Known j) v = value_left j v
 piece_value _ v = v
 
 -- what some leave, one after the other
@@ -35,4 +35,4 @@ pub data Makes (r : Register) : Piece → Type 0 where
   makes_upper : (w : ℕ) → Makes r (lui r w)
   makes_lower : (w : ℕ) → Makes r (addiw r r w)
   makes_sum : (w : ℕ) → Makes r (addi r r w)
-  makes_shift : (amount : ℕ) → Makes r (shift shifts.Slli r r amount)
+  makes_shift : (amount : ℕ) → Makes r (shift_piece shifts.Slli r r amount)

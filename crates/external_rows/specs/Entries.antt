@@ -5,21 +5,21 @@ use Rattle.bs_words.specs.External.{External}
 use Rattle.image_form.specs.Image.{comp_byte, ret_byte}
 use Rattle.image_form.specs.Tables.{ext}
 use Rattle.image_form.specs.declared.image.ExtRow.{ExtRow}
-use Rattle.layout_rules.specs.Externals.{is_among}
+use Rattle.layout_rules.specs.Externals.{is_among_externals}
 
 -- rows with that of one more call
-abbrev pub noted : List External → External → List External
-noted rows e = cond (is_among rows e) rows (rows ++ e ∷ [])
+abbrev pub row_noted : List External → External → List External
+row_noted rows e = cond (is_among_externals rows e) rows (rows ++ e ∷ [])
 
 -- ---- how a map holds rows
 
 -- the bytes by which a row is found: those of its types, one that is none of a type, its name
-abbrev pub key_of : External → List ℕ
-key_of e = ret_byte e.result ∷ (map comp_byte e.params ++ 255 ∷ e.name)
+abbrev pub external_key : External → List ℕ
+external_key e = ret_byte e.result ∷ (map comp_byte e.params ++ 255 ∷ e.name)
 
-abbrev pub entry_view : {A : Type 0} → Vec ℕ A × ExtRow → External
-entry_view e = ext e.1
+abbrev pub external_view : {A : Type 0} → Vec ℕ A × ExtRow → External
+external_view e = ext e.1
 
 -- each row is at its own bytes
 abbrev pub AreKeyed : {A : Type 0} → List (Vec ℕ A × ExtRow) → Type 0
-AreKeyed entries = map (λ e. e.0.items) entries ≡ map (λ e. key_of (entry_view e)) entries
+AreKeyed entries = map (λ e. e.0.items) entries ≡ map (λ e. external_key (external_view e)) entries

@@ -3,9 +3,9 @@ ghost use Rattle.std.specs.Prelude.{◌≡◌, ◌+◌, ◌++◌, [], map, IfOk,
 ghost use Rattle.bs_words.specs.Contents.{contents};
 ghost use Rattle.image_form.specs.Image.{comp_byte};
 ghost use Rattle.image_form.specs.Tables.{ext};
-ghost use Rattle.external_rows.specs.Entries.{key_of, noted};
-ghost use Rattle.layout_rules.specs.Externals.{number_of};
-ghost use Rattle.mach_ir.specs.Acts.{row_of};
+ghost use Rattle.external_rows.specs.Entries.{external_key, row_noted};
+ghost use Rattle.layout_rules.specs.Externals.{external_number};
+ghost use Rattle.mach_ir.specs.Acts.{external_row};
 
 use bs_words::{Comp, List, Name, Ret};
 use image_codec::{comp_byte, ret_byte};
@@ -26,11 +26,11 @@ pub struct ExternalRows {
 impl Model for ExternalRows {
     ghost use Rattle.std.specs.Prelude.{List, map};
     ghost use Rattle.bs_words.specs.External.{External};
-    ghost use Rattle.external_rows.specs.Entries.{entry_view, AreKeyed};
+    ghost use Rattle.external_rows.specs.Entries.{external_view, AreKeyed};
 
     ghost Value = { List External };
 
-    ghost view = { λ e. map entry_view e.rows.entries };
+    ghost view = { λ e. map external_view e.rows.entries };
 
     ghost invariant = { λ e. AreKeyed e.rows.entries };
 }
@@ -55,7 +55,7 @@ fn put_comps(key: &mut Vec<u8>, comps: &[Comp]) -> Result<(), AllocError>
 
 /// The bytes by which a row is found.
 fn key(alloc: Global, name: &[u8], params: &[Comp], answer: Ret) -> Result<Vec<u8>, AllocError>
-    ensures { IfOk result (λ key. key.items ≡ key_of (record {
+    ensures { IfOk result (λ key. key.items ≡ external_key (record {
       name = name.now;
       params = params.now;
       result = answer;
@@ -86,7 +86,7 @@ impl ExternalRows {
         params: Vec<Comp>,
         answer: Ret,
     ) -> Result<(), AllocError>
-        ensures { OnOk result (self.new ≡ noted self.old (record {
+        ensures { OnOk result (self.new ≡ row_noted self.old (record {
           name = name.now;
           params = params.items;
           result = answer;
@@ -106,7 +106,7 @@ impl ExternalRows {
 
     /// The number of a call's row, or of rows where it has none. The only error is want of memory.
     pub fn number_of(&self, alloc: Global, call: &External) -> Result<usize, AllocError>
-        ensures { IfOk result (λ number. number ≡ number_of self.now (row_of call.now)) }
+        ensures { IfOk result (λ number. number ≡ external_number self.now (external_row call.now)) }
     {
         let key = key(
             alloc,

@@ -15,13 +15,13 @@ use Rattle.combine_rules.specs.Combined.{combined}
 use Rattle.made_functions.specs.Files.{IsFunctionMade}
 use Rattle.made_functions.specs.Made.{in_order}
 use Rattle.choices.specs.declared.choices.Choices.{Choices}
-use Rattle.rounds_rules.specs.Rounds.{IsAllocated}
+use Rattle.rounds_rules.specs.Rounds.{IsRegisterAllocated}
 use Rattle.rounds_rules.proofs.Once.{allocated_once}
 use Rattle.rv_pieces.specs.declared.piece.Pieces.{Pieces}
 use Rattle.selection_rules.specs.Select.{selected}
 use Rattle.stages.specs.declared.stage.Stage.{Stage}
 use Rattle.stages.specs.declared.stage.Stage.TheVariants.{Select, CombAlloc, Cse, Dead, Spill, Split, Alloc, Linear, Frames, Code}
-use Rattle.file_compile.specs.Listed.{IsAllocatedFor, IsLinearFor, IsTextOf, IsPassText, function_text, IsFunctionText, AreFunctionTexts, IsImageText, image_text, IsStageText}
+use Rattle.file_compile.specs.Listed.{IsAllocatedFor, IsLinearFor, IsTextOf, IsPassText, stage_text, IsFunctionText, AreFunctionTexts, IsImageText, image_text, IsStageText}
 
 -- where one is made, one text is
 one_text : {X : Type 0} {text_of : X → List ℕ} {Is : X → Type 0} (a b : List ℕ) → ((x y : X) → Is x → Is y → x ≡ y) →
@@ -32,7 +32,7 @@ module _ (choices : Choices) (tree : FunctionTree) where
   one_allocated : (m n : Mach) → IsAllocatedFor choices tree m → IsAllocatedFor choices tree n → m ≡ n
   one_allocated m n a b =
       let prepared = one_prepared (selected tree) a.prepared b.prepared a.is_prepared b.is_prepared in
-      allocated_once a.allocated (subst (λ (p : Mach). IsAllocated choices.alloc p n) (sym prepared) b.allocated)
+      allocated_once a.allocated (subst (λ (p : Mach). IsRegisterAllocated choices.alloc p n) (sym prepared) b.allocated)
 
   one_linear : (l k : Lin) → IsLinearFor choices tree l → IsLinearFor choices tree k → l ≡ k
   one_linear l k a b =
@@ -53,7 +53,7 @@ module _ (choices : Choices) (tree : FunctionTree) where
     is_allocated = record { prepared = of.made.prepared; is_prepared = of.made.is_prepared; allocated = of.made.allocated }
 
     -- what the code is made of is what the passes make
-    code_passed : (stage : Stage) → IsPassText choices stage tree (function_text choices stage tree of)
+    code_passed : (stage : Stage) → IsPassText choices stage tree (stage_text choices stage tree of)
     code_passed Select = record { made = selected tree; is = selects refl; spelled = refl }
     code_passed CombAlloc = record { made = combined (selected tree); is = combines refl; spelled = refl }
     code_passed Cse = record { made = of.made.is_prepared.common_again; is = repeated_passed of.made.is_prepared; spelled = refl }
@@ -72,7 +72,7 @@ module _ (choices : Choices) (tree : FunctionTree) where
   -- the text that the passes make is the function's at the stage
   pub passed_text : (stage : Stage) (text : List ℕ) → IsPassText choices stage tree text → IsFunctionText choices stage tree text
   passed_text stage text is =
-      record { passed = is; of_code = λ pieces of. pass_once stage text (function_text choices stage tree of) is (code_passed of stage) }
+      record { passed = is; of_code = λ pieces of. pass_once stage text (stage_text choices stage tree of) is (code_passed of stage) }
 
 module _ (choices : Choices) (stage : Stage) where
   texts_once : (trees : List FunctionTree) (xs ys : List (List ℕ)) → AllZip (IsFunctionText choices stage) trees xs → AllZip (IsFunctionText choices stage) trees ys → xs ≡ ys

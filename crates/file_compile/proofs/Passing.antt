@@ -5,7 +5,7 @@ use Rattle.chained_functions.proofs.Chained.{within}
 use Rattle.cmm_tree.specs.Tree.{FunctionTree, FileTree, functions}
 use Rattle.code_bounds.proofs.Bounded.{frame_fits}
 use Rattle.emit_rules.specs.Emitted.{IsEmitted}
-use Rattle.lin_ir.specs.Descriptors.{AreExact, IsWithin, frame_points}
+use Rattle.lin_ir.specs.Descriptors.{AreExact, FitsDescriptors, frame_point_count}
 use Rattle.lin_ir.specs.declared.descr.Descr.{Descr}
 use Rattle.lin_ir.specs.declared.lin.Lin.{Lin}
 use Rattle.mach_ir.specs.Formed.{WellFormed}
@@ -13,7 +13,7 @@ use Rattle.mach_ir.specs.Placed.{WellPlaced}
 use Rattle.mach_ir.specs.Sizes.{HasRoom}
 use Rattle.mach_ir.specs.Text.{mach_text}
 use Rattle.mach_ir.specs.declared.mach.Mach.{Mach}
-use Rattle.mach_passes.specs.Prepared.{IsPreparable, IsPrepared, prepared_size}
+use Rattle.mach_passes.specs.Prepared.{IsPreparable, IsPreparedMach, prepared_size}
 use Rattle.mach_passes.specs.Stages.{IsOverMach, IsPassedTo}
 use Rattle.mach_passes.proofs.Whole.{prepared as prepared_by}
 use Rattle.stages.specs.declared.stage.Stage.{Stage}
@@ -48,7 +48,7 @@ module _ (tree : FunctionTree) (accepted : IsAcceptedFunction tree) (mach : Mach
   room = subst (λ (m : Mach). HasRoom (prepared_size (length m.params)) m) (sym is) (selected_room known)
 
   module _ (prepared : Mach) (made : IsPassedTo mach Split prepared) where
-    pub of_selected : IsPrepared (selected tree) prepared
+    pub of_selected : IsPreparedMach (selected tree) prepared
     of_selected = prepared_by (subst (λ (m : Mach). IsPassedTo m Split prepared) is made)
 
     pub prepared_formed : WellFormed prepared
@@ -81,7 +81,7 @@ module _ (tree : FunctionTree) (accepted : IsAcceptedFunction tree) {choices : C
   allocated_line_room m a = line_room known_here (allocated_placed m a)
 
   -- and its lines are what descriptors ask
-  pub lines_within : (l : Lin) → IsLinearFor choices tree l → IsWithin l
+  pub lines_within : (l : Lin) → IsLinearFor choices tree l → FitsDescriptors l
   lines_within l are =
       let placed = allocated_placed are.mach are.is_allocated in
       let linear = linear_in_order choices.order are.ordered are.linear in
@@ -89,7 +89,7 @@ module _ (tree : FunctionTree) (accepted : IsAcceptedFunction tree) {choices : C
 
 -- the pieces of its lines are made of it
 pub function_made : {tree : FunctionTree} {choices : Choices} (lin : Lin) → IsLinearFor choices tree lin → (ds : List Descr) (pieces : Pieces) → AreExact lin ds →
-    length ds ≡ frame_points lin.code → IsEmitted lin ds pieces → IsFunctionMade choices tree pieces
+    length ds ≡ frame_point_count lin.code → IsEmitted lin ds pieces → IsFunctionMade choices tree pieces
 function_made lin are ds pieces exact count emitted =
     let is = are.is_allocated in
     record {

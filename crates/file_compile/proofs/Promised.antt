@@ -13,13 +13,13 @@ use Rattle.image_form.specs.Image.{AreTables}
 use Rattle.image_form.specs.Tables.{Tables}
 use Rattle.layout_rules.specs.TooLarge.{first_too_large}
 use Rattle.made_functions.specs.Exact.{IsExact}
-use Rattle.made_functions.specs.Files.{IsMadeFor}
+use Rattle.made_functions.specs.Files.{AreTablesMadeFor}
 use Rattle.stages.specs.declared.stage.Stage.{Stage}
 
 pub stage_text_once : (choices : Choices) (file : FileTree) (stage : Stage) (a b : List ℕ) → IsStageText choices file stage a → IsStageText choices file stage b → a ≡ b
 stage_text_once = listed.stage_text_once
 
-module _ {choices : Choices} (text : List ℕ) (file : FileTree) (is : IsFileOf text file) (image : Tables) (made : IsMadeFor choices file image) where
+module _ {choices : Choices} (text : List ℕ) (file : FileTree) (is : IsFileOf text file) (image : Tables) (made : AreTablesMadeFor choices file image) where
   pub made_correct : All (λ b. b < 256) text → AreTables image → IsCorrect file image
   made_correct are tables = promise.made_correct text file is image made are tables
 

@@ -12,12 +12,12 @@ use Rattle.lin_ir.specs.declared.lin.Lin.{Lin}
 use Rattle.linear_pass.specs.Linear.{IsLinearOf}
 use Rattle.mach_ir.specs.Text.{mach_text}
 use Rattle.mach_ir.specs.declared.mach.Mach.{Mach}
-use Rattle.mach_passes.specs.Prepared.{IsPrepared}
+use Rattle.mach_passes.specs.Prepared.{IsPreparedMach}
 use Rattle.mach_passes.specs.Stages.{IsPassedTo}
-use Rattle.made_functions.specs.Files.{IsFunctionMade, IsMadeFor}
+use Rattle.made_functions.specs.Files.{IsFunctionMade, AreTablesMadeFor}
 use Rattle.made_functions.specs.Made.{in_order}
 use Rattle.choices.specs.declared.choices.Choices.{Choices}
-use Rattle.rounds_rules.specs.Rounds.{IsAllocated}
+use Rattle.rounds_rules.specs.Rounds.{IsRegisterAllocated}
 use Rattle.rv_pieces.specs.declared.piece.Pieces.{Pieces}
 use Rattle.selection_rules.specs.Select.{selected}
 use Rattle.stages.specs.declared.stage.Stage.{Stage}
@@ -28,8 +28,8 @@ use Rattle.stages.specs.declared.stage.Stage.TheVariants.{Select, CombAlloc, Cse
 -- It is what is selected of the function, prepared and with a place for each register.
 pub record IsAllocatedFor (choices : Choices) (tree : FunctionTree) (m : Mach) : Type 0 where
   pub prepared : Mach
-  pub is_prepared : IsPrepared (selected tree) prepared
-  pub allocated : IsAllocated choices.alloc prepared m
+  pub is_prepared : IsPreparedMach (selected tree) prepared
+  pub allocated : IsRegisterAllocated choices.alloc prepared m
 
 -- It is that as lines, in their order.
 pub record IsLinearFor (choices : Choices) (tree : FunctionTree) (l : Lin) : Type 0 where
@@ -55,18 +55,18 @@ IsPassText choices stage tree text =
     IsTextOf mach_text (IsPassedTo (selected tree) stage) text
 
 -- the text of a function at a stage, by what its code is made of
-abbrev pub function_text : (choices : Choices) → Stage → (tree : FunctionTree) {pieces : Pieces} →
+abbrev pub stage_text : (choices : Choices) → Stage → (tree : FunctionTree) {pieces : Pieces} →
     IsFunctionMade choices tree pieces → List ℕ
-function_text choices Select tree of = mach_text (selected tree)
-function_text choices CombAlloc tree of = mach_text (combined (selected tree))
-function_text choices Cse tree of = mach_text of.made.is_prepared.common_again
-function_text choices Dead tree of = mach_text of.made.is_prepared.dropped
-function_text choices Spill tree of = mach_text of.made.is_prepared.spilled
-function_text choices Split tree of = mach_text of.made.prepared
-function_text choices Alloc tree of = mach_text of.made.mach
-function_text choices Linear tree of = lin_text of.lin
-function_text choices Frames tree of = []
-function_text choices Code tree of = []
+stage_text choices Select tree of = mach_text (selected tree)
+stage_text choices CombAlloc tree of = mach_text (combined (selected tree))
+stage_text choices Cse tree of = mach_text of.made.is_prepared.common_again
+stage_text choices Dead tree of = mach_text of.made.is_prepared.dropped
+stage_text choices Spill tree of = mach_text of.made.is_prepared.spilled
+stage_text choices Split tree of = mach_text of.made.prepared
+stage_text choices Alloc tree of = mach_text of.made.mach
+stage_text choices Linear tree of = lin_text of.lin
+stage_text choices Frames tree of = []
+stage_text choices Code tree of = []
 
 -- This is the function's text at the stage: the passes up to it make it, and whatever code is made of the
 -- function is made of what this is the text of.
@@ -74,7 +74,7 @@ pub record IsFunctionText (choices : Choices) (stage : Stage) (tree : FunctionTr
     : Type 0 where
   pub passed : IsPassText choices stage tree text
   pub of_code : (pieces : Pieces) (of : IsFunctionMade choices tree pieces) →
-      text ≡ function_text choices stage tree of
+      text ≡ stage_text choices stage tree of
 
 -- the texts of all, one after the other
 pub record AreFunctionTexts (choices : Choices) (stage : Stage) (trees : List FunctionTree)
@@ -90,7 +90,7 @@ pub record IsImageText (choices : Choices) (text_of : Tables → List ℕ) (file
     (text : List ℕ) : Type 0 where
   pub image : Tables
   pub is_image : AreTables image
-  pub made : IsMadeFor choices file image
+  pub made : AreTablesMadeFor choices file image
   pub fits : first_too_large image ≡ None
   pub is : text ≡ text_of image
 

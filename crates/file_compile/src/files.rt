@@ -10,7 +10,7 @@ ghost use Rattle.cmm_types.specs.Typing.{AreItemsAnnotated, IsFunctionAnnotated}
 ghost use Rattle.image_form.specs.Image.{IsImage};
 ghost use Rattle.image_form.specs.Tables.{Tables, tables};
 ghost use Rattle.layout_rules.specs.TooLarge.{first_too_large};
-ghost use Rattle.made_functions.specs.Files.{IsFunctionMade, IsMadeFor};
+ghost use Rattle.made_functions.specs.Files.{IsFunctionMade, AreTablesMadeFor};
 ghost use Rattle.file_compile.specs.Accepted.{IsAcceptedFile, IsAcceptedFunction};
 ghost use Rattle.stages.specs.Image.{IsOfImage};
 ghost use Rattle.file_compile.specs.Listed.{AreFunctionTexts, IsStageText};
@@ -131,13 +131,13 @@ pub fn compile_by<R: Threads + Sync, G: Gate + Sync>(
     requires few_jobs { jobs ≤ 64 }
     requires accepted { IsAcceptedFile (file_view checked.now) }
     ensures made { IfOk result (λ image.
-        IsMadeFor choices (file_view checked.now) (tables image)) }
+        AreTablesMadeFor choices (file_view checked.now) (tables image)) }
     ensures is_image { IfOk result IsImage }
     ensures fits { IfOk result (λ image. first_too_large (tables image) ≡ None) }
     ensures large { (large : Large)
         → result ≡ Err (BuildError.TooLarge large)
         → (t : Tables)
-        × (IsMadeFor choices (file_view checked.now) t × (first_too_large t ≡ Some large)) }
+        × (AreTablesMadeFor choices (file_view checked.now) t × (first_too_large t ≡ Some large)) }
 {
     let file = checked.typed().file();
     let functions = functions_of(alloc, file.items.as_slice())?;
@@ -158,13 +158,13 @@ pub fn compile<R: Threads + Sync, G: Gate + Sync>(
     requires few_jobs { jobs ≤ 64 }
     requires accepted { IsAcceptedFile (file_view checked.now) }
     ensures made { IfOk result (λ image.
-        IsMadeFor defaults (file_view checked.now) (tables image)) }
+        AreTablesMadeFor defaults (file_view checked.now) (tables image)) }
     ensures is_image { IfOk result IsImage }
     ensures fits { IfOk result (λ image. first_too_large (tables image) ≡ None) }
     ensures large { (large : Large)
         → result ≡ Err (BuildError.TooLarge large)
         → (t : Tables)
-        × (IsMadeFor defaults (file_view checked.now) t × (first_too_large t ≡ Some large)) }
+        × (AreTablesMadeFor defaults (file_view checked.now) t × (first_too_large t ≡ Some large)) }
 {
     compile_by(rt, alloc, checked, DEFAULTS, jobs, gate)
 }
@@ -230,7 +230,7 @@ pub fn stage_by<R: Threads + Sync>(
     ensures large { (large : Large)
         → result ≡ Err (BuildError.TooLarge large)
         → (t : Tables)
-        × (IsMadeFor choices (file_view checked.now) t × (first_too_large t ≡ Some large)) }
+        × (AreTablesMadeFor choices (file_view checked.now) t × (first_too_large t ≡ Some large)) }
 {
     match stage {
         Stage::Frames => {
@@ -260,7 +260,7 @@ pub fn stage<R: Threads + Sync>(
     ensures large { (large : Large)
         → result ≡ Err (BuildError.TooLarge large)
         → (t : Tables)
-        × (IsMadeFor defaults (file_view checked.now) t × (first_too_large t ≡ Some large)) }
+        × (AreTablesMadeFor defaults (file_view checked.now) t × (first_too_large t ≡ Some large)) }
 {
     stage_by(rt, alloc, checked, DEFAULTS, stage)
 }

@@ -18,7 +18,7 @@ use Rattle.code_bounds.proofs.Few.{few}
 use Rattle.code_bounds.proofs.Keeping.{each_keeps}
 use Rattle.compiled_files.specs.Stages.{AreChained, HasChain}
 use Rattle.made_functions.specs.Exact.{IsFunctionExact}
-use Rattle.frame_names.specs.Names.{names_by}
+use Rattle.frame_names.specs.Names.{locations_named_by}
 use Rattle.frame_names.proofs.Names.{exact_names}
 use Rattle.laid_files.proofs.Laid.{function_can}
 use Rattle.laid_parts.proofs.Whole.{laid_out}
@@ -37,7 +37,7 @@ module _ (choices : Choices) (text : List ℕ) (file : FileTree) (is : IsFileOf 
   function_laid : (tree : FunctionTree) → Contains (functions file) tree → (p : Pieces) → IsFunctionMade choices tree p → IsFunctionLaid file p
   function_laid tree among p made =
       let whole = function_chained tree among p made in
-      function_can text file is tree among made.lin made.descriptors p whole (names_by made.descriptors made.lin) (exact_names whole.lines.regular whole.exact)
+      function_can text file is tree among made.lin made.descriptors p whole (locations_named_by made.descriptors made.lin) (exact_names whole.lines.regular whole.exact)
 
   function_exact : (tree : FunctionTree) → Contains (functions file) tree → (p : Pieces) → IsFunctionMade choices tree p → IsFunctionExact choices tree p
   function_exact tree among p made =

@@ -8,7 +8,7 @@ use Rattle.layout_rules.specs.declared.form.Form.{Form}
 use Rattle.layout_rules.specs.Forms.{none_far}
 use Rattle.layout_rules.specs.Laid.{AreAllForms, laid_out}
 use Rattle.layout_rules.proofs.Relaxing.{forms_once}
-use Rattle.made_functions.specs.Files.{IsFunctionMade, IsMadeFor}
+use Rattle.made_functions.specs.Files.{IsFunctionMade, AreTablesMadeFor}
 use Rattle.made_once.proofs.Made.{made_once}
 use Rattle.rv_pieces.specs.declared.piece.Pieces.{Pieces}
 
@@ -30,7 +30,7 @@ all_forms_once (p ∷ ps) (f ∷ fs) [] a b = absurd b
 all_forms_once (p ∷ ps) (f ∷ fs) (g ∷ gs) a b =
     ap (λ (x : List Form). x ∷ fs) (forms_once none_far p.code f g a.0 b.0) ∙ ap (λ (xs : List (List Form)). g ∷ xs) (all_forms_once ps fs gs a.1 b.1)
 
-pub made_for_once : {choices : Choices} (file : FileTree) (t u : Tables) → IsMadeFor choices file t → IsMadeFor choices file u → t ≡ u
+pub made_for_once : {choices : Choices} (file : FileTree) (t u : Tables) → AreTablesMadeFor choices file t → AreTablesMadeFor choices file u → t ≡ u
 made_for_once {choices} file t u a b =
     let same : a.pieces ≡ b.pieces = pieces_once choices (functions file) a.pieces b.pieces a.each b.each in
     let are : AreAllForms b.pieces a.laid.forms = subst (λ (ps : List Pieces). AreAllForms ps a.laid.forms) same a.laid.are in

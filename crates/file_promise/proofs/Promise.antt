@@ -15,12 +15,12 @@ use Rattle.image_form.specs.Tables.{Tables}
 use Rattle.layout_rules.specs.Laid.{IsLaid}
 use Rattle.layout_rules.specs.TooLarge.{first_too_large}
 use Rattle.layout_rules.proofs.Functions.{laid}
-use Rattle.made_functions.specs.Files.{IsMadeFor}
+use Rattle.made_functions.specs.Files.{AreTablesMadeFor}
 use Rattle.made_functions.specs.Exact.{IsExact}
 use Rattle.file_promise.proofs.Bytes.{bytes_of}
 use Rattle.file_promise.proofs.Made.{are_chained, are_exact, can_be_laid, keep}
 
-module _ {choices : Choices} (text : List ℕ) (file : FileTree) (is : IsFileOf text file) (image : Tables) (made : IsMadeFor choices file image) where
+module _ {choices : Choices} (text : List ℕ) (file : FileTree) (is : IsFileOf text file) (image : Tables) (made : AreTablesMadeFor choices file image) where
   is_laid : IsLaid file made.pieces image
   is_laid = laid file made.pieces image made.laid
 

@@ -15,12 +15,12 @@ ghost use Rattle.made_functions.specs.Exact.{IsExact};
 ghost use Rattle.image_form.specs.Image.{AreTables};
 ghost use Rattle.image_form.specs.Tables.{Tables};
 ghost use Rattle.layout_rules.specs.TooLarge.{first_too_large};
-ghost use Rattle.made_functions.specs.Files.{IsMadeFor};
+ghost use Rattle.made_functions.specs.Files.{AreTablesMadeFor};
 
 /// Law: one image is made for a file, whatever is chosen.
 pub fn files_are_made_once()
-    ensures { (choices : Choices) (file : FileTree) (t u : Tables) → IsMadeFor choices file t →
-        IsMadeFor choices file u → t ≡ u }
+    ensures { (choices : Choices) (file : FileTree) (t u : Tables) → AreTablesMadeFor choices file t →
+        AreTablesMadeFor choices file u → t ≡ u }
 {}
 
 /// Law: the image that is made for the file of an accepted text is correct for it and bounded by it, it asks for an
@@ -28,15 +28,15 @@ pub fn files_are_made_once()
 pub fn made_images_are_right()
     ensures correct { (choices : Choices) (text : List ℕ) (file : FileTree) → IsFileOf text file →
         All (λ b. b < 256) text →
-        (image : Tables) → AreTables image → IsMadeFor choices file image → IsCorrect file image }
+        (image : Tables) → AreTables image → AreTablesMadeFor choices file image → IsCorrect file image }
     ensures in_need { (choices : Choices) (text : List ℕ) (file : FileTree) → IsFileOf text file →
         All (λ b. b < 256) text →
-        (image : Tables) → AreTables image → IsMadeFor choices file image → AsksInNeed file image }
+        (image : Tables) → AreTables image → AreTablesMadeFor choices file image → AsksInNeed file image }
     ensures bounded { (choices : Choices) (text : List ℕ) (file : FileTree) → IsFileOf text file →
         All (λ b. b < 256) text →
-        (image : Tables) → IsMadeFor choices file image → IsBounded file image }
+        (image : Tables) → AreTablesMadeFor choices file image → IsBounded file image }
     ensures exact { (choices : Choices) (text : List ℕ) (file : FileTree) → IsFileOf text file →
-        (image : Tables) → IsMadeFor choices file image → IsExact choices file image }
+        (image : Tables) → AreTablesMadeFor choices file image → IsExact choices file image }
 {}
 
 /// Law: no section of the image of a roomy file passes its limit.
@@ -44,5 +44,5 @@ pub fn roomy_files_fit()
     ensures { (choices : Choices) (text : List ℕ) (file : FileTree) → IsFileOf text file →
         All (λ b. b < 256) text →
         (image : Tables) →
-        IsMadeFor choices file image → IsRoomy file → first_too_large image ≡ None }
+        AreTablesMadeFor choices file image → IsRoomy file → first_too_large image ≡ None }
 {}

@@ -3,7 +3,7 @@ use Rattle.std.proofs.Common.{◌≡◌, ℕ, zero, suc, ◌+◌, ◌-◌, ◌*�
 use Rattle.std.specs.Int.{w64, to_le_bytes}
 use Rattle.std.proofs.Math.Nat as nat
 use Rattle.std.proofs.lemmas.Bool.{cases_lt}
-use Rattle.rv_machine.specs.Memory.{number_of, words_of_bytes}
+use Rattle.rv_machine.specs.Memory.{number_from_bytes, words_of_bytes}
 
 abbrev pub word_bytes : ℕ → List ℕ
 word_bytes w = to_le_bytes w64 w
@@ -33,30 +33,30 @@ fit_both n (x ∷ xs) ys p q =
 rest : (n p : ℕ) → n / p ≡ n / p % 256 + n / (p * 256) * 256
 rest n p = omega (arith, nat.div-div-eq-div-mul n p 256)
 
-cut_1 : (w : ℕ) → w < 2 ^ 8 → number_of (take 1 (word_bytes w)) ≡ w
+cut_1 : (w : ℕ) → w < 2 ^ 8 → number_from_bytes (take 1 (word_bytes w)) ≡ w
 cut_1 w h = omega arith
 
-cut_2 : (w : ℕ) → w < 2 ^ 16 → number_of (take 2 (word_bytes w)) ≡ w
+cut_2 : (w : ℕ) → w < 2 ^ 16 → number_from_bytes (take 2 (word_bytes w)) ≡ w
 cut_2 w h = omega (arith, rest w 1, rest w 256)
 
-cut_3 : (w : ℕ) → w < 2 ^ 24 → number_of (take 3 (word_bytes w)) ≡ w
+cut_3 : (w : ℕ) → w < 2 ^ 24 → number_from_bytes (take 3 (word_bytes w)) ≡ w
 cut_3 w h = omega (arith, rest w 1, rest w 256, rest w 65536)
 
-cut_4 : (w : ℕ) → w < 2 ^ 32 → number_of (take 4 (word_bytes w)) ≡ w
+cut_4 : (w : ℕ) → w < 2 ^ 32 → number_from_bytes (take 4 (word_bytes w)) ≡ w
 cut_4 w h = omega (arith, rest w 1, rest w 256, rest w 65536, rest w 16777216)
 
-cut_5 : (w : ℕ) → w < 2 ^ 40 → number_of (take 5 (word_bytes w)) ≡ w
+cut_5 : (w : ℕ) → w < 2 ^ 40 → number_from_bytes (take 5 (word_bytes w)) ≡ w
 cut_5 w h = omega (arith, rest w 1, rest w 256, rest w 65536, rest w 16777216, rest w 4294967296)
 
-cut_6 : (w : ℕ) → w < 2 ^ 48 → number_of (take 6 (word_bytes w)) ≡ w
+cut_6 : (w : ℕ) → w < 2 ^ 48 → number_from_bytes (take 6 (word_bytes w)) ≡ w
 cut_6 w h =
     omega (arith, rest w 1, rest w 256, rest w 65536, rest w 16777216, rest w 4294967296, rest w 1099511627776)
 
-cut_7 : (w : ℕ) → w < 2 ^ 56 → number_of (take 7 (word_bytes w)) ≡ w
+cut_7 : (w : ℕ) → w < 2 ^ 56 → number_from_bytes (take 7 (word_bytes w)) ≡ w
 cut_7 w h =
     omega (arith, rest w 1, rest w 256, rest w 65536, rest w 16777216, rest w 4294967296, rest w 1099511627776, rest w 281474976710656)
 
-cut_8 : (w : ℕ) → w < 2 ^ 64 → number_of (word_bytes w) ≡ w
+cut_8 : (w : ℕ) → w < 2 ^ 64 → number_from_bytes (word_bytes w) ≡ w
 cut_8 w h =
     omega (arith, rest w 1, rest w 256, rest w 65536, rest w 16777216, rest w 4294967296, rest w 1099511627776, rest w 281474976710656, rest w 72057594037927936)
 

@@ -17,11 +17,11 @@ use Rattle.image_rules.proofs.Placed.{end_of_lists-above, data_length, items_len
 use Rattle.layout_rules.specs.declared.form.Form.{Form}
 use Rattle.layout_rules.specs.Conditions.{IsFileLaid}
 use Rattle.layout_rules.specs.Forms.{total_words}
-use Rattle.layout_rules.specs.Laid.{address_of_place, entries_from, function_words, code_from, rows_from, cell_bytes, data_of, AllReach, IsLaid}
+use Rattle.layout_rules.specs.Laid.{address_of_place, function_entries_from, function_words, code_from, rows_from, cell_bytes, data_of, AllReach, IsLaid}
 use Rattle.layout_rules.proofs.Functions.{function_length}
 use Rattle.linear_machine.specs.Contents.{static_in, statics_of}
 use Rattle.linear_machine.specs.Statics.{AreBehind, StaticsLie}
-use Rattle.moving_laws.specs.Stands.{Among, StaticsStand}
+use Rattle.moving_laws.specs.Stands.{AmongNumbers, StaticsStand}
 use Rattle.moving_laws.specs.Values.{function_at, value_word, IsVal, IsStill, IsKnown}
 use Rattle.moving_laws.specs.Words.{held_word}
 use Rattle.rv_machine.specs.Memory.{Region, words_of_bytes}
@@ -36,7 +36,7 @@ use Rattle.first_statics.proofs.Lists.{AreSound, file_sound, first_sound, words_
 -- ---- functions
 
 entry_low : (file : FileTree) (entries : List ℕ) (at : ℕ) (ps : List Pieces) (forms : List (List Form)) (f : ℕ) →
-    slice_index (entries_from at ps forms) f ≤ at + length (code_from file entries at ps forms)
+    slice_index (function_entries_from at ps forms) f ≤ at + length (code_from file entries at ps forms)
 entry_low file entries at [] forms f = omega arith
 entry_low file entries at (p ∷ ps) [] f = omega arith
 entry_low file entries at (p ∷ ps) (k ∷ forms) zero = omega arith
@@ -45,7 +45,7 @@ entry_low file entries at (p ∷ ps) (k ∷ forms) (suc f) =
     omega (arith, entry_low file entries next ps forms f, function_length file entries at p k, length-append (function_words file entries at p.code k) (code_from file entries next ps forms))
 
 entry_is : (at : ℕ) (fs : List FunctionTree) (ps : List Pieces) (forms : List (List Form)) (f : ℕ) → length ps ≡ length fs →
-    address_of_place (slice_index (entries_from at ps forms) f) ≡ function_at (rows_from at fs ps forms) f
+    address_of_place (slice_index (function_entries_from at ps forms) f) ≡ function_at (rows_from at fs ps forms) f
 entry_is at [] [] forms f same = refl
 entry_is at [] (p ∷ ps) forms f same = absurd (omega (arith, same))
 entry_is at (f ∷ fs) [] forms k same = absurd (omega (arith, same))
@@ -64,7 +64,7 @@ rows_many at (f ∷ fs) (p ∷ ps) (g ∷ forms) same are =
 
 -- ---- root cells
 
-roots_same : (rs : List ℕ) → ((r : ℕ) → Among r rs → data_start ≤ r) → map (λ offset. data_start + offset) (map (λ address. address - data_start) rs) ≡ rs
+roots_same : (rs : List ℕ) → ((r : ℕ) → AmongNumbers r rs → data_start ≤ r) → map (λ offset. data_start + offset) (map (λ address. address - data_start) rs) ≡ rs
 roots_same [] low = refl
 roots_same (r ∷ rs) low =
     let own = low r (inl refl) in
@@ -72,11 +72,11 @@ roots_same (r ∷ rs) low =
     ap (λ x. x ∷ map (λ offset. data_start + offset) (map (λ address. address - data_start) rs)) e
     ∙ ap (λ (xs : List ℕ). r ∷ xs) (roots_same rs (λ x among. low x (inr among)))
 
-among_root : (roots : List ℕ) (x : ℕ) → is_root roots x ≡ true → Among x roots
+among_root : (roots : List ℕ) (x : ℕ) → is_root roots x ≡ true → AmongNumbers x roots
 among_root [] x e = absurd (let no' : false ≡ true = e in cc)
 among_root (r ∷ roots) x e = by (r == x) refl e (λ e. among_root roots x e)
   where
-    by : (b : Bool) → (r == x) ≡ b → cond b true (is_root roots x) ≡ true → (is_root roots x ≡ true → Among x roots) → Among x (r ∷ roots)
+    by : (b : Bool) → (r == x) ≡ b → cond b true (is_root roots x) ≡ true → (is_root roots x ≡ true → AmongNumbers x roots) → AmongNumbers x (r ∷ roots)
     by true same e later = inl (sym (eqb-true r x same))
     by false same e later = inr (later e)
 
@@ -84,7 +84,7 @@ or_true : (b : Bool) → cond b true true ≡ true
 or_true true = refl
 or_true false = refl
 
-root_among : (roots : List ℕ) (x : ℕ) → Among x roots → is_root roots x ≡ true
+root_among : (roots : List ℕ) (x : ℕ) → AmongNumbers x roots → is_root roots x ≡ true
 root_among [] x among = absurd among
 root_among (r ∷ roots) x (inl e) = ap (λ b. cond b true (is_root roots x)) (subst (λ n. (r == n) ≡ true) (sym e) (eq-eqb r r refl))
 root_among (r ∷ roots) x (inr among) = ap (λ b. cond (r == x) true b) (root_among roots x among) ∙ or_true (r == x)
@@ -117,7 +117,7 @@ module _ (file : FileTree) (ps : List Pieces) (image : Tables) (laid : IsLaid fi
   forms = laid.forms
 
   abbrev entries : List ℕ
-  entries = entries_from stub_words ps forms
+  entries = function_entries_from stub_words ps forms
 
   bytes_are : image.bytes ≡ data_of file entries
   bytes_are = ap (λ (t : Tables). t.bytes) laid.is
@@ -130,9 +130,9 @@ module _ (file : FileTree) (ps : List Pieces) (image : Tables) (laid : IsLaid fi
       let above : data_start ≤ data_end file = end_of_lists-above data_start (lists_of file) in
       omega (arith, long, length-take-le (data_bytes file) all, data_length file (cell_bytes entries) (λ v. refl), above)
 
-  roots_are : machine.root_cells image ≡ root_cells file
+  roots_are : machine.root_addresses image ≡ root_cells file
   roots_are =
-      ap (λ (t : Tables). machine.root_cells t) laid.is
+      ap (λ (t : Tables). machine.root_addresses t) laid.is
       ∙ roots_same (root_cells file) (λ r among. root_low data_start (lists_of file) r among)
 
   -- The static data that a run of the file begins with lies as that of the image.
@@ -140,8 +140,8 @@ module _ (file : FileTree) (ps : List Pieces) (image : Tables) (laid : IsLaid fi
   first_lies = record {
     lists = lists_behind_one_another (value_of_symbol file) data_start (lists_of file);
     ends = end_of_data-first_memory file ∙ data_ends;
-    root = λ x e. subst (Among x) (sym roots_are) (among_root (root_cells file) x e);
-    roots = λ x among. root_among (root_cells file) x (subst (Among x) roots_are among);
+    root = λ x e. subst (AmongNumbers x) (sym roots_are) (among_root (root_cells file) x e);
+    roots = λ x among. root_among (root_cells file) x (subst (AmongNumbers x) roots_are among);
   }
 
   module _ (short : 4 * length image.code ≤ code_limit) (each_one : length ps ≡ length (functions file)) where
@@ -212,19 +212,19 @@ module _ (file : FileTree) (ps : List Pieces) (image : Tables) (laid : IsLaid fi
       words_are = ap words_of_bytes bytes_are ∙ data_words file entries low sound
 
       kind_by : (x : ℕ) (v : Value) → statics_of (first_memory file) x ≡ Some v → (b : Bool) → is_root (root_cells file) x ≡ b →
-          (IsVal image 0 v × Among x (machine.root_cells image)) ⊎ (IsStill v × (Among x (machine.root_cells image) → ⊥))
+          (IsVal image 0 v × AmongNumbers x (machine.root_addresses image)) ⊎ (IsStill v × (AmongNumbers x (machine.root_addresses image) → ⊥))
       kind_by x v e true root =
           let among = among_root (root_cells file) x root in
           let m = root_found file data_start (lists_of file) x small sound among in
           let there = m.there in
           let is = (at_cell x v e).1 in
           let same : m.held ≡ v = cc in
-          inl (is_val v (subst (IsRootValue (length (functions file)) (data_end file)) same m.value), subst (Among x) (sym roots_are) among)
+          inl (is_val v (subst (IsRootValue (length (functions file)) (data_end file)) same m.value), subst (AmongNumbers x) (sym roots_are) among)
       kind_by x v e false root =
-          inr (still v (at_place x v e).cell, λ among. absurd (let r = root_among (root_cells file) x (subst (Among x) roots_are among) in cc))
+          inr (still v (at_place x v e).cell, λ among. absurd (let r = root_among (root_cells file) x (subst (AmongNumbers x) roots_are among) in cc))
 
       -- The memory that a run begins with has the static data of the file.
-      pub first_stands : (stack heap : ℕ) → StaticsStand image [] (start_memory image stack heap) (machine.root_cells image) (statics_of (first_memory file))
+      pub first_stands : (stack heap : ℕ) → StaticsStand image [] (start_memory image stack heap) (machine.root_addresses image) (statics_of (first_memory file))
       first_stands stack heap = record {
         cell = λ x v e.
             let m = at_place x v e in

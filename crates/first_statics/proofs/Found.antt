@@ -20,9 +20,9 @@ use Rattle.cmm_tree.specs.Tree.{DatumTree, Val, Address, DataItemTree, DataListT
 use Rattle.image_rules.proofs.Placed.{end_of_lists-above, items_length, cells_enough}
 use Rattle.layout_rules.specs.Laid.{address_of_place}
 use Rattle.linear_machine.specs.Contents.{static_in}
-use Rattle.moving_laws.specs.Stands.{Among}
+use Rattle.moving_laws.specs.Stands.{AmongNumbers}
 use Rattle.moving_laws.proofs.Walk.{among_append}
-use Rattle.accepted_files.specs.Given.{IsGiven}
+use Rattle.accepted_files.specs.Given.{IsDatumGiven}
 use Rattle.first_statics.proofs.Cells.{IsCell, cells_are, cell_at as cell_behind}
 use Rattle.first_statics.proofs.Lists.{AreSound, IsFirstSound, first_sound, items_bytes, statics_from, word_at, words_from, own_bytes, own_fill}
 use Rattle.first_statics.proofs.Symbols.{IsOfFile, symbol_of_file}
@@ -188,8 +188,8 @@ root_symbol file (Some (Block serial offset)) small h some = absurd (h (Block se
 root_symbol file None small h some = absurd (false≢true some)
 
 -- a root item that is here
-root_datum : (file : FileTree) (address : ℕ) (datum : DatumTree) (r : ℕ) → data_end file < 2 ^ 64 → keeps_rule address datum ≡ true → IsGiven file datum →
-    Among r (root_at address datum) → IsRootDatum file address datum r
+root_datum : (file : FileTree) (address : ℕ) (datum : DatumTree) (r : ℕ) → data_end file < 2 ^ 64 → keeps_rule address datum ≡ true → IsDatumGiven file datum →
+    AmongNumbers r (root_at address datum) → IsRootDatum file address datum r
 root_datum file address (Val (Some w)) r small keeps given (inl e) =
     let both = and_parts (address % 8 == 0) (w % 2 == 1) keeps in
     record {
@@ -219,7 +219,7 @@ pub record IsRootItem (file : FileTree) (address : ℕ) (items : List DataItemTr
 
 -- a root item, among items
 root_item : (file : FileTree) (address : ℕ) (items : List DataItemTree) (r : ℕ) → data_end file < 2 ^ 64 → address ≤ data_start + data_limit → first_fault (items_from address items) ≡ None →
-    AllByRecursion (λ (i : DataItemTree). IsGiven file i.datum) items → Among r (roots_among (items_from address items)) → IsRootItem file address items r
+    AllByRecursion (λ (i : DataItemTree). IsDatumGiven file i.datum) items → AmongNumbers r (roots_among (items_from address items)) → IsRootItem file address items r
 root_item file address [] r small within none given among = absurd among
 root_item file address (i ∷ items) r small within none given among =
     let next = address + size_at address i.datum in
@@ -233,7 +233,7 @@ root_item file address (i ∷ items) r small within none given among =
     own : List DataByte
     own = bytes_at (value_of_symbol file) address i.datum
 
-    first : keeps_rule address i.datum ≡ true → Among r (root_at address i.datum) → IsRootItem file address (i ∷ items) r
+    first : keeps_rule address i.datum ≡ true → AmongNumbers r (root_at address i.datum) → IsRootItem file address (i ∷ items) r
     first rule among =
         let d = root_datum file address i.datum r small rule given.0 among in
         record {
@@ -261,29 +261,29 @@ root_item file address (i ∷ items) r small within none given among =
         }
 
 -- a root cell of items is after their begin
-item_low : (address : ℕ) (items : List DataItemTree) (r : ℕ) → Among r (roots_among (items_from address items)) → address ≤ r
+item_low : (address : ℕ) (items : List DataItemTree) (r : ℕ) → AmongNumbers r (roots_among (items_from address items)) → address ≤ r
 item_low address [] r among = absurd among
 item_low address (i ∷ items) r among =
     let next = address + size_at address i.datum in
     ⊎_elim (own address i.datum r) (λ later. let l = item_low next items r later in omega (arith, l)) (among_append r (root_at address i.datum) (roots_among (items_from next items)) among)
   where
-    by : (b : Bool) (address r : ℕ) → Among r (cond b (address ∷ []) []) → address ≤ r
+    by : (b : Bool) (address r : ℕ) → AmongNumbers r (cond b (address ∷ []) []) → address ≤ r
     by true address r (inl e) = omega (arith, e)
     by true address r (inr z) = absurd z
     by false address r z = absurd z
 
-    own : (address : ℕ) (datum : DatumTree) (r : ℕ) → Among r (root_at address datum) → address ≤ r
+    own : (address : ℕ) (datum : DatumTree) (r : ℕ) → AmongNumbers r (root_at address datum) → address ≤ r
     own address datum r among = by (is_root_datum datum) address r among
 
-split_roots : (end : ℕ) (d : DataListTree) (lists : List DataListTree) (r : ℕ) → Among r (roots_among (items_of_lists (lists_behind end (d ∷ lists)))) →
-    Among r (roots_among (items_from (start_behind end) d.items)) ⊎ Among r (roots_among (items_of_lists (lists_behind (end_behind end d) lists)))
+split_roots : (end : ℕ) (d : DataListTree) (lists : List DataListTree) (r : ℕ) → AmongNumbers r (roots_among (items_of_lists (lists_behind end (d ∷ lists)))) →
+    AmongNumbers r (roots_among (items_from (start_behind end) d.items)) ⊎ AmongNumbers r (roots_among (items_of_lists (lists_behind (end_behind end d) lists)))
 split_roots end d lists r among =
     let own = items_from (start_behind end) d.items in
     let later = items_of_lists (lists_behind (end_behind end d) lists) in
     among_append r (roots_among own) (roots_among later)
-    (subst (Among r) (flat_map-append (λ (i : PlacedItem). root_at i.address i.datum) own later) among)
+    (subst (AmongNumbers r) (flat_map-append (λ (i : PlacedItem). root_at i.address i.datum) own later) among)
 
-pub root_low : (end : ℕ) (lists : List DataListTree) (r : ℕ) → Among r (roots_among (items_of_lists (lists_behind end lists))) → end ≤ r
+pub root_low : (end : ℕ) (lists : List DataListTree) (r : ℕ) → AmongNumbers r (roots_among (items_of_lists (lists_behind end lists))) → end ≤ r
 root_low end [] r among = absurd among
 root_low end (d ∷ lists) r among =
     ⊎_elim (λ own. let low = item_low (start_behind end) d.items r own in omega (arith, low))
@@ -313,7 +313,7 @@ abbrev lists_of_file : FileTree → ℕ → List DataListTree → List StaticLis
 lists_of_file file end lists = map (static_list (value_of_symbol file)) (lists_behind end lists)
 
 pub root_found : (file : FileTree) (end : ℕ) (lists : List DataListTree) (r : ℕ) → data_end file < 2 ^ 64 → AreSound file end lists →
-    Among r (roots_among (items_of_lists (lists_behind end lists))) → IsRootFound file (lists_of_file file end lists) r
+    AmongNumbers r (roots_among (items_of_lists (lists_behind end lists))) → IsRootFound file (lists_of_file file end lists) r
 root_found file end [] r small sound among = absurd among
 root_found file end (d ∷ lists) r small sound among =
     let first = first_sound file end d lists sound in

@@ -20,7 +20,7 @@ use Rattle.image_rules.proofs.Placed.{end_of_lists-above, items_length, cells_en
 use Rattle.layout_rules.proofs.Rules.{all_append}
 use Rattle.layout_rules.specs.Laid.{address_of_place, cell_bytes, data_of}
 use Rattle.rv_machine.specs.Memory.{words_of_bytes}
-use Rattle.accepted_files.specs.Given.{IsGiven, AreGiven, HasGivenData}
+use Rattle.accepted_files.specs.Given.{IsDatumGiven, AreDataGiven, HasGivenData}
 use Rattle.first_statics.proofs.Bytes.{word_bytes, WordsFit, fit_more, fit_both, words_cut}
 use Rattle.first_statics.proofs.Cells.{IsDataByte, AreWhole, whole_both, word_in, cells_fit}
 use Rattle.first_statics.proofs.Symbols.{IsOfFile, symbol_of_file}
@@ -53,7 +53,7 @@ of_symbol count end (Some (Function f)) h = function_bytes count f 8 (h (Functio
 of_symbol count end (Some (Block serial offset)) h = zero_bytes count 8
 of_symbol count end None h = zero_bytes count 8
 
-item_bytes : (file : FileTree) (address : ℕ) (datum : DatumTree) → IsGiven file datum →
+item_bytes : (file : FileTree) (address : ℕ) (datum : DatumTree) → IsDatumGiven file datum →
     AllByRecursion (IsDataByte (length (functions file))) (bytes_at (value_of_symbol file) address datum)
 item_bytes file address (Byte word) given = integer_bytes _ 1 word
 item_bytes file address (Half word) given = integer_bytes _ 2 word
@@ -67,7 +67,7 @@ item_bytes file address (Align unit) given = zero_bytes _ (size_at address (Alig
 item_bytes file address (Global name_at name) given = tt
 item_bytes file address AFloat given = tt
 
-pub items_bytes : (file : FileTree) (address : ℕ) (items : List DataItemTree) → AllByRecursion (λ (i : DataItemTree). IsGiven file i.datum) items →
+pub items_bytes : (file : FileTree) (address : ℕ) (items : List DataItemTree) → AllByRecursion (λ (i : DataItemTree). IsDatumGiven file i.datum) items →
     AllByRecursion (IsDataByte (length (functions file))) (bytes_of_items (value_of_symbol file) (items_from address items))
 items_bytes file address [] given = tt
 items_bytes file address (i ∷ items) given =
@@ -147,13 +147,13 @@ whole_from start bs even p = record { each = λ i f here is. p.each i f (omega (
 pub record AreSound (file : FileTree) (end : ℕ) (lists : List DataListTree) : Type 0 where
   pub within : end ≤ data_start + data_limit
   pub none : first_fault (items_of_lists (lists_behind end lists)) ≡ None
-  pub given : AreGiven file lists
+  pub given : AreDataGiven file lists
 
 -- So is the first of them, and those after it.
 pub record IsFirstSound (file : FileTree) (end : ℕ) (d : DataListTree) (lists : List DataListTree) : Type 0 where
   pub within : start_behind end ≤ data_start + data_limit
   pub none : first_fault (items_from (start_behind end) d.items) ≡ None
-  pub given : AllByRecursion (λ (i : DataItemTree). IsGiven file i.datum) d.items
+  pub given : AllByRecursion (λ (i : DataItemTree). IsDatumGiven file i.datum) d.items
   pub later : AreSound file (end_behind end d) lists
 
 pub first_sound : (file : FileTree) (end : ℕ) (d : DataListTree) (lists : List DataListTree) → AreSound file end (d ∷ lists) → IsFirstSound file end d lists

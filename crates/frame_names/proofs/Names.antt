@@ -9,10 +9,10 @@ use Rattle.bs_words.specs.declared.types.Comp.TheVariants as comp
 use Rattle.bs_words.specs.declared.types.Loc.{Loc}
 use Rattle.bs_words.specs.declared.types.Loc.TheVariants as loc
 use Rattle.bs_words.proofs.Lists.{head_same, tail_same}
-use Rattle.lin_ir.specs.Descriptors.{frame_bytes, IsEntry, of_register, of_slot, ComesBefore, IsDescr, Describes, AreExact, NamesLives}
+use Rattle.lin_ir.specs.Descriptors.{frame_bytes, IsDescriptorEntry, of_register, of_slot, ComesBefore, IsDescr, Describes, AreExact, NamesLives}
 use Rattle.lin_ir.specs.Formed.{IsHome}
 use Rattle.lin_ir.specs.Meaning.{passes_frame}
-use Rattle.lin_ir.specs.Walks.{Stands, LiveAt}
+use Rattle.lin_ir.specs.Walks.{StandsAsLine, LiveAt}
 use Rattle.lin_ir.specs.declared.descr.Descr.{Descr}
 use Rattle.lin_ir.specs.declared.lin.Line.{Line}
 use Rattle.lin_ir.specs.declared.lin.Lin.{Lin}
@@ -23,11 +23,11 @@ use Rattle.tidy_rules.specs.Regular.{IsRegular}
 use Rattle.tidy_rules.proofs.Living.{live_home}
 use Rattle.tidy_rules.proofs.Ends.{same_tail}
 use Rattle.lin_laws.proofs.Forms.{not_before}
-use Rattle.frame_names.specs.Names.{location, traps_of, locations, names_at, names_by}
+use Rattle.frame_names.specs.Names.{location, trap_count_at, locations, locations_named_at, locations_named_by}
 
 -- ---- entries
 
-location_is : (traps : ℕ) (l : Loc) (entry : ℕ) → IsEntry traps l entry → location traps entry ≡ l
+location_is : (traps : ℕ) (l : Loc) (entry : ℕ) → IsDescriptorEntry traps l entry → location traps entry ≡ l
 location_is traps (loc.Machine r) entry (of_register) =
     let odd : (2 * r + 1) % 2 ≡ 1 = omega arith in
     let half : (2 * r + 1) / 2 ≡ r = omega arith in
@@ -42,12 +42,12 @@ location_is traps (loc.Slot k) entry (of_slot) =
     one_none n e f = omega (arith, e, f)
 location_is traps loc.Unset entry h = elim h [ ]
 
-one_entry : (traps : ℕ) (l : Loc) (a b : ℕ) → IsEntry traps l a → IsEntry traps l b → a ≡ b
+one_entry : (traps : ℕ) (l : Loc) (a b : ℕ) → IsDescriptorEntry traps l a → IsDescriptorEntry traps l b → a ≡ b
 one_entry traps (loc.Machine r) a b (of_register) (of_register) = refl
 one_entry traps (loc.Slot k) a b (of_slot) (of_slot) = refl
 one_entry traps loc.Unset a b h k = elim h [ ]
 
-entry_of : (m : Lin) (traps : ℕ) (l : Loc) → IsHome m l → (entry : ℕ) × IsEntry traps l entry
+entry_of : (m : Lin) (traps : ℕ) (l : Loc) → IsHome m l → (entry : ℕ) × IsDescriptorEntry traps l entry
 entry_of m traps (loc.Machine r) h = (2 * r + 1, of_register)
 entry_of m traps (loc.Slot k) h = (8 * k + 16 * traps, of_slot)
 entry_of m traps loc.Unset h = elim h [ ]
@@ -75,7 +75,7 @@ data Finds (m : Lin) (left : ℕ) (ds : List Descr) : List Loc → Type 0 where
   finds : {d : Descr} → IsIn d ds → d.after + suc left ≡ length m.code → Finds m left ds (locations m d)
   finds_none : ((d : Descr) → IsIn d ds → d.after + suc left ≡ length m.code → ⊥) → Finds m left ds []
 
-found : (m : Lin) (left : ℕ) (ds : List Descr) → Finds m left ds (names_at m left ds)
+found : (m : Lin) (left : ℕ) (ds : List Descr) → Finds m left ds (locations_named_at m left ds)
 found m left [] = finds_none (λ d z. elim z [ ])
 found m left (e ∷ ds) = by (nat_eq (e.after + suc left) (length m.code)) refl (found m left ds)
   where
@@ -87,8 +87,8 @@ found m left (e ∷ ds) = by (nat_eq (e.after + suc left) (length m.code)) refl 
         only d is_first at = ne at
         only d (is_later z) at = out d z at
 
-    by : (b : Bool) → nat_eq (e.after + suc left) (length m.code) ≡ b → Finds m left ds (names_at m left ds) →
-        Finds m left (e ∷ ds) (cond b (locations m e) (names_at m left ds))
+    by : (b : Bool) → nat_eq (e.after + suc left) (length m.code) ≡ b → Finds m left ds (locations_named_at m left ds) →
+        Finds m left (e ∷ ds) (cond b (locations m e) (locations_named_at m left ds))
     by true s ih = finds is_first (eqb-true (e.after + suc left) (length m.code) s)
     by false s ih = lower (λ at. true≢false (sym (eq-eqb (e.after + suc left) (length m.code) at) ∙ s)) ih
 
@@ -100,7 +100,7 @@ module _ (m : Lin) (regular : IsRegular m) (ds : List Descr) (exact : AreExact m
     is : IsDescr m i next tries d
 
   -- a descriptor is that of the one line that has so many after it
-  is_of : {i : Line} {next : List Line} {d : Descr} → Stands i next m.code → IsIn d ds → d.after + suc (length next) ≡ length m.code → IsOf i next d
+  is_of : {i : Line} {next : List Line} {d : Descr} → StandsAsLine i next m.code → IsIn d ds → d.after + suc (length next) ≡ length m.code → IsOf i next d
   is_of {i} {next} {d} s z at =
       let x = all_in (Describes m) exact.others z in
       let there = x.is.after in
@@ -112,16 +112,16 @@ module _ (m : Lin) (regular : IsRegular m) (ds : List Descr) (exact : AreExact m
             (subst (λ js. IsDescr m x.line js x.tries d) (tail_same same) x.is);
       }
 
-  module _ {i : Line} {next : List Line} (s : Stands i next m.code) (d : Descr) (h : IsOf i next d) where
-    traps_same : traps_of m d ≡ length h.tries
+  module _ {i : Line} {next : List Line} (s : StandsAsLine i next m.code) (d : Descr) (h : IsOf i next d) where
+    traps_same : trap_count_at m d ≡ length h.tries
     traps_same = traps_are d.size (frame_bytes m) (length h.tries) h.is.size
 
-    located : (l : Loc) (entry : ℕ) → IsEntry (length h.tries) l entry → location (traps_of m d) entry ≡ l
+    located : (l : Loc) (entry : ℕ) → IsDescriptorEntry (length h.tries) l entry → location (trap_count_at m d) entry ≡ l
     located l entry e = ap (λ t. location t entry) traps_same ∙ location_is (length h.tries) l entry e
 
     named_live : (l : Loc) → IsIn l (locations m d) → LiveAt m l comp.Val i next
     named_live l z =
-        let y = mapped (location (traps_of m d)) l d.entries z in
+        let y = mapped (location (trap_count_at m d)) l d.entries z in
         let n = (h.is.exact y.of).0 (contains_of y.among) in
         subst (λ l. LiveAt m l comp.Val i next) (sym (located n.location y.of n.entry) ∙ y.is) n.live
 
@@ -129,20 +129,20 @@ module _ (m : Lin) (regular : IsRegular m) (ds : List Descr) (exact : AreExact m
     live_named l v =
         let e = entry_of m (length h.tries) l (live_home m regular.homes s v) in
         let z = (h.is.exact e.0).1 (record { location = l; live = v; entry = e.1 }) in
-        subst (λ k. IsIn k (locations m d)) (located l e.0 e.1) (in_map (location (traps_of m d)) (in_of e.0 d.entries z))
+        subst (λ k. IsIn k (locations m d)) (located l e.0 e.1) (in_map (location (trap_count_at m d)) (in_of e.0 d.entries z))
 
     -- entries in order name locations that differ
-    apart : (a b : ℕ) → Contains d.entries a → Contains d.entries b → ComesBefore a b → location (traps_of m d) a ≢ location (traps_of m d) b
+    apart : (a b : ℕ) → Contains d.entries a → Contains d.entries b → ComesBefore a b → location (trap_count_at m d) a ≢ location (trap_count_at m d) b
     apart a b in_a in_b before same =
         let x = (h.is.exact a).0 in_a in
         let y = (h.is.exact b).0 in_b in
         let l : x.location ≡ y.location = sym (located x.location a x.entry) ∙ same ∙ located y.location b y.entry in
-        let e : a ≡ b = one_entry (length h.tries) y.location a b (subst (λ l. IsEntry (length h.tries) l a) l x.entry) y.entry in
+        let e : a ≡ b = one_entry (length h.tries) y.location a b (subst (λ l. IsDescriptorEntry (length h.tries) l a) l x.entry) y.entry in
         not_before b (subst (λ k. ComesBefore k b) e before)
 
     each_once : AllPairs (λ k l. k ≢ l) (locations m d)
     each_once = λ j k x lt le.
-        let f = location (traps_of m d) in
+        let f = location (trap_count_at m d) in
         let len = length-map d.entries f in
         let in_k : k < length d.entries = omega (arith, le, len) in
         let in_j : j < length d.entries = omega (arith, lt, in_k) in
@@ -154,7 +154,7 @@ module _ (m : Lin) (regular : IsRegular m) (ds : List Descr) (exact : AreExact m
   none_once : AllPairs (λ (k l : Loc). k ≢ l) []
   none_once = λ j k x lt le. absurd (omega (arith, le))
 
-  module _ (i : Line) (next : List Line) (s : Stands i next m.code) (point : passes_frame i.op ≡ true) where
+  module _ (i : Line) (next : List Line) (s : StandsAsLine i next m.code) (point : passes_frame i.op ≡ true) where
     exact_in : {ls : List Loc} → Finds m (length next) ds ls → (l : Loc) → Contains ls l ↔ LiveAt m l comp.Val i next
     exact_in (finds {d = d} z at) l =
         let h = is_of s z at in
@@ -171,7 +171,7 @@ module _ (m : Lin) (regular : IsRegular m) (ds : List Descr) (exact : AreExact m
     once_in (finds {d = d} z at) = each_once s d (is_of s z at)
     once_in (finds_none out) = none_once
 
-  all_names : NamesLives m (names_by ds m)
+  all_names : NamesLives m (locations_named_by ds m)
   all_names =
       record {
         exact = λ i next s point l. exact_in i next s point (found m (length next) ds) l;
@@ -179,5 +179,5 @@ module _ (m : Lin) (regular : IsRegular m) (ds : List Descr) (exact : AreExact m
       }
 
 -- Exact descriptors name at each frame point what is live after it.
-pub exact_names : {m : Lin} {ds : List Descr} → IsRegular m → AreExact m ds → NamesLives m (names_by ds m)
+pub exact_names : {m : Lin} {ds : List Descr} → IsRegular m → AreExact m ds → NamesLives m (locations_named_by ds m)
 exact_names {m} {ds} regular exact = all_names m regular ds exact

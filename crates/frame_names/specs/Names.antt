@@ -14,17 +14,17 @@ location traps entry =
     cond (nat_eq (entry % 2) 1) (loc.Machine (entry / 2)) (loc.Slot ((entry - 16 * traps) / 8))
 
 -- how many traps are pushed at a frame point, by the size in its descriptor
-abbrev pub traps_of : Lin → Descr → ℕ
-traps_of m d = (d.size - frame_bytes m) / 16
+abbrev pub trap_count_at : Lin → Descr → ℕ
+trap_count_at m d = (d.size - frame_bytes m) / 16
 
 abbrev pub locations : Lin → Descr → List Loc
-locations m d = map (location (traps_of m d)) d.entries
+locations m d = map (location (trap_count_at m d)) d.entries
 
 -- those of the descriptor of the frame point with so many lines after it
-abbrev pub names_at : Lin → ℕ → List Descr → List Loc
-names_at m left [] = []
-names_at m left (d ∷ ds) =
-    cond (nat_eq (d.after + suc left) (length m.code)) (locations m d) (names_at m left ds)
+abbrev pub locations_named_at : Lin → ℕ → List Descr → List Loc
+locations_named_at m left [] = []
+locations_named_at m left (d ∷ ds) =
+    cond (nat_eq (d.after + suc left) (length m.code)) (locations m d) (locations_named_at m left ds)
 
-abbrev pub names_by : List Descr → Lin → NamedAt
-names_by ds m left = names_at m left ds
+abbrev pub locations_named_by : List Descr → Lin → NamedAt
+locations_named_by ds m left = locations_named_at m left ds

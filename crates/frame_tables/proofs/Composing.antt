@@ -3,11 +3,11 @@ use Rattle.std.proofs.Common.{◌≡◌, ℕ, ◌+◌, ◌*◌, ◌<◌, ◌≤�
 use Rattle.std.specs.List.{All}
 use Rattle.std.proofs.lemmas.List.{drop_all}
 use Rattle.bs_words.specs.Contents.{contents}
-use Rattle.dataflow.specs.Flow.{WellFormed}
+use Rattle.dataflow.specs.Flow.{IsFlowFormed}
 use Rattle.dataflow.specs.Live.{IsLiveness}
 use Rattle.dataflow.specs.declared.flow.Flow as flow
 use Rattle.dataflow.specs.declared.flow.Place as place
-use Rattle.lin_ir.specs.Descriptors.{frame_points, frame_bytes, IsWithin, AreExact}
+use Rattle.lin_ir.specs.Descriptors.{frame_point_count, frame_bytes, FitsDescriptors, AreExact}
 use Rattle.lin_ir.specs.Walks.{OneDepth}
 use Rattle.lin_ir.specs.declared.descr.Descr.{Descr}
 use Rattle.lin_ir.specs.declared.lin.Lin.{Lin}
@@ -25,7 +25,7 @@ module _ (m : Lin) (all : List Position) (nodes : List place.Place) (points : Li
   are : ArePoints m all (contents f.places) points (length m.code)
   are = subst (λ xs. ArePoints m all xs points (length m.code)) (sym places) is
 
-  pub well_formed_by : WellFormed f
+  pub well_formed_by : IsFlowFormed f
   well_formed_by = well_formed m all f points are bound
 
   module _ (rows : List (List Bool)) (live : IsLiveness f rows) (first : ℕ) (at : first ≡ length all) (slice : List Point)
@@ -43,10 +43,10 @@ module _ (m : Lin) (all : List Position) (nodes : List place.Place) (points : Li
         (subst (λ k. AreDescribed frame k points rows ds) at
         (subst (λ xs. AreDescribed frame first xs rows ds) same made)))
 
-  pub sizes_by : IsWithin m → (rows : List (List Bool)) → IsLiveness f rows → All (λ set. 8 * length set < 2 ^ 31) rows
+  pub sizes_by : FitsDescriptors m → (rows : List (List Bool)) → IsLiveness f rows → All (λ set. 8 * length set < 2 ^ 31) rows
   sizes_by within rows live = sizes_small m.slots f.bound rows (slots_small m within) bound live.sizes
 
-pub small_by : (m : Lin) (all : List Position) (nodes : List place.Place) (points slice : List Point) (k frame : ℕ) → IsWithin m →
+pub small_by : (m : Lin) (all : List Position) (nodes : List place.Place) (points slice : List Point) (k frame : ℕ) → FitsDescriptors m →
     ArePoints m all nodes points k → slice ≡ points → frame ≡ frame_bytes m →
     All (λ (point : Point). frame + 16 * point.traps < 2 ^ 31) slice
 small_by m all nodes points slice k frame within is same e =
@@ -55,9 +55,9 @@ small_by m all nodes points slice k frame within is same e =
 
 pub count_by : (m : Lin) (all : List Position) (nodes : List place.Place) (points slice : List Point) (frame first : ℕ)
     (rows : List (List Bool)) (ds : List Descr) → ArePoints m all nodes points (length m.code) → slice ≡ points →
-    AreDescribed frame first slice rows ds → length ds ≡ frame_points m.code
+    AreDescribed frame first slice rows ds → length ds ≡ frame_point_count m.code
 count_by m all nodes points slice frame first rows ds is same made =
     let none : drop (length m.code) m.code ≡ [] = drop_all (length m.code) m.code (omega arith) in
-    let last : frame_points (drop (length m.code) m.code) ≡ 0 = ap frame_points none in
+    let last : frame_point_count (drop (length m.code) m.code) ≡ 0 = ap frame_point_count none in
     let count = is.count in let len = made.len in let d = ap length same in
     omega (arith, last, count, len, d)

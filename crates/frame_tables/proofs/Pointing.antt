@@ -10,7 +10,7 @@ use Rattle.std.proofs.lemmas.Option.{slice_get_within}
 use Rattle.bs_words.specs.Contents.{contents}
 use Rattle.bs_words.proofs.Lists.{none_in, got, drop_none, same_some, pushed_kept, pushed_here, pushed_cases}
 use Rattle.dataflow.specs.declared.flow.Place as place
-use Rattle.lin_ir.specs.Descriptors.{frame_points}
+use Rattle.lin_ir.specs.Descriptors.{frame_point_count}
 use Rattle.lin_ir.specs.Meaning.{passes_frame}
 use Rattle.lin_ir.specs.Walks.{Reached, Traps, by_walk, unreached}
 use Rattle.lin_ir.specs.declared.lin.Line.{Line}
@@ -18,27 +18,27 @@ use Rattle.lin_ir.specs.declared.lin.LinOp.{LinOp}
 use Rattle.lin_ir.specs.declared.lin.Lin.{Lin}
 use Rattle.lin_laws.proofs.Numbers.{are_writes}
 use Rattle.lin_laws.proofs.Places.{drop_is, place_drop, number_is, number_all}
-use Rattle.lin_laws.specs.Graph.{place_of, position, steps, raise_steps, AreWrites, AreNodes, IsAfter}
+use Rattle.lin_laws.specs.Graph.{line_index, position, steps, raise_steps, AreWritesAt, ArePositionNodes, IsNodeAfterPoint}
 use Rattle.lin_laws.specs.declared.position.Position.{Position}
 use Rattle.lin_flow.proofs.Visiting.{results_numbered}
-use Rattle.frame_tables.specs.Points.{IsOneOf, IsChosen, IsChoice, HasTraps, edges_of, ComesFrom, Gathers, IsGathered, IsAfterNode, IsFramePoint, IsRooted, HasRoots, IsSearched, IsPoint, ArePoints}
-use Rattle.lin_flow.specs.Search.{all_of, groups_of, members, Entered, HasFirst}
+use Rattle.frame_tables.specs.Points.{IsOneOf, IsChosenPosition, IsChoice, HasTraps, edges_of, ComesFrom, Gathers, IsGathered, IsAfterNode, IsFramePoint, IsRooted, HasRoots, IsSearchedForPoints, IsPoint, ArePoints}
+use Rattle.lin_flow.specs.Search.{all_positions, groups_of, search_members, PositionEntered, HasFirst}
 use Rattle.frame_tables.specs.declared.after.Choice.{Choice}
 use Rattle.frame_tables.specs.declared.after.Point.{Point}
 use Rattle.lin_flow.specs.declared.search.Search.{Search}
 
 -- ---- which positions are those of a frame point
 
-module _ (m : Lin) (s : Search) (reached : ℕ) (nodes : List place.Place) (h : IsSearched m s reached nodes) (p : ℕ) (c : Choice)
+module _ (m : Lin) (s : Search) (reached : ℕ) (nodes : List place.Place) (h : IsSearchedForPoints m s reached nodes) (p : ℕ) (c : Choice)
     (choice : IsChoice s p reached c) (point : IsFramePoint m p) where
-  here : place_of m (drop p m.code) ≡ p
+  here : line_index m (drop p m.code) ≡ p
   here =
       let d = drop_is p m.code point.line point.next point.at in let lt = d.0 in
       place_drop p m.code (omega (arith, lt))
 
   -- a walk that comes there has one of the first positions
   first_of_walk : (tries : List ℕ) → Reached m (drop p m.code) tries →
-      (q : ℕ) × (q < reached) × (slice_get (all_of s) q ≡ Some (position p tries))
+      (q : ℕ) × (q < reached) × (slice_get (all_positions s) q ≡ Some (position p tries))
   first_of_walk tries r =
       let f = h.complete (drop p m.code) tries r in
       (f.0, f.1, f.2 ∙ ap (λ k. Some (position k tries)) here)
@@ -55,10 +55,10 @@ module _ (m : Lin) (s : Search) (reached : ℕ) (nodes : List place.Place) (h : 
         subst (λ k. Reached m (drop k m.code) there.found.tries) there.place (h.walked f.number there.found f.below there.is),
       )
 
-  pub chosen_place : (n : ℕ) (x : IsChosen s c n) → x.found.place ≡ p
+  pub chosen_place : (n : ℕ) (x : IsChosenPosition s c n) → x.found.place ≡ p
   chosen_place n x = let a = x.asked in a.0 ∙ choice.place
 
-  chosen_by : (b : Bool) → c.seen ≡ b → (n : ℕ) (x : IsChosen s c n) → IsOneOf b c.reached n x.found.tries →
+  chosen_by : (b : Bool) → c.seen ≡ b → (n : ℕ) (x : IsChosenPosition s c n) → IsOneOf b c.reached n x.found.tries →
       Traps m (drop p m.code) x.found.tries
   chosen_by true e n x lt =
       by_walk (subst (λ k. Reached m (drop k m.code) x.found.tries) (chosen_place n x)
@@ -67,21 +67,21 @@ module _ (m : Lin) (s : Search) (reached : ℕ) (nodes : List place.Place) (h : 
       subst (Traps m (drop p m.code)) (sym none)
       (unreached (λ ts r. choice.no e h.grouped (first_is ts r)))
 
-  pub chosen_traps : (n : ℕ) (x : IsChosen s c n) → Traps m (drop p m.code) x.found.tries
+  pub chosen_traps : (n : ℕ) (x : IsChosenPosition s c n) → Traps m (drop p m.code) x.found.tries
   chosen_traps n x = let a = x.asked in chosen_by c.seen refl n x a.1
 
   -- a position that is there is among those that are looked at
-  in_group : (q : ℕ) (tries : List ℕ) → slice_get (all_of s) q ≡ Some (position p tries) → Contains (members (groups_of s) c.place) q
+  in_group : (q : ℕ) (tries : List ℕ) → slice_get (all_positions s) q ≡ Some (position p tries) → Contains (search_members (groups_of s) c.place) q
   in_group q tries e =
-      subst (λ k. Contains (members (groups_of s) k) q) (sym choice.place) (h.grouped.grouped q (position p tries) e)
+      subst (λ k. Contains (search_members (groups_of s) k) q) (sym choice.place) (h.grouped.grouped q (position p tries) e)
 
   pub record Chooses (tries : List ℕ) : Type 0 where
     pub number : ℕ
-    pub among : Contains (members (groups_of s) c.place) number
-    pub chosen : IsChosen s c number
+    pub among : Contains (search_members (groups_of s) c.place) number
+    pub chosen : IsChosenPosition s c number
     pub is : chosen.found ≡ position p tries
 
-  choose : (q : ℕ) (tries : List ℕ) → slice_get (all_of s) q ≡ Some (position p tries) → IsOneOf c.seen c.reached q tries → Chooses tries
+  choose : (q : ℕ) (tries : List ℕ) → slice_get (all_positions s) q ≡ Some (position p tries) → IsOneOf c.seen c.reached q tries → Chooses tries
   choose q tries e one =
       record {
         number = q;
@@ -90,7 +90,7 @@ module _ (m : Lin) (s : Search) (reached : ℕ) (nodes : List place.Place) (h : 
         is = refl;
       }
 
-  walked_by : (b : Bool) → c.seen ≡ b → (q : ℕ) (tries : List ℕ) → q < reached → slice_get (all_of s) q ≡ Some (position p tries) →
+  walked_by : (b : Bool) → c.seen ≡ b → (q : ℕ) (tries : List ℕ) → q < reached → slice_get (all_positions s) q ≡ Some (position p tries) →
       Chooses tries
   walked_by true e q tries lt f =
       choose q tries f (subst (λ b. IsOneOf b c.reached q tries) (sym e) (subst (λ k. q < k) (sym choice.first) lt))
@@ -98,7 +98,7 @@ module _ (m : Lin) (s : Search) (reached : ℕ) (nodes : List place.Place) (h : 
       absurd (choice.no e h.grouped
       (record { number = q; below = lt; there = record { found = position p tries; is = f; place = refl } }))
 
-  rooted_by : (b : Bool) → c.seen ≡ b → (HasFirst s p reached → ⊥) → (q : ℕ) → slice_get (all_of s) q ≡ Some (position p []) →
+  rooted_by : (b : Bool) → c.seen ≡ b → (HasFirst s p reached → ⊥) → (q : ℕ) → slice_get (all_positions s) q ≡ Some (position p []) →
       Chooses []
   rooted_by true e none q f = absurd (none (choice.yes e))
   rooted_by false e none q f = choose q [] f (subst (λ b. IsOneOf b c.reached q []) (sym e) refl)
@@ -122,17 +122,17 @@ module _ (m : Lin) (s : Search) (reached : ℕ) (nodes : List place.Place) (h : 
 
   -- ---- its place of the graph
 
-  module _ (now : List place.Place) (len : length (all_of s) ≤ length now) (are : AreNodes m (m.slots + 32) (all_of s) now)
+  module _ (now : List place.Place) (len : length (all_positions s) ≤ length now) (are : ArePositionNodes m (m.slots + 32) (all_positions s) now)
       (node : place.Place) (a : IsAfterNode s now c point.line node) where
-    found_is : (n : ℕ) (x : IsChosen s c n) → x.found ≡ position p x.found.tries
+    found_is : (n : ℕ) (x : IsChosenPosition s c n) → x.found ≡ position p x.found.tries
     found_is n x = ap (λ k. position k x.found.tries) (chosen_place n x)
 
-    node_at : (n : ℕ) (x : Position) → slice_get (all_of s) n ≡ Some x → (nd : place.Place) × (slice_get now n ≡ Some nd)
-    node_at n x e = let lt : n < length (all_of s) = slice_get_within (all_of s) n x e in got now n (omega (arith, lt, len))
+    node_at : (n : ℕ) (x : Position) → slice_get (all_positions s) n ≡ Some x → (nd : place.Place) × (slice_get now n ≡ Some nd)
+    node_at n x e = let lt : n < length (all_positions s) = slice_get_within (all_positions s) n x e in got now n (omega (arith, lt, len))
 
     abbrev Leads : (Lin → Position → List Position) → ℕ → Type 0
     Leads to q = (tries : List ℕ) × Traps m (drop p m.code) tries × ((y : Position) ×
-        Contains (to m (position p tries)) y × (slice_get (all_of s) q ≡ Some y))
+        Contains (to m (position p tries)) y × (slice_get (all_positions s) q ≡ Some y))
 
     next_is : (q : ℕ) → Contains (contents node.next) q → Leads steps q
     next_is q k =
@@ -140,7 +140,7 @@ module _ (m : Lin) (s : Search) (reached : ℕ) (nodes : List place.Place) (h : 
         let from = g.1 in
         let found = from.chosen.found in
         let nd = are g.0 found from.node from.chosen.is from.is in
-        let y = number_is (all_of s) (contents from.node.next) (steps m found) q nd.next from.edge in (
+        let y = number_is (all_positions s) (contents from.node.next) (steps m found) q nd.next from.edge in (
           found.tries,
           chosen_traps g.0 from.chosen,
           (y.0, subst (λ (z : Position). Contains (steps m z) y.0) (found_is g.0 from.chosen) y.1, y.2),
@@ -152,38 +152,38 @@ module _ (m : Lin) (s : Search) (reached : ℕ) (nodes : List place.Place) (h : 
         let from = g.1 in
         let found = from.chosen.found in
         let nd = are g.0 found from.node from.chosen.is from.is in
-        let y = number_is (all_of s) (contents from.node.aside) (raise_steps m found) q nd.aside from.edge in (
+        let y = number_is (all_positions s) (contents from.node.aside) (raise_steps m found) q nd.aside from.edge in (
           found.tries,
           chosen_traps g.0 from.chosen,
           (y.0, subst (λ (z : Position). Contains (raise_steps m z) y.0) (found_is g.0 from.chosen) y.1, y.2),
         )
 
     next_all : (tries : List ℕ) → Traps m (drop p m.code) tries → (y : Position) → Contains (steps m (position p tries)) y →
-        (q : ℕ) × Contains (contents node.next) q × (slice_get (all_of s) q ≡ Some y)
+        (q : ℕ) × Contains (contents node.next) q × (slice_get (all_positions s) q ≡ Some y)
     next_all tries t y k =
         let x = traps_chosen tries t in
         let nd = node_at x.number x.chosen.found x.chosen.is in
         let is = are x.number x.chosen.found nd.0 x.chosen.is nd.1 in
-        let n = number_all (all_of s) (contents nd.0.next) (steps m x.chosen.found) y is.next
+        let n = number_all (all_positions s) (contents nd.0.next) (steps m x.chosen.found) y is.next
         (subst (λ (z : Position). Contains (steps m z) y) (sym x.is) k) in
         (n.0, a.next.all x.number x.among n.0 (record { node = nd.0; is = nd.1; chosen = x.chosen; edge = n.1 }), n.2)
 
     aside_all : (tries : List ℕ) → Traps m (drop p m.code) tries → (y : Position) → Contains (raise_steps m (position p tries)) y →
-        (q : ℕ) × Contains (contents node.aside) q × (slice_get (all_of s) q ≡ Some y)
+        (q : ℕ) × Contains (contents node.aside) q × (slice_get (all_positions s) q ≡ Some y)
     aside_all tries t y k =
         let x = traps_chosen tries t in
         let nd = node_at x.number x.chosen.found x.chosen.is in
         let is = are x.number x.chosen.found nd.0 x.chosen.is nd.1 in
-        let n = number_all (all_of s) (contents nd.0.aside) (raise_steps m x.chosen.found) y is.aside
+        let n = number_all (all_positions s) (contents nd.0.aside) (raise_steps m x.chosen.found) y is.aside
         (subst (λ (z : Position). Contains (raise_steps m z) y) (sym x.is) k) in
         (n.0, a.aside.all x.number x.among n.0 (record { node = nd.0; is = nd.1; chosen = x.chosen; edge = n.1 }), n.2)
 
-    is_after : IsAfter m (m.slots + 32) (all_of s) p node
+    is_after : IsNodeAfterPoint m (m.slots + 32) (all_positions s) p node
     is_after =
         record {
           reads = a.reads;
-          writes = subst (λ xs. AreWrites (m.slots + 32) xs (contents node.writes)) (sym point.at)
-              (subst (AreWrites (m.slots + 32) (point.line ∷ point.next)) (sym a.writes)
+          writes = subst (λ xs. AreWritesAt (m.slots + 32) xs (contents node.writes)) (sym point.at)
+              (subst (AreWritesAt (m.slots + 32) (point.line ∷ point.next)) (sym a.writes)
               (are_writes m.slots point.line point.next (results_numbered m h.numbered p point.line point.next point.at)));
           next_is = next_is;
           next_all = next_all;
@@ -192,8 +192,8 @@ module _ (m : Lin) (s : Search) (reached : ℕ) (nodes : List place.Place) (h : 
         }
 
     pub is_point : (made : Point) → made.place ≡ p →
-        ((n : ℕ) → Contains (members (groups_of s) c.place) n → IsChosen s c n → HasTraps s c made.traps) →
-        IsPoint m (all_of s) made node
+        ((n : ℕ) → Contains (search_members (groups_of s) c.place) n → IsChosenPosition s c n → HasTraps s c made.traps) →
+        IsPoint m (all_positions s) made node
     is_point made at traps =
         let one = some_chosen in
         let has = traps (one.1).number (one.1).among (one.1).chosen in
@@ -202,13 +202,13 @@ module _ (m : Lin) (s : Search) (reached : ℕ) (nodes : List place.Place) (h : 
           tries = has.chosen.found.tries;
           pushed = subst (λ k. Traps m (drop k m.code) has.chosen.found.tries) (sym at) (chosen_traps has.number has.chosen);
           traps = has.is;
-          after = subst (λ k. IsAfter m (m.slots + 32) (all_of s) k node) (sym at) is_after;
+          after = subst (λ k. IsNodeAfterPoint m (m.slots + 32) (all_positions s) k node) (sym at) is_after;
         }
 
 -- ---- all of them
 
 module _ (m : Lin) (all : List Position) where
-  pub points_none : (nodes : List place.Place) → length nodes ≡ length all → AreNodes m (m.slots + 32) all nodes →
+  pub points_none : (nodes : List place.Place) → length nodes ≡ length all → ArePositionNodes m (m.slots + 32) all nodes →
       ArePoints m all nodes [] 0
   points_none nodes len are =
       record {
@@ -218,16 +218,16 @@ module _ (m : Lin) (all : List Position) where
         every = λ p lt f. absurd (omega (arith, lt));
         order = λ i j d lt le. absurd (omega (arith, le));
         below = All-nil (λ (a : Point). a.place < 0);
-        count = (let same = ap frame_points (drop_none m.code) in omega (arith, same));
+        count = (let same = ap frame_point_count (drop_none m.code) in omega (arith, same));
       }
 
   -- the same for a list that is made empty
   pub points_begun : (nodes : List place.Place) (points : List Point) → points ≡ [] → length nodes ≡ length all →
-      AreNodes m (m.slots + 32) all nodes → ArePoints m all nodes points 0
+      ArePositionNodes m (m.slots + 32) all nodes → ArePoints m all nodes points 0
   points_begun nodes points e len are = subst (λ xs. ArePoints m all nodes xs 0) (sym e) (points_none nodes len are)
 
   pub points_skip : (nodes : List place.Place) (points : List Point) (k : ℕ) → ArePoints m all nodes points k →
-      (IsFramePoint m k → ⊥) → frame_points (drop k m.code) ≡ frame_points (drop (k + 1) m.code) →
+      (IsFramePoint m k → ⊥) → frame_point_count (drop k m.code) ≡ frame_point_count (drop (k + 1) m.code) →
       ArePoints m all nodes points (k + 1)
   points_skip nodes points k h none same =
       record {
@@ -244,7 +244,7 @@ module _ (m : Lin) (all : List Position) where
 
   pub points_more : (nodes more : List place.Place) (points others : List Point) (k : ℕ) (node : place.Place) (point : Point) →
       ArePoints m all nodes points k → IsPoint m all point node → point.place ≡ k → more ≡ nodes ++ node ∷ [] →
-      others ≡ points ++ point ∷ [] → frame_points (drop k m.code) ≡ suc (frame_points (drop (k + 1) m.code)) →
+      others ≡ points ++ point ∷ [] → frame_point_count (drop k m.code) ≡ suc (frame_point_count (drop (k + 1) m.code)) →
       ArePoints m all more others (k + 1)
   points_more nodes more points others k node point h is at e f one =
       let old = h.len in
@@ -301,7 +301,7 @@ module _ (s : Search) (nodes : List place.Place) (c : Choice) (aside : Bool) whe
   pub gathers_none : (n : ℕ) (ns : List ℕ) → ((q : ℕ) → ComesFrom s nodes c aside n q → ⊥) → Gathers s nodes c aside n ns ns
   gathers_none n ns none = record { kept = λ q k. k; is = λ q k. inl k; all = λ q k. absurd (none q k) }
 
-  pub gathers_from : (n : ℕ) (ns more : List ℕ) (node : place.Place) → IsChosen s c n → slice_get nodes n ≡ Some node →
+  pub gathers_from : (n : ℕ) (ns more : List ℕ) (node : place.Place) → IsChosenPosition s c n → slice_get nodes n ≡ Some node →
       more ≡ ns ++ edges_of aside node → Gathers s nodes c aside n ns more
   gathers_from n ns more node chosen e is =
       record {
@@ -357,7 +357,7 @@ module _ (m : Lin) where
       record { kept = λ q x e. e; grouped = λ g. g; countable = λ c. c; groups = refl; roots = λ p lt f. absurd (omega (arith, lt)) }
 
   pub first_kept : (s new : Search) (p reached : ℕ) →
-      ((q : ℕ) (x : Position) → slice_get (all_of s) q ≡ Some x → slice_get (all_of new) q ≡ Some x) → HasFirst s p reached →
+      ((q : ℕ) (x : Position) → slice_get (all_positions s) q ≡ Some x → slice_get (all_positions new) q ≡ Some x) → HasFirst s p reached →
       HasFirst new p reached
   first_kept s new p reached kept f =
       let there = f.there in
@@ -389,27 +389,27 @@ no_frame_at m k line code e lt is passes f =
     absurd (cc)
 
 pub no_point_at : (m : Lin) (k : ℕ) (line : Line) (code : List Line) → code ≡ m.code → k < length code → line ≡ get_or code k line →
-    passes_frame line.op ≡ false → frame_points (drop k m.code) ≡ frame_points (drop (k + 1) m.code)
+    passes_frame line.op ≡ false → frame_point_count (drop k m.code) ≡ frame_point_count (drop (k + 1) m.code)
 no_point_at m k line code e lt is passes =
-    ap frame_points (head_of m k line code e lt is)
-    ∙ ap (λ b. cond b (suc (frame_points (drop (k + 1) m.code))) (frame_points (drop (k + 1) m.code))) passes
+    ap frame_point_count (head_of m k line code e lt is)
+    ∙ ap (λ b. cond b (suc (frame_point_count (drop (k + 1) m.code))) (frame_point_count (drop (k + 1) m.code))) passes
 
-pub pointed_more : (m : Lin) (s : Search) (reached : ℕ) (begun : List place.Place) → IsSearched m s reached begun →
+pub pointed_more : (m : Lin) (s : Search) (reached : ℕ) (begun : List place.Place) → IsSearchedForPoints m s reached begun →
     (k : ℕ) (line : Line) (code : List Line) → code ≡ m.code → k < length code → line ≡ get_or code k line → passes_frame line.op ≡ true →
     (c : Choice) → IsChoice s k reached c → (traps : ℕ) →
-    ((n : ℕ) → Contains (members (groups_of s) c.place) n → IsChosen s c n → HasTraps s c traps) →
+    ((n : ℕ) → Contains (search_members (groups_of s) c.place) n → IsChosenPosition s c n → HasTraps s c traps) →
     (nodes slice more : List place.Place) (points others : List Point) (node : place.Place) → slice ≡ nodes →
-    IsAfterNode s slice c line node → ArePoints m (all_of s) nodes points k → more ≡ nodes ++ node ∷ [] →
-    others ≡ points ++ (record { place = k; traps = traps }) ∷ [] → ArePoints m (all_of s) more others (k + 1)
+    IsAfterNode s slice c line node → ArePoints m (all_positions s) nodes points k → more ≡ nodes ++ node ∷ [] →
+    others ≡ points ++ (record { place = k; traps = traps }) ∷ [] → ArePoints m (all_positions s) more others (k + 1)
 pointed_more m s reached begun h k line code e lt is passes c choice traps has nodes slice more points others node same after are f g =
     let frame = frame_at m k line code e lt is passes in
     let old = are.len in
     let point : Point = record { place = k; traps = traps } in
-    points_more m (all_of s) nodes more points others k node point are
+    points_more m (all_positions s) nodes more points others k node point are
     (is_point m s reached begun h k c choice frame nodes (omega (arith, old)) are.are node
     (subst (λ xs. IsAfterNode s xs c line node) same after) point refl has) refl f g
-    (ap frame_points (head_of m k line code e lt is)
-    ∙ ap (λ b. cond b (suc (frame_points (drop (k + 1) m.code))) (frame_points (drop (k + 1) m.code))) passes)
+    (ap frame_point_count (head_of m k line code e lt is)
+    ∙ ap (λ b. cond b (suc (frame_point_count (drop (k + 1) m.code))) (frame_point_count (drop (k + 1) m.code))) passes)
 
 pub gathering_done : (s : Search) (nodes : List place.Place) (c : Choice) (aside : Bool) (among group ns ms : List ℕ) (i : ℕ) →
     among ≡ group → ms ≡ ns → length among ≤ i → Gathering s nodes c aside among i ns → IsGathered s nodes c aside group ms
@@ -423,7 +423,7 @@ pub rooted_none : (s : Search) (op : LinOp) (p reached : ℕ) → (passes_frame 
 rooted_none s op p reached first =
     record { kept = λ q x e. e; grouped = λ g. g; countable = λ c. c; groups = refl; root = λ e. inr (first e) }
 
-pub rooted_new : (s new : Search) (op : LinOp) (p reached number : ℕ) → Entered s new (position p []) number → IsRooted s new op p reached
+pub rooted_new : (s new : Search) (op : LinOp) (p reached number : ℕ) → PositionEntered s new (position p []) number → IsRooted s new op p reached
 rooted_new s new op p reached number g =
     record { kept = g.grown.kept; grouped = g.grown.grouped; countable = g.grown.countable; groups = g.grown.len; root = λ e. inl (number, g.here) }
 
@@ -444,6 +444,6 @@ roots_step m old s new reached k line code e lt is h g =
           let frame : IsFramePoint m k = subst (IsFramePoint m) same f in
           let heads : line ∷ drop (k + 1) m.code ≡ frame.line ∷ frame.next = sym (head_of m k line code e lt is) ∙ frame.at in
           let at : frame.line ≡ line = cc in
-          subst (λ j. ((q : ℕ) × (slice_get (all_of new) q ≡ Some (position j []))) ⊎ HasFirst new j reached) (sym same)
+          subst (λ j. ((q : ℕ) × (slice_get (all_positions new) q ≡ Some (position j []))) ⊎ HasFirst new j reached) (sym same)
           (g.root (sym (ap (λ (i : Line). passes_frame i.op) at) ∙ frame.passes))) (cases_lt p k);
     }

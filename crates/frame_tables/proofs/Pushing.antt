@@ -4,10 +4,10 @@ use Rattle.std.specs.Prelude.{slice_get}
 use Rattle.std.proofs.lemmas.Bool.{cases_lt}
 use Rattle.std.proofs.lemmas.List.{get_or_past, get_or-replicate, length-replicate}
 use Rattle.std.proofs.lemmas.Option.{slice_get_within}
-use Rattle.lin_ir.specs.Walks.{Reached, Stands, here, below, OneDepth, by_walk}
+use Rattle.lin_ir.specs.Walks.{Reached, StandsAsLine, here, below, OneDepth, by_walk}
 use Rattle.lin_ir.specs.declared.lin.Line.{Line}
 use Rattle.lin_ir.specs.declared.lin.Lin.{Lin}
-use Rattle.lin_laws.specs.Graph.{place_of, position, AreReached}
+use Rattle.lin_laws.specs.Graph.{line_index, position, AreReached}
 use Rattle.lin_laws.specs.declared.position.Position.{Position}
 use Rattle.lin_flow.specs.Nodes.{AreWalkedTo}
 use Rattle.frame_tables.specs.Pushed.{AreTabled, AreCounted}
@@ -107,7 +107,7 @@ module _ (m : Lin) (all : List Position) where
         pushed = record {
           pushed = λ i next s tries r.
               let h = all_walks.complete (i ∷ next) tries r in
-              let p : ℕ = place_of m (i ∷ next) in
+              let p : ℕ = line_index m (i ∷ next) in
               let lt : h.0 < length all = slice_get_within all h.0 (position p tries) h.1 in
               let le : suc (length next) ≤ length m.code = fits s in
               let within : p < length m.code = omega (arith, le) in
@@ -121,7 +121,7 @@ module _ (m : Lin) (all : List Position) where
             out x.tries (subst (λ xs. Reached m xs x.tries) (ap (λ p. drop p m.code) there ∙ standing s) (all_walks.sound q x at)));
       }
     where
-      fits : {i : Line} {next code : List Line} → Stands i next code → suc (length next) ≤ length code
+      fits : {i : Line} {next code : List Line} → StandsAsLine i next code → suc (length next) ≤ length code
       fits here = omega arith
       fits (below s) = let le = fits s in omega (arith, le)
 
@@ -131,6 +131,6 @@ module _ (m : Lin) (all : List Position) where
       later : (a n : ℕ) → suc n ≤ a → suc a - suc n ≡ suc (a - suc n)
       later a n le = omega (arith, le)
 
-      standing : {i : Line} {next code : List Line} → Stands i next code → drop (length code - suc (length next)) code ≡ i ∷ next
+      standing : {i : Line} {next code : List Line} → StandsAsLine i next code → drop (length code - suc (length next)) code ≡ i ∷ next
       standing {i} {next} here = ap (λ k. drop k (i ∷ next)) (first (length next))
       standing {next = next} (below {j = j} {is = is} s) = ap (λ k. drop k (j ∷ is)) (later (length is) (length next) (fits s)) ∙ standing s

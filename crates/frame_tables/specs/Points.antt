@@ -2,16 +2,16 @@
 use Rattle.std.specs.Prelude.{◌≡◌, ◌⊎◌, ℕ, ◌+◌, ◌<◌, Bool, true, false, cond, List, [], ◌∷◌, Some, length, drop, slice_get, All, AllPairs, Contains}
 use Rattle.bs_words.specs.Contents.{contents}
 use Rattle.dataflow.specs.declared.flow.Place as place
-use Rattle.lin_ir.specs.Descriptors.{frame_points}
+use Rattle.lin_ir.specs.Descriptors.{frame_point_count}
 use Rattle.lin_ir.specs.Meaning.{passes_frame}
 use Rattle.lin_ir.specs.Walks.{Reached, Traps}
 use Rattle.lin_ir.specs.declared.lin.Line.{Line}
 use Rattle.lin_ir.specs.declared.lin.LinOp.{LinOp}
 use Rattle.lin_ir.specs.declared.lin.Lin.{Lin}
-use Rattle.lin_laws.specs.Graph.{place_of, position, AreNumbered, AreNodes, IsAfter}
+use Rattle.lin_laws.specs.Graph.{line_index, position, AreNumbered, ArePositionNodes, IsNodeAfterPoint}
 use Rattle.lin_laws.specs.declared.position.Position.{Position}
 use Rattle.lin_laws.specs.Numbers.{written_numbers}
-use Rattle.lin_flow.specs.Search.{all_of, groups_of, members, AreGrouped, AreCountable, HasFirst}
+use Rattle.lin_flow.specs.Search.{all_positions, groups_of, search_members, AreGrouped, AreCountable, HasFirst}
 use Rattle.lin_flow.specs.declared.search.Search.{Search}
 use Rattle.frame_tables.specs.declared.after.Choice.{Choice}
 use Rattle.frame_tables.specs.declared.after.Point.{Point}
@@ -26,9 +26,9 @@ IsOneOf false reached q tries = tries ≡ []
 abbrev pub IsAsked : Choice → ℕ → Position → Type 0
 IsAsked c q found = (found.place ≡ c.place) × IsOneOf c.seen c.reached q found.tries
 
-pub record IsChosen (s : Search) (c : Choice) (q : ℕ) : Type 0 where
+pub record IsChosenPosition (s : Search) (c : Choice) (q : ℕ) : Type 0 where
   pub found : Position
-  pub is : slice_get (all_of s) q ≡ Some found
+  pub is : slice_get (all_positions s) q ≡ Some found
   pub asked : IsAsked c q found
 
 -- the choice at a place, which depends on whether one of the first positions is there
@@ -41,7 +41,7 @@ pub record IsChoice (s : Search) (p reached : ℕ) (c : Choice) : Type 0 where
 -- so many traps are pushed at one that is chosen
 pub record HasTraps (s : Search) (c : Choice) (traps : ℕ) : Type 0 where
   pub number : ℕ
-  pub chosen : IsChosen s c number
+  pub chosen : IsChosenPosition s c number
   pub is : traps ≡ length chosen.found.tries
 
 -- ---- where control goes from them
@@ -54,7 +54,7 @@ pub record ComesFrom (s : Search) (nodes : List place.Place) (c : Choice) (aside
     Type 0 where
   pub node : place.Place
   pub is : slice_get nodes n ≡ Some node
-  pub chosen : IsChosen s c n
+  pub chosen : IsChosenPosition s c n
   pub edge : Contains (edges_of aside node) q
 
 -- where control goes from a position was added
@@ -72,8 +72,8 @@ pub record IsGathered (s : Search) (nodes : List place.Place) (c : Choice) (asid
 
 pub record IsAfterNode (s : Search) (nodes : List place.Place) (c : Choice) (i : Line)
     (node : place.Place) : Type 0 where
-  pub next : IsGathered s nodes c false (members (groups_of s) c.place) (contents node.next)
-  pub aside : IsGathered s nodes c true (members (groups_of s) c.place) (contents node.aside)
+  pub next : IsGathered s nodes c false (search_members (groups_of s) c.place) (contents node.next)
+  pub aside : IsGathered s nodes c true (search_members (groups_of s) c.place) (contents node.aside)
   pub reads : contents node.reads ≡ []
   pub writes : contents node.writes ≡ written_numbers i
 
@@ -88,37 +88,37 @@ pub record IsFramePoint (m : Lin) (p : ℕ) : Type 0 where
 
 -- a frame point at this place has one of the first positions, or one with no trap pushed
 pub record IsRooted (old new : Search) (op : LinOp) (p reached : ℕ) : Type 0 where
-  pub kept : (q : ℕ) (x : Position) → slice_get (all_of old) q ≡ Some x →
-      slice_get (all_of new) q ≡ Some x
+  pub kept : (q : ℕ) (x : Position) → slice_get (all_positions old) q ≡ Some x →
+      slice_get (all_positions new) q ≡ Some x
   pub grouped : AreGrouped old → AreGrouped new
   pub countable : AreCountable old → AreCountable new
   pub groups : length (groups_of new) ≡ length (groups_of old)
   pub root : passes_frame op ≡ true →
-      ((q : ℕ) × (slice_get (all_of new) q ≡ Some (position p []))) ⊎ HasFirst new p reached
+      ((q : ℕ) × (slice_get (all_positions new) q ≡ Some (position p []))) ⊎ HasFirst new p reached
 
 -- each frame point before place k has one of the first positions, or one with no trap pushed
 pub record HasRoots (m : Lin) (old new : Search) (reached k : ℕ) : Type 0 where
-  pub kept : (q : ℕ) (x : Position) → slice_get (all_of old) q ≡ Some x →
-      slice_get (all_of new) q ≡ Some x
+  pub kept : (q : ℕ) (x : Position) → slice_get (all_positions old) q ≡ Some x →
+      slice_get (all_positions new) q ≡ Some x
   pub grouped : AreGrouped old → AreGrouped new
   pub countable : AreCountable old → AreCountable new
   pub groups : length (groups_of new) ≡ length (groups_of old)
   pub roots : (p : ℕ) → p < k → IsFramePoint m p →
-      ((q : ℕ) × (slice_get (all_of new) q ≡ Some (position p []))) ⊎ HasFirst new p reached
+      ((q : ℕ) × (slice_get (all_positions new) q ≡ Some (position p []))) ⊎ HasFirst new p reached
 
 -- The first positions are those that walks come to. Each frame point has one of them, or one with
 -- no trap pushed; and where control goes from a place that has a position, there is one too.
-pub record IsSearched (m : Lin) (s : Search) (reached : ℕ) (nodes : List place.Place) : Type 0 where
+pub record IsSearchedForPoints (m : Lin) (s : Search) (reached : ℕ) (nodes : List place.Place) : Type 0 where
   pub numbered : AreNumbered m
   pub grouped : AreGrouped s
-  pub walked : (q : ℕ) (x : Position) → q < reached → slice_get (all_of s) q ≡ Some x →
+  pub walked : (q : ℕ) (x : Position) → q < reached → slice_get (all_positions s) q ≡ Some x →
       Reached m (drop x.place m.code) x.tries
   pub complete : (rest : List Line) (tries : List ℕ) → Reached m rest tries →
-      (q : ℕ) × (q < reached) × (slice_get (all_of s) q ≡ Some (position (place_of m rest) tries))
+      (q : ℕ) × (q < reached) × (slice_get (all_positions s) q ≡ Some (position (line_index m rest) tries))
   pub roots : (p : ℕ) → IsFramePoint m p →
-      ((q : ℕ) × (slice_get (all_of s) q ≡ Some (position p []))) ⊎ HasFirst s p reached
-  pub len : length nodes ≡ length (all_of s)
-  pub are : AreNodes m (m.slots + 32) (all_of s) nodes
+      ((q : ℕ) × (slice_get (all_positions s) q ≡ Some (position p []))) ⊎ HasFirst s p reached
+  pub len : length nodes ≡ length (all_positions s)
+  pub are : ArePositionNodes m (m.slots + 32) (all_positions s) nodes
 
 -- ---- frame points
 
@@ -129,17 +129,17 @@ pub record IsPoint (m : Lin) (all : List Position) (point : Point) (node : place
   pub tries : List ℕ
   pub pushed : Traps m (drop point.place m.code) tries
   pub traps : point.traps ≡ length tries
-  pub after : IsAfter m (m.slots + 32) all point.place node
+  pub after : IsNodeAfterPoint m (m.slots + 32) all point.place node
 
 -- the frame points before place k, and the places of the graph
 pub record ArePoints (m : Lin) (all : List Position) (nodes : List place.Place)
     (points : List Point) (k : ℕ) : Type 0 where
   pub len : length nodes ≡ length all + length points
-  pub are : AreNodes m (m.slots + 32) all nodes
+  pub are : ArePositionNodes m (m.slots + 32) all nodes
   pub each : (j : ℕ) (point : Point) (node : place.Place) → slice_get points j ≡ Some point →
       slice_get nodes (length all + j) ≡ Some node → IsPoint m all point node
   pub every : (p : ℕ) → p < k → IsFramePoint m p →
       (j : ℕ) × (point : Point) × (slice_get points j ≡ Some point) × (point.place ≡ p)
   pub order : AllPairs (λ (a b : Point). a.place < b.place) points
   pub below : All (λ (a : Point). a.place < k) points
-  pub count : length points + frame_points (drop k m.code) ≡ frame_points m.code
+  pub count : length points + frame_point_count (drop k m.code) ≡ frame_point_count m.code

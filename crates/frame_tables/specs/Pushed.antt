@@ -1,6 +1,6 @@
 -- How many traps are pushed before each line, as it is found.
 use Rattle.std.specs.Prelude.{◌≡◌, ℕ, suc, ◌-◌, ◌<◌, List, ◌∷◌, Some, length, slice_get, slice_index}
-use Rattle.lin_ir.specs.Walks.{Stands, Reached, ArePushed}
+use Rattle.lin_ir.specs.Walks.{StandsAsLine, Reached, ArePushed}
 use Rattle.lin_ir.specs.declared.lin.Line.{Line}
 use Rattle.lin_ir.specs.declared.lin.Lin.{Lin}
 use Rattle.lin_laws.specs.declared.position.Position.{Position}
@@ -18,5 +18,5 @@ pub record AreTabled (m : Lin) (all : List Position) (k : ℕ) (table : List ℕ
 -- the number of lines after it.
 pub record AreCounted (m : Lin) (traps : ℕ → ℕ) : Type 0 where
   pub pushed : ArePushed m traps
-  pub unreached : (i : Line) (next : List Line) → Stands i next m.code →
+  pub unreached : (i : Line) (next : List Line) → StandsAsLine i next m.code →
       ((tries : List ℕ) → Reached m (i ∷ next) tries → ⊥) → traps (length next) ≡ 0

@@ -2,10 +2,10 @@
 ghost use Rattle.std.specs.Prelude.{◌≡◌, ◌<◌, ◌↔◌, ℕ, suc, Some, length, slice_get, Contains, IfOk, IsTrue};
 ghost use Rattle.bs_words.specs.Contents.{contents};
 ghost use Rattle.lin_ir.specs.Meaning.{passes_frame};
-ghost use Rattle.lin_flow.specs.Search.{all_of, groups_of, members};
+ghost use Rattle.lin_flow.specs.Search.{all_positions, groups_of, search_members};
 ghost use Rattle.lin_flow.specs.Sizes.{IsCountable, HaveSmall};
-ghost use Rattle.frame_tables.specs.Points.{IsAsked, IsChosen, IsChoice, edges_of, IsGathered, Gathers, HasTraps};
-ghost use Rattle.frame_tables.specs.Points.{IsAfterNode, IsSearched, IsRooted, ArePoints, HasRoots};
+ghost use Rattle.frame_tables.specs.Points.{IsAsked, IsChosenPosition, IsChoice, edges_of, IsGathered, Gathers, HasTraps};
+ghost use Rattle.frame_tables.specs.Points.{IsAfterNode, IsSearchedForPoints, IsRooted, ArePoints, HasRoots};
 
 use bs_words::List;
 use dataflow::Place;
@@ -60,7 +60,7 @@ fn is_asked(found: &Position, number: u32, choice: Choice) -> bool
 }
 
 fn is_chosen(search: &Search, number: u32, choice: Choice) -> bool
-    ensures { IsTrue result ↔ IsChosen search.now choice number }
+    ensures { IsTrue result ↔ IsChosenPosition search.now choice number }
 {
     match search.position_at(number) {
         None => false,
@@ -110,7 +110,7 @@ fn gather(
     aside: bool,
 ) -> Result<List<u32>, AllocError>
     ensures { IfOk result (λ ns. IsGathered search.now nodes.now choice aside
-        (members (groups_of search.now) choice.place) (contents ns)) }
+        (search_members (groups_of search.now) choice.place) (contents ns)) }
 {
     let mut numbers = Vec::new(alloc);
     for number in search.members(choice.place) {
@@ -121,7 +121,7 @@ fn gather(
 
 /// How many traps are pushed at the position with the number.
 fn traps_of(search: &Search, number: u32) -> usize
-    ensures { (x : Position) → slice_get (all_of search.now) number ≡ Some x →
+    ensures { (x : Position) → slice_get (all_positions search.now) number ≡ Some x →
         result ≡ length x.tries }
 {
     match search.position_at(number) {
@@ -132,8 +132,8 @@ fn traps_of(search: &Search, number: u32) -> usize
 
 /// How many traps are pushed at a position that is chosen.
 fn traps_at(search: &Search, choice: Choice) -> usize
-    ensures { (n : ℕ) → Contains (members (groups_of search.now) choice.place) n →
-        IsChosen search.now choice n → HasTraps search.now choice result }
+    ensures { (n : ℕ) → Contains (search_members (groups_of search.now) choice.place) n →
+        IsChosenPosition search.now choice n → HasTraps search.now choice result }
 {
     for number in search.members(choice.place) {
         if is_chosen(search, *number, choice) {
@@ -217,8 +217,8 @@ pub fn add_points(
     nodes: &mut Vec<Place>,
 ) -> Result<Vec<Point>, AllocError>
     requires countable { IsCountable lin.now }
-    requires searched { IsSearched lin.now search.now reached nodes.old.items }
-    ensures { IfOk result (λ points. ArePoints lin.now (all_of search.now) nodes.new.items
+    requires searched { IsSearchedForPoints lin.now search.now reached nodes.old.items }
+    ensures { IfOk result (λ points. ArePoints lin.now (all_positions search.now) nodes.new.items
         points.items (length lin.now.code)) }
 {
     let mut points = Vec::new(alloc);

@@ -1,7 +1,7 @@
 //! Descriptors of frame points, from what is live after them.
 ghost use Rattle.std.specs.Prelude.{◌≡◌, ◌+◌, ◌*◌, ◌<◌, ◌≤◌, ◌^◌, ◌++◌, length, IfOk};
 ghost use Rattle.std.specs.List.{All};
-ghost use Rattle.lin_laws.specs.Numbers.{entry_of, entries_from};
+ghost use Rattle.lin_laws.specs.Numbers.{entry_of, trap_entries_from};
 ghost use Rattle.frame_tables.specs.Described.{described, entry_if, AreDescribed};
 
 use crate::after::Point;
@@ -46,7 +46,7 @@ fn push_entry(
 /// The entries of the locations whose numbers are in the set, in the order of their numbers.
 fn entries_of(alloc: Global, set: &Bits, traps: u32) -> Result<Seq<u32>, AllocError>
     requires { 8 * length set.now + 16 * traps < 2 ^ 32 }
-    ensures { IfOk result (λ entries. entries ≡ entries_from traps 0 set.now) }
+    ensures { IfOk result (λ entries. entries ≡ trap_entries_from traps 0 set.now) }
 {
     let mut entries = Vec::new(alloc);
     for number in 0..set.size() {

@@ -1,6 +1,6 @@
 //! How many traps are pushed before each line.
 ghost use Rattle.std.specs.Prelude.{length, slice_index, IfOk};
-ghost use Rattle.lin_ir.specs.Descriptors.{IsWithin};
+ghost use Rattle.lin_ir.specs.Descriptors.{FitsDescriptors};
 ghost use Rattle.lin_ir.specs.Formed.{AreLocated};
 ghost use Rattle.lin_ir.specs.Walks.{OneDepth};
 ghost use Rattle.lin_flow.specs.Nodes.{AreWalkedTo};
@@ -14,7 +14,7 @@ use std::alloc::{AllocError, Global};
 /// The number of traps at each of these positions, by the number of lines after it.
 fn table_of(alloc: Global, lin: &Lin, positions: &[Position]) -> Result<Vec<u32>, AllocError>
     requires depth { OneDepth lin.now }
-    requires within { IsWithin lin.now }
+    requires within { FitsDescriptors lin.now }
     requires walked { AreWalkedTo lin.now positions.now }
     ensures { IfOk result (λ traps.
         AreTabled lin.now positions.now (length positions.now) traps.items) }
@@ -41,7 +41,7 @@ fn table_of(alloc: Global, lin: &Lin, positions: &[Position]) -> Result<Vec<u32>
 pub fn pushed_traps(alloc: Global, lin: &Lin) -> Result<Vec<u32>, AllocError>
     requires located { AreLocated lin.now }
     requires depth { OneDepth lin.now }
-    requires within { IsWithin lin.now }
+    requires within { FitsDescriptors lin.now }
     ensures { IfOk result (λ traps. AreCounted lin.now (λ left. slice_index traps.items left)) }
 {
     let labels = Labels::of_function(alloc, lin)?;

@@ -1,10 +1,10 @@
 //! The descriptors of a function.
 ghost use Rattle.std.specs.Prelude.{◌≡◌, length, IfOk};
-ghost use Rattle.lin_ir.specs.Descriptors.{AreExact, IsWithin, frame_points};
+ghost use Rattle.lin_ir.specs.Descriptors.{AreExact, FitsDescriptors, frame_point_count};
 ghost use Rattle.lin_ir.specs.Formed.{AreLocated};
 ghost use Rattle.lin_ir.specs.Walks.{OneDepth};
 ghost use Rattle.lin_flow.specs.Nodes.{IsText};
-ghost use Rattle.frame_tables.specs.Points.{IsSearched};
+ghost use Rattle.frame_tables.specs.Points.{IsSearchedForPoints};
 
 use crate::after::{add_points, enter_points};
 use crate::entries::describe_all;
@@ -28,7 +28,7 @@ struct Searched {
 /// Searches what walks come to, and what comes after frame points to which none comes.
 fn search_points(alloc: Global, lin: &Lin, labels: &Labels) -> Result<Searched, AllocError>
     requires { IsText lin.now labels.now }
-    ensures { IfOk result (λ s. IsSearched lin.now s.search s.reached s.nodes.items) }
+    ensures { IfOk result (λ s. IsSearchedForPoints lin.now s.search s.reached s.nodes.items) }
 {
     let Walks {
         mut search,
@@ -52,11 +52,11 @@ fn describe_searched(
     mut nodes: Vec<Place>,
     reached: u32,
 ) -> Result<Seq<Descr>, AllocError>
-    requires searched { IsSearched lin.now search.now reached nodes.items }
+    requires searched { IsSearchedForPoints lin.now search.now reached nodes.items }
     requires depth { OneDepth lin.now }
-    requires within { IsWithin lin.now }
+    requires within { FitsDescriptors lin.now }
     ensures exact { IfOk result (AreExact lin.now) }
-    ensures count { IfOk result (λ ds. length ds ≡ frame_points lin.now.code) }
+    ensures count { IfOk result (λ ds. length ds ≡ frame_point_count lin.now.code) }
 {
     let first = nodes.len();
     let points = add_points(alloc, lin, search, reached, &mut nodes)?;
@@ -83,9 +83,9 @@ fn describe_searched(
 pub fn descriptors(alloc: Global, lin: &Lin) -> Result<Seq<Descr>, AllocError>
     requires located { AreLocated lin.now }
     requires depth { OneDepth lin.now }
-    requires within { IsWithin lin.now }
+    requires within { FitsDescriptors lin.now }
     ensures exact { IfOk result (AreExact lin.now) }
-    ensures count { IfOk result (λ ds. length ds ≡ frame_points lin.now.code) }
+    ensures count { IfOk result (λ ds. length ds ≡ frame_point_count lin.now.code) }
 {
     let labels = Labels::of_function(alloc, lin)?;
     let Searched {

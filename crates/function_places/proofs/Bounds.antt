@@ -6,8 +6,8 @@ use Rattle.function_places.specs.Places.{size_of}
 use Rattle.function_places.specs.Sizes.{piece_size}
 use Rattle.layout_rules.specs.declared.form.Form.{Form}
 use Rattle.layout_rules.specs.declared.form.Form.TheVariants.{Near, Middle, Far}
-use Rattle.layout_rules.specs.Conditions.{weight, weight_of}
-use Rattle.layout_rules.specs.Forms.{words_of, total_words}
+use Rattle.layout_rules.specs.Conditions.{piece_weight, weight_of}
+use Rattle.layout_rules.specs.Forms.{piece_words, total_words}
 use Rattle.layout_rules.proofs.Rules.{all_words}
 use Rattle.rv_pieces.specs.declared.piece.Piece.{Piece}
 use Rattle.rv_pieces.specs.declared.piece.Piece.TheVariants.{Known, Label, Branch, Jump, Row, LabelAddress, Call, TailCall, SymbolAddress, ExternalNumber, Descriptor}
@@ -15,7 +15,7 @@ use Rattle.rv_pieces.specs.declared.piece.Pieces.{Pieces}
 
 -- ---- words
 
-piece_most : (p : Piece) (f : Form) → words_of p f ≤ 3
+piece_most : (p : Piece) (f : Form) → piece_words p f ≤ 3
 piece_most (Known i) f = omega arith
 piece_most (Label l) f = omega arith
 piece_most (Branch c a b l) Near = omega arith
@@ -41,7 +41,7 @@ words_most [] fs = omega arith
 words_most (p ∷ ps) [] = omega arith
 words_most (p ∷ ps) (f ∷ fs) = omega (arith, piece_most p f, words_most ps fs)
 
-weight_some : (p : Piece) → 1 ≤ weight p
+weight_some : (p : Piece) → 1 ≤ piece_weight p
 weight_some (Known i) = omega arith
 weight_some (Label l) = omega arith
 weight_some (Branch c a b l) = omega arith
@@ -56,7 +56,7 @@ weight_some (Descriptor d) = omega arith
 
 pub length_most : (ps : List Piece) → length ps ≤ weight_of ps
 length_most [] = omega arith
-length_most (p ∷ ps) = omega (arith, sum_by-cons weight p ps, weight_some p, length_most ps)
+length_most (p ∷ ps) = omega (arith, sum_by-cons piece_weight p ps, weight_some p, length_most ps)
 
 pub all_most : (ps : List Pieces) (forms : List (List Form)) → all_words ps forms ≤ 3 * sum_by size_of ps
 all_most [] forms = omega arith
@@ -66,7 +66,7 @@ all_most (p ∷ ps) (f ∷ forms) =
 
 -- ---- descriptors
 
-descriptor_most : (p : Piece) → piece_size p ≤ 12 * weight p
+descriptor_most : (p : Piece) → piece_size p ≤ 12 * piece_weight p
 descriptor_most (Known i) = omega arith
 descriptor_most (Label l) = omega arith
 descriptor_most (Branch c a b l) = omega arith
@@ -81,4 +81,4 @@ descriptor_most (Descriptor d) = omega arith
 
 pub code_most : (ps : List Piece) → sum_by piece_size ps ≤ 12 * weight_of ps
 code_most [] = omega arith
-code_most (p ∷ ps) = omega (arith, sum_by-cons piece_size p ps, sum_by-cons weight p ps, descriptor_most p, code_most ps)
+code_most (p ∷ ps) = omega (arith, sum_by-cons piece_size p ps, sum_by-cons piece_weight p ps, descriptor_most p, code_most ps)

@@ -8,7 +8,7 @@ use Rattle.function_places.specs.Places.{IsLaid}
 use Rattle.function_places.specs.declared.places.Laid.{Laid}
 use Rattle.layout_rules.specs.declared.form.Form.{Form}
 use Rattle.layout_rules.specs.Forms.{total_words}
-use Rattle.layout_rules.specs.Laid.{entries_from, AreAllForms}
+use Rattle.layout_rules.specs.Laid.{function_entries_from, AreAllForms}
 use Rattle.layout_rules.proofs.Rules.{all_words}
 use Rattle.rv_pieces.specs.declared.piece.Pieces.{Pieces}
 use Rattle.bs_words.proofs.Lists.{drop_step}
@@ -42,7 +42,7 @@ forms_laid [] (own ∷ all) each = absurd each
 forms_laid (p ∷ ps) [] each = absurd each
 forms_laid (p ∷ ps) (own ∷ all) each = (each.0.forms, forms_laid ps all each.1)
 
-pub starts_laid : (at : ℕ) (ps : List Pieces) (all : List Laid) → AllZip IsLaid ps all → starts at all ≡ entries_from at ps (map own_forms all)
+pub starts_laid : (at : ℕ) (ps : List Pieces) (all : List Laid) → AllZip IsLaid ps all → starts at all ≡ function_entries_from at ps (map own_forms all)
 starts_laid at [] [] each = refl
 starts_laid at [] (own ∷ all) each = absurd each
 starts_laid at (p ∷ ps) [] each = absurd each

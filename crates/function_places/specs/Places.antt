@@ -8,7 +8,7 @@ use Rattle.image_form.specs.Image.{stub_words}
 use Rattle.layout_rules.specs.declared.form.Form.{Form}
 use Rattle.layout_rules.specs.Conditions.{weight_of}
 use Rattle.layout_rules.specs.Forms.{total_words, none_far, AreForms}
-use Rattle.layout_rules.specs.Laid.{entries_from, AreAllForms}
+use Rattle.layout_rules.specs.Laid.{function_entries_from, AreAllForms}
 use Rattle.layout_rules.proofs.Rules.{all_words}
 use Rattle.rv_pieces.specs.declared.piece.Pieces.{Pieces}
 
@@ -33,5 +33,5 @@ forms_in places = map (λ (own : Laid). own.forms.items) places.forms.items
 pub record ArePlaces (ps : List Pieces) (places : Places) : Type 0 where
   pub each : AllZip IsLaid ps places.forms.items
   pub forms : AreAllForms ps (forms_in places)
-  pub entries : places.entries.items ≡ entries_from stub_words ps (forms_in places)
+  pub entries : places.entries.items ≡ function_entries_from stub_words ps (forms_in places)
   pub end : places.end ≡ stub_words + all_words ps (forms_in places)

@@ -1,16 +1,16 @@
 -- No walk comes to the end of the code: each part with a line after it to which one comes begins before the end.
 use Rattle.std.proofs.Common.{◌≡◌, ℕ, ◌+◌, ◌<◌, ◌≤◌, Bool, true, false, cond, nat_lt, List, [], ◌∷◌, ◌++◌, ◌⊎◌, inl, inr, ⊎_elim, length, drop, refl, ap, arith}
 use Rattle.std.proofs.lemmas.Bool.{lt-ltb}
-use Rattle.emit_rules.specs.Emitted.{descriptor, parts}
-use Rattle.emit_rules.specs.Entry.{Frame}
+use Rattle.emit_rules.specs.Emitted.{descriptor, parts_of_lines}
+use Rattle.emit_rules.specs.Entry.{FrameLayout}
 use Rattle.emit_rules.specs.Sizes.{words_at_least}
-use Rattle.emit_rules.specs.Units.{is_free}
+use Rattle.emit_rules.specs.Units.{is_free_exit}
 use Rattle.emit_rules.proofs.Acts.{ActsAt, falls_act, part_acts}
 use Rattle.emit_rules.proofs.Units.{free_is_exit, part_unless_free}
 use Rattle.layout_rules.specs.declared.form.Form.{Form}
 use Rattle.layout_rules.specs.Forms.{total_words}
 use Rattle.layout_rules.specs.Stands.{HasPieces}
-use Rattle.layout_rules.specs.Words.{Named}
+use Rattle.layout_rules.specs.Words.{NameAddresses}
 use Rattle.lin_ir.specs.Meaning.{passes_frame}
 use Rattle.lin_ir.specs.Walks.{Reached, by_step, goes, targets, tries_after}
 use Rattle.lin_ir.specs.declared.descr.Descr.{Descr}
@@ -56,31 +56,31 @@ points_go_on (lin.Op (op.Calling (calling.TailCall whom result))) e = cc
 points_go_on (lin.Op (op.Calling (calling.External row frame))) e = this
 points_go_on (lin.Op (op.Leaving g)) e = cc
 
-module _ (words : List ℕ) (n : Named) (traps : ℕ → ℕ) (f : Frame) (m : Lin) (unended : (tries : List ℕ) → Reached m [] tries → ⊥) where
+module _ (words : List ℕ) (n : NameAddresses) (traps : ℕ → ℕ) (f : FrameLayout) (m : Lin) (unended : (tries : List ℕ) → Reached m [] tries → ⊥) where
   -- code that a walk comes to has an instruction
   some_words : (ds : List Descr) (code : List Line) (fs : List Form) (at' : ℕ) (tries : List ℕ) → Reached m code tries →
-      HasPieces words n at' (parts traps f ds code) fs → 1 ≤ total_words (parts traps f ds code) fs
+      HasPieces words n at' (parts_of_lines traps f ds code) fs → 1 ≤ total_words (parts_of_lines traps f ds code) fs
   some_words ds [] fs at' tries reached has = absurd (unended tries reached)
   some_words ds (i ∷ next) fs at' tries reached has =
       let part = part_in traps f ds i next in
-      let rest = parts traps f (left_in ds i) next in
+      let rest = parts_of_lines traps f (left_in ds i) next in
       let both = words_both part rest fs in
       ⊎_elim (λ goes_on.
       let later = some_words (left_in ds i) next (drop (length part) fs) (at' + total_words part fs) (tries_after i.op tries)
       (by_step reached (goes On goes_on)) (has_second words n at' part rest fs has) in
-      omega (arith, later, both)) (λ acts. by acts (is_free i.op next) refl) (on_or_acts i.op i.args i.results)
+      omega (arith, later, both)) (λ acts. by acts (is_free_exit i.op next) refl) (on_or_acts i.op i.args i.results)
     where
-      by : ActsAt i.op i.args i.results → (b : Bool) → is_free i.op next ≡ b → 1 ≤ total_words (parts traps f ds (i ∷ next)) fs
+      by : ActsAt i.op i.args i.results → (b : Bool) → is_free_exit i.op next ≡ b → 1 ≤ total_words (parts_of_lines traps f ds (i ∷ next)) fs
       by acts true e =
           let part = part_in traps f ds i next in
-          let rest = parts traps f (left_in ds i) next in
+          let rest = parts_of_lines traps f (left_in ds i) next in
           let exit = free_is_exit i.op next e in
           let some = falls_act traps f (left_in ds i) exit.to next exit.falls in
           let enough = least words n (at' + total_words part fs) rest _ (has_second words n at' part rest fs has) in
           omega (arith, some, enough, words_both part rest fs)
       by acts false e =
           let part = part_in traps f ds i next in
-          let rest = parts traps f (left_in ds i) next in
+          let rest = parts_of_lines traps f (left_in ds i) next in
           let d = descriptor (passes_frame i.op) ds in
           let some = part_acts (traps (length next)) f d i.op i.args i.results acts in
           let same = ap words_at_least (part_unless_free (traps (length next)) f d i next e) in
@@ -93,8 +93,8 @@ module _ (words : List ℕ) (n : Named) (traps : ℕ → ℕ) (f : Frame) (m : L
 
   -- so each part before such code begins before the end
   pub place_before : {suffix : List Line} {tries : List ℕ} (ds : List Descr) (code : List Line) (fs : List Form) (at at' k : ℕ) → Reached m suffix tries →
-      Tail suffix code → length suffix ≤ k → HasPieces words n at' (parts traps f ds code) fs →
-      Place traps f ds code fs at k < at + total_words (parts traps f ds code) fs
+      Tail suffix code → length suffix ≤ k → HasPieces words n at' (parts_of_lines traps f ds code) fs →
+      Place traps f ds code fs at k < at + total_words (parts_of_lines traps f ds code) fs
   place_before {tries = tries} ds [] fs at at' k reached tail_all h has = absurd (unended tries reached)
   place_before {tries = tries} ds (i ∷ next) fs at at' k reached tail_all h has =
       let part = part_in traps f ds i next in
@@ -104,7 +104,7 @@ module _ (words : List ℕ) (n : Named) (traps : ℕ → ℕ) (f : Frame) (m : L
       omega (arith, some, e)
   place_before ds (i ∷ next) fs at at' k reached (tail_more tail) h has =
       let part = part_in traps f ds i next in
-      let rest = parts traps f (left_in ds i) next in
+      let rest = parts_of_lines traps f (left_in ds i) next in
       let left = drop (length part) fs in
       let both = words_both part rest fs in
       let later = place_before (left_in ds i) next left (at + total_words part fs) (at' + total_words part fs) k reached tail h

@@ -8,17 +8,17 @@ use Rattle.image_form.specs.Image.{stub_words}
 use Rattle.image_form.specs.Tables.{Func, Tables}
 use Rattle.layout_rules.specs.declared.form.Form.{Form}
 use Rattle.layout_rules.specs.Forms.{total_words}
-use Rattle.layout_rules.specs.Laid.{AllReach, address_of_place, entries_from, rows_from}
+use Rattle.layout_rules.specs.Laid.{AllReach, address_of_place, function_entries_from, rows_from}
 use Rattle.moving_laws.specs.Values.{function_at}
 use Rattle.rv_machine.specs.Memory.{code_start}
 use Rattle.rv_pieces.specs.declared.piece.Pieces.{Pieces}
-use Rattle.function_stands.specs.Compiled.{IsImageOf}
+use Rattle.function_stands.specs.Compiled.{IsImageOfPieces}
 use Rattle.function_stands.specs.Functions.{entry_place}
 
 -- ---- rows that are laid one after the other
 
 function_at_entry : (fs : List FunctionTree) (ps : List Pieces) (forms : List (List Form)) (at k : ℕ) → length ps ≡ length fs → AllReach ps forms →
-    function_at (rows_from at fs ps forms) k ≡ address_of_place (slice_index (entries_from at ps forms) k)
+    function_at (rows_from at fs ps forms) k ≡ address_of_place (slice_index (function_entries_from at ps forms) k)
 function_at_entry [] [] forms at k same are = refl
 function_at_entry [] (p ∷ ps) forms at k same are = absurd (omega (arith, same))
 function_at_entry (f ∷ fs) [] forms at k same are = absurd (omega (arith, same))
@@ -55,9 +55,9 @@ frame_at image f row is = row_frame image.funcs f row is
 
 -- ---- the image of a file
 
-module _ (image : Tables) (file : FileTree) (ps : List Pieces) (c : Setting) (it : IsImageOf image file ps c) where
+module _ (image : Tables) (file : FileTree) (ps : List Pieces) (c : Setting) (it : IsImageOfPieces image file ps c) where
   abbrev entries : List ℕ
-  entries = entries_from stub_words ps it.laid.forms
+  entries = function_entries_from stub_words ps it.laid.forms
 
   pub rows_are : (f : ℕ) → function_at image.funcs f ≡ address_of_place (slice_index entries f)
   rows_are f =

@@ -4,9 +4,9 @@ use Rattle.std.specs.List.{AllByRecursion}
 use Rattle.std.proofs.lemmas.Bool.{true≢false, eq-eqb}
 use Rattle.std.proofs.lemmas.List.Elements.{recursion_from_All}
 use Rattle.emit_rules.specs.Emitted.{descriptor, left_after}
-use Rattle.lin_ir.specs.Descriptors.{AreExact, Describes, IsDescr, frame_points}
+use Rattle.lin_ir.specs.Descriptors.{AreExact, Describes, IsDescr, frame_point_count}
 use Rattle.lin_ir.specs.Meaning.{passes_frame}
-use Rattle.lin_ir.specs.Walks.{Stands, here, below, Traps}
+use Rattle.lin_ir.specs.Walks.{StandsAsLine, here, below, Traps}
 use Rattle.lin_ir.specs.declared.descr.Descr.{Descr}
 use Rattle.lin_ir.specs.declared.lin.Line.{Line}
 use Rattle.lin_ir.specs.declared.lin.Lin.{Lin}
@@ -19,7 +19,7 @@ use Rattle.function_stands.proofs.Parts.{descriptor_of, left_in, shorter}
 record Points (total : ℕ) (code : List Line) (d : Descr) : Type 0 where
   line : Line
   next : List Line
-  stands : Stands line next code
+  stands : StandsAsLine line next code
   point : passes_frame line.op ≡ true
   after : d.after + suc (length next) ≡ total
 
@@ -36,7 +36,7 @@ module _ (total : ℕ) where
       ((passes_frame i.op ≡ true) × (d.after + suc (length next) ≡ total)) ⊎ Points total next d
   cases i next d p = by p.stands p.point p.after
     where
-      by : {line : Line} {rest : List Line} → Stands line rest (i ∷ next) → passes_frame line.op ≡ true → d.after + suc (length rest) ≡ total →
+      by : {line : Line} {rest : List Line} → StandsAsLine line rest (i ∷ next) → passes_frame line.op ≡ true → d.after + suc (length rest) ≡ total →
           ((passes_frame i.op ≡ true) × (d.after + suc (length next) ≡ total)) ⊎ Points total next d
       by here point after = inl (point, after)
       by {line} {rest} (below stands) point after = inr (record { line = line; next = rest; stands = stands; point = point; after = after })
@@ -62,15 +62,15 @@ module _ (total : ℕ) where
       (⊎_elim (λ own. absurd (true≢false (sym own.0 ∙ none))) (λ q. q) (cases i next d all.0), all_other i next ds none all.1)
 
   -- there are no more of them than frame points
-  few : (code : List Line) (ds : List Descr) → AllPoint total code ds → Rises ds → length ds ≤ frame_points code
+  few : (code : List Line) (ds : List Descr) → AllPoint total code ds → Rises ds → length ds ≤ frame_point_count code
   unfolding AllPoint Rises
   few code [] all rises = omega arith
   few [] (d ∷ ds) all rises = elim (all.0.stands) [ ]
   few (i ∷ next) (d ∷ ds) all rises = by (passes_frame i.op) refl (cases i next d all.0) (λ es a r. few next es a r)
     where
       by : (b : Bool) → passes_frame i.op ≡ b → ((passes_frame i.op ≡ true) × (d.after + suc (length next) ≡ total)) ⊎ Points total next d →
-          ((es : List Descr) → AllPoint total next es → Rises es → length es ≤ frame_points next) →
-          length (d ∷ ds) ≤ cond b (suc (frame_points next)) (frame_points next)
+          ((es : List Descr) → AllPoint total next es → Rises es → length es ≤ frame_point_count next) →
+          length (d ∷ ds) ≤ cond b (suc (frame_point_count next)) (frame_point_count next)
       by true e (inl own) go =
           let at = own.1 in
           let rest = go ds (all_later i next d.after ds (omega (arith, at)) rises.0 all.1) rises.1 in omega (arith, rest)
@@ -84,7 +84,7 @@ module _ (total : ℕ) where
 
   -- The first of them is of the first line where that is a frame point, and none is left over.
   own_first : (i : Line) (next : List Line) (d : Descr) (ds : List Descr) → AllPoint total (i ∷ next) (d ∷ ds) → Rises (d ∷ ds) →
-      length (d ∷ ds) ≡ suc (frame_points next) → d.after + suc (length next) ≡ total
+      length (d ∷ ds) ≡ suc (frame_point_count next) → d.after + suc (length next) ≡ total
   unfolding AllPoint Rises
   own_first i next d ds all rises count = ⊎_elim (λ own. own.1) (λ q.
       let at = behind next d q in
@@ -97,18 +97,18 @@ module _ (total : ℕ) where
     among : IsIn of all
     after : of.after + suc (length next) ≡ total
 
-  own : {i : Line} {next : List Line} (whole : List Descr) (code : List Line) (ds : List Descr) → Stands i next code → passes_frame i.op ≡ true →
-      AllPoint total code ds → Rises ds → length ds ≡ frame_points code → ((d : Descr) → IsIn d ds → IsIn d whole) → Own whole ds code next
+  own : {i : Line} {next : List Line} (whole : List Descr) (code : List Line) (ds : List Descr) → StandsAsLine i next code → passes_frame i.op ≡ true →
+      AllPoint total code ds → Rises ds → length ds ≡ frame_point_count code → ((d : Descr) → IsIn d ds → IsIn d whole) → Own whole ds code next
   unfolding AllPoint Rises
   own whole [] ds stands point all rises count within = elim stands [ ]
   own whole (i ∷ next) [] here point all rises count within =
-      let e : 0 ≡ suc (frame_points next) = count ∙ ap (λ b. cond b (suc (frame_points next)) (frame_points next)) point in absurd (omega (arith, e))
+      let e : 0 ≡ suc (frame_point_count next) = count ∙ ap (λ b. cond b (suc (frame_point_count next)) (frame_point_count next)) point in absurd (omega (arith, e))
   own whole (i ∷ next) (d ∷ ds) here point all rises count within = record {
     of = d;
     is = ap (λ b. cond b (descriptor (passes_frame i.op) (d ∷ ds)) (descriptor_of (left_in (d ∷ ds) i) next (length next))) (eq-eqb (length next) (length next) refl)
         ∙ ap (λ b. descriptor b (d ∷ ds)) point;
     among = within d is_first;
-    after = own_first i next d ds all rises (count ∙ ap (λ b. cond b (suc (frame_points next)) (frame_points next)) point);
+    after = own_first i next d ds all rises (count ∙ ap (λ b. cond b (suc (frame_point_count next)) (frame_point_count next)) point);
   }
   own {i} {next} whole (j ∷ js) ds (below stands) point all rises count within =
       by (passes_frame j.op) refl ds all rises count within (λ es a r c w. own whole js es stands point a r c w)
@@ -126,8 +126,8 @@ module _ (total : ℕ) where
       }
 
       by : (b : Bool) → passes_frame j.op ≡ b → (ds : List Descr) → AllPoint total (j ∷ js) ds → Rises ds →
-          length ds ≡ cond b (suc (frame_points js)) (frame_points js) → ((d : Descr) → IsIn d ds → IsIn d whole) →
-          ((es : List Descr) → AllPoint total js es → Rises es → length es ≡ frame_points js → ((d : Descr) → IsIn d es → IsIn d whole) →
+          length ds ≡ cond b (suc (frame_point_count js)) (frame_point_count js) → ((d : Descr) → IsIn d ds → IsIn d whole) →
+          ((es : List Descr) → AllPoint total js es → Rises es → length es ≡ frame_point_count js → ((d : Descr) → IsIn d es → IsIn d whole) →
           Own whole es js next) →
           Own whole ds (j ∷ js) next
       by true e [] all rises count within go = absurd (omega (arith, count))
@@ -163,7 +163,7 @@ same_after (x ∷ xs) d e rises is_first (is_later q) same = let h = above_in d.
 same_after (x ∷ xs) d e rises (is_later p) is_first same = let h = above_in e.after xs d rises.0 p in absurd (omega (arith, h, same))
 same_after (x ∷ xs) d e rises (is_later p) (is_later q) same = same_after xs d e rises.1 p q same
 
-module _ (m : Lin) (ds : List Descr) (exact : AreExact m ds) (count : length ds ≡ frame_points m.code) where
+module _ (m : Lin) (ds : List Descr) (exact : AreExact m ds) (count : length ds ≡ frame_point_count m.code) where
   points : (d : Descr) → Describes m d → Points (length m.code) m.code d
   points d h = record { line = h.line; next = h.next; stands = h.stands; point = h.point; after = h.is.after }
 
@@ -181,7 +181,7 @@ module _ (m : Lin) (ds : List Descr) (exact : AreExact m ds) (count : length ds 
     pub is : descriptor_of ds m.code (length next) ≡ Some of
     pub describes : IsDescr m i next tries of
 
-  pub described : (i : Line) (next : List Line) (tries : List ℕ) → Stands i next m.code → passes_frame i.op ≡ true → Traps m (i ∷ next) tries →
+  pub described : (i : Line) (next : List Line) (tries : List ℕ) → StandsAsLine i next m.code → passes_frame i.op ≡ true → Traps m (i ∷ next) tries →
       Described i next tries
   described i next tries stands point traps =
       let rises = rises_of ds exact.order in

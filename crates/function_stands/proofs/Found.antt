@@ -5,8 +5,8 @@ use Rattle.std.proofs.lemmas.Bool.{ne_eqb, eq-eqb}
 use Rattle.image_form.specs.Image.{EachNext}
 use Rattle.image_form.specs.Tables.{Desc, Tables}
 use Rattle.layout_rules.specs.declared.form.Form.{Form}
-use Rattle.layout_rules.specs.Forms.{total_words, words_of}
-use Rattle.layout_rules.specs.Laid.{AllReach, desc_at, descs_from, descs_in, entries_from}
+use Rattle.layout_rules.specs.Forms.{total_words, piece_words}
+use Rattle.layout_rules.specs.Laid.{AllReach, descriptor_laid_at, descs_from, descs_in, function_entries_from}
 use Rattle.linear_rules.proofs.Homes.{IsIn, is_first, is_later}
 use Rattle.rv_machine.specs.Frames.{descriptor_at}
 use Rattle.rv_machine.specs.Memory.{code_start}
@@ -43,19 +43,19 @@ module _ (image : Tables) (rises : Rising image.descs) where
   all_found at (p ∷ ps) [] among = tt
   all_found at (Descriptor d ∷ ps) (f ∷ fs) among =
       let e : at ≡ at + 0 = omega arith in (
-        found_at image.descs (desc_at at d) rises (among (desc_at at d) is_first),
+        found_at image.descs (descriptor_laid_at at d) rises (among (descriptor_laid_at at d) is_first),
         subst (λ k. AreFound image k ps fs) e (all_found at ps fs (λ x z. among x (is_later z))),
       )
-  all_found at (Known i ∷ ps) (f ∷ fs) among = (tt, all_found (at + words_of (Known i) f) ps fs among)
-  all_found at (Label l ∷ ps) (f ∷ fs) among = (tt, all_found (at + words_of (Label l) f) ps fs among)
-  all_found at (Branch c a b l ∷ ps) (f ∷ fs) among = (tt, all_found (at + words_of (Branch c a b l) f) ps fs among)
-  all_found at (Jump l ∷ ps) (f ∷ fs) among = (tt, all_found (at + words_of (Jump l) f) ps fs among)
-  all_found at (Row l ∷ ps) (f ∷ fs) among = (tt, all_found (at + words_of (Row l) f) ps fs among)
-  all_found at (LabelAddress r l ∷ ps) (f ∷ fs) among = (tt, all_found (at + words_of (LabelAddress r l) f) ps fs among)
-  all_found at (Call name ∷ ps) (f ∷ fs) among = (tt, all_found (at + words_of (Call name) f) ps fs among)
-  all_found at (TailCall name ∷ ps) (f ∷ fs) among = (tt, all_found (at + words_of (TailCall name) f) ps fs among)
-  all_found at (SymbolAddress r name ∷ ps) (f ∷ fs) among = (tt, all_found (at + words_of (SymbolAddress r name) f) ps fs among)
-  all_found at (ExternalNumber r row ∷ ps) (f ∷ fs) among = (tt, all_found (at + words_of (ExternalNumber r row) f) ps fs among)
+  all_found at (Known i ∷ ps) (f ∷ fs) among = (tt, all_found (at + piece_words (Known i) f) ps fs among)
+  all_found at (Label l ∷ ps) (f ∷ fs) among = (tt, all_found (at + piece_words (Label l) f) ps fs among)
+  all_found at (Branch c a b l ∷ ps) (f ∷ fs) among = (tt, all_found (at + piece_words (Branch c a b l) f) ps fs among)
+  all_found at (Jump l ∷ ps) (f ∷ fs) among = (tt, all_found (at + piece_words (Jump l) f) ps fs among)
+  all_found at (Row l ∷ ps) (f ∷ fs) among = (tt, all_found (at + piece_words (Row l) f) ps fs among)
+  all_found at (LabelAddress r l ∷ ps) (f ∷ fs) among = (tt, all_found (at + piece_words (LabelAddress r l) f) ps fs among)
+  all_found at (Call name ∷ ps) (f ∷ fs) among = (tt, all_found (at + piece_words (Call name) f) ps fs among)
+  all_found at (TailCall name ∷ ps) (f ∷ fs) among = (tt, all_found (at + piece_words (TailCall name) f) ps fs among)
+  all_found at (SymbolAddress r name ∷ ps) (f ∷ fs) among = (tt, all_found (at + piece_words (SymbolAddress r name) f) ps fs among)
+  all_found at (ExternalNumber r row ∷ ps) (f ∷ fs) among = (tt, all_found (at + piece_words (ExternalNumber r row) f) ps fs among)
 
 -- ---- those of a function among those of all
 
@@ -64,7 +64,7 @@ pub record Shares (at : ℕ) (ps : List Pieces) (forms : List (List Form)) (k : 
   pub of : List Form
   pub chosen : slice_get forms k ≡ Some of
   pub place : ℕ
-  pub entry : slice_get (entries_from at ps forms) k ≡ Some place
+  pub entry : slice_get (function_entries_from at ps forms) k ≡ Some place
   pub among : (d : Desc) → IsIn d (descs_in place p.code of) → IsIn d (descs_from at ps forms)
 
 in_front : {d : Desc} (xs ys : List Desc) → IsIn d xs → IsIn d (xs ++ ys)

@@ -1,14 +1,14 @@
 -- An exit that has no words, and the labels up to that to which it goes, lie where the branch does.
 use Rattle.std.proofs.Common.{◌≡◌, ℕ, suc, true, List, [], ◌∷◌, ◌++◌, length, Option, refl, sym, ap, ◌∙◌, subst}
 use Rattle.emit_rules.specs.Emitted.{part_before}
-use Rattle.emit_rules.specs.Entry.{Frame}
-use Rattle.emit_rules.specs.Units.{is_free}
+use Rattle.emit_rules.specs.Entry.{FrameLayout}
+use Rattle.emit_rules.specs.Units.{is_free_exit}
 use Rattle.emit_rules.proofs.Units.{FallsTo, falls_here, falls_past, branch_code, falls_after, label_line, own_label_line, part_if_free}
 use Rattle.layout_rules.specs.declared.form.Form.{Form}
 use Rattle.layout_rules.specs.Forms.{total_words}
 use Rattle.lin_ir.specs.Formed.{WellFormed, label_of, labels_in}
 use Rattle.lin_ir.specs.Meaning.{after_label}
-use Rattle.lin_ir.specs.Walks.{Stands}
+use Rattle.lin_ir.specs.Walks.{StandsAsLine}
 use Rattle.lin_ir.specs.declared.descr.Descr.{Descr}
 use Rattle.lin_ir.specs.declared.lin.Flow.TheVariants as flow
 use Rattle.lin_ir.specs.declared.lin.Lin.{Lin}
@@ -29,14 +29,14 @@ named_in {l} (falls_past {i = i} {next = next} other mark falls) =
     let line = label_line i.op mark in subst (λ g. IsIn l (label_of g ++ labels_in next)) (sym line.is) (is_later (named_in falls))
 
 -- labels occur once
-pub falls_in : {i : Line} {next : List Line} {l : ℕ} (m : Lin) → WellFormed m → Stands i next m.code → (falls : FallsTo l next) →
+pub falls_in : {i : Line} {next : List Line} {l : ℕ} (m : Lin) → WellFormed m → StandsAsLine i next m.code → (falls : FallsTo l next) →
     after_label l m.code ≡ branch_code falls
 falls_in {l = l} m well stands falls = later_after l (tail_next (stands_tail stands)) well.labels (named_in falls) ∙ falls_after falls
 
 -- ---- no words
 
-module _ (traps : ℕ → ℕ) (f : Frame) where
-  free_none : (i : Line) (next : List Line) → is_free i.op next ≡ true → (d : Option Descr) (gs : List Form) →
+module _ (traps : ℕ → ℕ) (f : FrameLayout) where
+  free_none : (i : Line) (next : List Line) → is_free_exit i.op next ≡ true → (d : Option Descr) (gs : List Form) →
       total_words (part_before (traps (length next)) f d i next) gs ≡ 0
   free_none i next e d gs = ap (λ ps. total_words ps gs) (part_if_free (traps (length next)) f d i next e)
 
@@ -60,8 +60,8 @@ module _ (traps : ℕ → ℕ) (f : Frame) where
       labels_place l ds code fs at (tail_next t) falls ∙ place_stays traps f ds code fs at (tail_stands t) (label_none line.number i next line.is)
 
   -- The exit begins where the branch does.
-  pub free_place : {i : Line} {next : List Line} (ds : List Descr) (code : List Line) (fs : List Form) (at l : ℕ) → Stands i next code →
-      is_free i.op next ≡ true → (falls : FallsTo l next) →
+  pub free_place : {i : Line} {next : List Line} (ds : List Descr) (code : List Line) (fs : List Form) (at l : ℕ) → StandsAsLine i next code →
+      is_free_exit i.op next ≡ true → (falls : FallsTo l next) →
       Place traps f ds code fs at (length (branch_code falls)) ≡ Place traps f ds code fs at (suc (length next))
   free_place {i} {next} ds code fs at l stands e falls =
       labels_place l ds code fs at (tail_next (stands_tail stands)) falls ∙ place_stays traps f ds code fs at stands (free_none i next e)

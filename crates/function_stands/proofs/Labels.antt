@@ -3,14 +3,14 @@ use Rattle.std.proofs.Common.{◌≡◌, ℕ, ◌+◌, Bool, true, false, cond, 
 use Rattle.std.specs.List.{Contains}
 use Rattle.std.proofs.lemmas.Bool.{true≢false}
 use Rattle.std.proofs.lemmas.List.Elements.{Contains-append_cases}
-use Rattle.emit_rules.specs.Emitted.{descriptor, parts}
-use Rattle.emit_rules.specs.Entry.{Frame, entry}
-use Rattle.emit_rules.specs.Traversal.{Allows, Each, each_more}
+use Rattle.emit_rules.specs.Emitted.{descriptor, parts_of_lines}
+use Rattle.emit_rules.specs.Entry.{FrameLayout, entry_pieces}
+use Rattle.emit_rules.specs.Traversal.{Allows, EachPiece, each_more}
 use Rattle.emit_rules.proofs.Traverse.{entry-in, before-in}
 use Rattle.layout_rules.specs.declared.form.Form.{Form}
-use Rattle.layout_rules.specs.Forms.{is_label, label_from, total_words, words_of}
+use Rattle.layout_rules.specs.Forms.{is_label_piece, label_from, total_words, piece_words}
 use Rattle.layout_rules.specs.Stands.{HasPieces}
-use Rattle.layout_rules.specs.Words.{Named}
+use Rattle.layout_rules.specs.Words.{NameAddresses}
 use Rattle.lin_ir.specs.Formed.{label_of, labels_in}
 use Rattle.lin_ir.specs.Meaning.{after_label, has_label, passes_frame}
 use Rattle.lin_ir.specs.declared.descr.Descr.{Descr}
@@ -28,7 +28,7 @@ use Rattle.function_stands.proofs.Splitting.{has_second}
 
 -- the label is not at this piece
 abbrev pub NoLabel : ℕ → Piece → Type 0
-NoLabel l p = is_label l p ≡ false
+NoLabel l p = is_label_piece l p ≡ false
 
 allows_none : (l : ℕ) (f : LinOp) (d : _) → has_label l f ≡ false → Allows (NoLabel l) f d
 allows_none l f d none = record {
@@ -46,30 +46,30 @@ allows_none l f d none = record {
 }
 
 -- what has no such label is passed
-pub label_past : (l at : ℕ) (xs ys : List Piece) (fs : List Form) → Each (NoLabel l) xs →
+pub label_past : (l at : ℕ) (xs ys : List Piece) (fs : List Form) → EachPiece (NoLabel l) xs →
     label_from l at (xs ++ ys) fs ≡ label_from l (at + total_words xs fs) ys (drop (length xs) fs)
 label_past l at [] ys fs none = let e : at ≡ at + 0 = omega arith in ap (λ k. label_from l k ys fs) e
 label_past l at (x ∷ xs) [] [] none = refl
 label_past l at (x ∷ xs) (y ∷ ys) [] none = refl
 label_past l at (x ∷ xs) ys (f ∷ fs) (each_more none rest) =
-    let e : at + words_of x f + total_words xs fs ≡ at + (words_of x f + total_words xs fs) = omega arith in
-    ap (λ b. cond b (Some at) (label_from l (at + words_of x f) (xs ++ ys) fs)) none ∙ label_past l (at + words_of x f) xs ys fs rest
+    let e : at + piece_words x f + total_words xs fs ≡ at + (piece_words x f + total_words xs fs) = omega arith in
+    ap (λ b. cond b (Some at) (label_from l (at + piece_words x f) (xs ++ ys) fs)) none ∙ label_past l (at + piece_words x f) xs ys fs rest
     ∙ ap (λ k. label_from l k ys (drop (length xs) fs)) e
 
 -- the entry has no label
-pub entry_past : (l : ℕ) (f : Frame) → Each (NoLabel l) (entry f)
+pub entry_past : (l : ℕ) (f : FrameLayout) → EachPiece (NoLabel l) (entry_pieces f)
 entry_past l f = entry-in (NoLabel l) (λ j h. refl) f
 
-module _ (words : List ℕ) (n : Named) (traps : ℕ → ℕ) (f : Frame) where
+module _ (words : List ℕ) (n : NameAddresses) (traps : ℕ → ℕ) (f : FrameLayout) where
   -- a part with the label is its mark alone
   label_here : (l at at' : ℕ) (ds : List Descr) (g : LinOp) (args results : List Spot) (next : List Line) (fs : List Form) → has_label l g ≡ true →
-      HasPieces words n at' (parts traps f ds (record { op = g; args = args; results = results } ∷ next)) fs →
-      label_from l at (parts traps f ds (record { op = g; args = args; results = results } ∷ next)) fs
+      HasPieces words n at' (parts_of_lines traps f ds (record { op = g; args = args; results = results } ∷ next)) fs →
+      label_from l at (parts_of_lines traps f ds (record { op = g; args = args; results = results } ∷ next)) fs
       ≡ Some (at + total_words (part_in traps f ds (record { op = g; args = args; results = results }) next) fs)
   label_here l at at' ds (lin.Flow (flow.Label k)) args results next [] e has = absurd has
   label_here l at at' ds (lin.Flow (flow.Label k)) args results next (g ∷ fs) e has =
       let h : at ≡ at + (0 + 0) = omega arith in
-      ap (λ b. cond b (Some at) (label_from l (at + 0) (parts traps f ds next) fs)) e ∙ ap Some h
+      ap (λ b. cond b (Some at) (label_from l (at + 0) (parts_of_lines traps f ds next) fs)) e ∙ ap Some h
   label_here l at at' ds (lin.Flow (flow.Jump k)) args results next fs e has = absurd (true≢false (sym e))
   label_here l at at' ds (lin.Flow (flow.Exit k)) args results next fs e has = absurd (true≢false (sym e))
   label_here l at at' ds (lin.Flow (flow.Branch t k)) args results next fs e has = absurd (true≢false (sym e))
@@ -81,8 +81,8 @@ module _ (words : List ℕ) (n : Named) (traps : ℕ → ℕ) (f : Frame) where
 
   -- The place of a label is that of the part after its mark.
   pub label_place_is : (l at at' : ℕ) (ds : List Descr) (code : List Line) (fs : List Form) → Contains (labels_in code) l →
-      HasPieces words n at' (parts traps f ds code) fs →
-      label_from l at (parts traps f ds code) fs ≡ Some (Place traps f ds code fs at (length (after_label l code)))
+      HasPieces words n at' (parts_of_lines traps f ds code) fs →
+      label_from l at (parts_of_lines traps f ds code) fs ≡ Some (Place traps f ds code fs at (length (after_label l code)))
   label_place_is l at at' ds [] fs c has = elim (in_of l [] c) [ ]
   label_place_is l at at' ds (i ∷ next) fs c has = by (has_label l i.op) refl
       (λ z. label_place_is l (at + total_words part fs) (at' + total_words part fs) (left_in ds i) next left z (has_second words n at' part rest fs has))
@@ -91,7 +91,7 @@ module _ (words : List ℕ) (n : Named) (traps : ℕ → ℕ) (f : Frame) where
       part = part_in traps f ds i next
 
       rest : List Piece
-      rest = parts traps f (left_in ds i) next
+      rest = parts_of_lines traps f (left_in ds i) next
 
       left : List Form
       left = drop (length part) fs

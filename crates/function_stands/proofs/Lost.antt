@@ -6,7 +6,7 @@ use Rattle.bs_words.specs.declared.types.Comp.{Comp}
 use Rattle.bs_words.specs.declared.types.Loc.{Loc}
 use Rattle.bs_words.specs.declared.types.Loc.TheVariants as loc
 use Rattle.bs_words.specs.declared.types.Ret.{Ret}
-use Rattle.lin_ir.specs.Formed.{IsFormed, formed_op, formed_flow, enter_form, FlowHasForm, label_form, jump_form, exit_form, branch_form, switch_form, push_form, pop_form, WellFormed, comps}
+use Rattle.lin_ir.specs.Formed.{IsFormedLine, formed_op, formed_flow, enter_form, FlowHasForm, label_form, jump_form, exit_form, branch_form, switch_form, push_form, pop_form, WellFormed, comps}
 use Rattle.lin_ir.specs.Meaning.{destroyed_by}
 use Rattle.lin_ir.specs.Walks.{Raises, raises, Live, read, on, aside, LiveAcross, across_step, across_raise, Reached, Traps, by_walk, unreached, may_raise}
 use Rattle.lin_ir.specs.declared.lin.Flow.{Flow}
@@ -36,7 +36,7 @@ enters_comps f args results push_form e = refl
 enters_comps f args results pop_form e = refl
 enters_comps f args results enter_form e = refl
 
-enters_alone : (i : Line) → IsFormed i → i.op ≡ lin.Flow flow.EnterTrap → i.args ≡ []
+enters_alone : (i : Line) → IsFormedLine i → i.op ≡ lin.Flow flow.EnterTrap → i.args ≡ []
 enters_alone i (formed_op h) e = cc
 enters_alone i (formed_flow {f} {args} {results} h) e = no_spots args (enters_comps f (comps args) (comps results) h (same_flow f flow.EnterTrap e))
 
@@ -46,7 +46,7 @@ module _ (m : Lin) (formed : WellFormed m) where
       i.op ≡ lin.Flow flow.EnterTrap → Live m l t (i ∷ next) tries → ⊥
   dead_at l t i next tries lost among e (read r) =
       elim (in_of (record { loc = l; comp = t }) [] (subst (λ args. Contains args (record { loc = l; comp = t }))
-      (enters_alone i (all_in IsFormed formed.forms among) e) r)) [ ]
+      (enters_alone i (all_in IsFormedLine formed.forms among) e) r)) [ ]
   dead_at l t i next tries lost among e (on off leads live) = off (inr (ap (λ f. is_destroyed (destroyed_by f) l) e ∙ lost))
   dead_at l t i next tries lost among e (aside (raises h) live) = absurd (true≢false (sym h ∙ ap may_raise e))
 

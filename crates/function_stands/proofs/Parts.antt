@@ -1,15 +1,15 @@
 -- Where the parts of a function's lines lie, one after the other.
 use Rattle.std.proofs.Common.{◌≡◌, ℕ, suc, ◌+◌, ◌≤◌, Bool, true, false, cond, nat_lt, nat_eq, List, [], ◌∷◌, ◌++◌, length, take, drop, Option, Some, None, refl, sym, ap, ◌∙◌, subst, arith}
 use Rattle.std.proofs.lemmas.Bool.{le-ltb, lt-ltb, ltb-false, eq-eqb}
-use Rattle.emit_rules.specs.Emitted.{descriptor, left_after, part_before, parts}
-use Rattle.emit_rules.specs.Entry.{Frame}
+use Rattle.emit_rules.specs.Emitted.{descriptor, left_after, part_before, parts_of_lines}
+use Rattle.emit_rules.specs.Entry.{FrameLayout}
 use Rattle.layout_rules.specs.declared.form.Form.{Form}
-use Rattle.layout_rules.specs.Forms.{ReachFrom, total_words, words_of}
-use Rattle.layout_rules.specs.Laid.{address_of_place, desc_at}
+use Rattle.layout_rules.specs.Forms.{ReachFrom, total_words, piece_words}
+use Rattle.layout_rules.specs.Laid.{address_of_place, descriptor_laid_at}
 use Rattle.layout_rules.specs.Stands.{HasPieces}
-use Rattle.layout_rules.specs.Words.{Named}
+use Rattle.layout_rules.specs.Words.{NameAddresses}
 use Rattle.lin_ir.specs.Meaning.{passes_frame}
-use Rattle.lin_ir.specs.Walks.{Stands, here, below}
+use Rattle.lin_ir.specs.Walks.{StandsAsLine, here, below}
 use Rattle.lin_ir.specs.declared.descr.Descr.{Descr}
 use Rattle.lin_ir.specs.declared.lin.Line.{Line}
 use Rattle.rv_machine.specs.Frames.{descriptor_at}
@@ -24,7 +24,7 @@ use Rattle.function_stands.proofs.Splitting.{has_first, has_second, reach_first,
 -- ---- places
 
 -- the part of the first of these lines
-abbrev pub part_in : (traps : ℕ → ℕ) → Frame → List Descr → Line → (next : List Line) → List Piece
+abbrev pub part_in : (traps : ℕ → ℕ) → FrameLayout → List Descr → Line → (next : List Line) → List Piece
 part_in traps f ds i next = part_before (traps (length next)) f (descriptor (passes_frame i.op) ds) i next
 
 abbrev pub left_in : List Descr → Line → List Descr
@@ -32,7 +32,7 @@ left_in ds i = left_after (passes_frame i.op) ds
 
 -- the place of the part of the line with so many lines from it on, where the parts of these lines
 -- are from `at` on
-abbrev pub place_of_part : (traps : ℕ → ℕ) → Frame → List Descr → List Line → List Form → (at k : ℕ) → ℕ
+abbrev pub place_of_part : (traps : ℕ → ℕ) → FrameLayout → List Descr → List Line → List Form → (at k : ℕ) → ℕ
 place_of_part traps f ds [] fs at k = at
 place_of_part traps f ds (i ∷ next) fs at k =
     cond (nat_lt (length next) k) at
@@ -45,7 +45,7 @@ descriptor_of ds (i ∷ next) k = cond (nat_eq (length next) k) (descriptor (pas
 
 -- ---- numbers
 
-pub shorter : {i : Line} {next code : List Line} → Stands i next code → suc (length next) ≤ length code
+pub shorter : {i : Line} {next code : List Line} → StandsAsLine i next code → suc (length next) ≤ length code
 shorter here = omega arith
 shorter (below s) = let h = shorter s in omega (arith, h)
 
@@ -53,19 +53,19 @@ shorter (below s) = let h = shorter s in omega (arith, h)
 
 -- each descriptor among the pieces is found in the image
 abbrev pub IsFound : Tables → (at : ℕ) → Piece → Type 0
-IsFound image at (Descriptor d) = descriptor_at image.descs (address_of_place at) ≡ Some (desc_at at d)
+IsFound image at (Descriptor d) = descriptor_at image.descs (address_of_place at) ≡ Some (descriptor_laid_at at d)
 IsFound image at _ = Unit {0}
 
 abbrev pub AreFound : Tables → (at : ℕ) → List Piece → List Form → Type 0
 AreFound image at [] fs = Unit {0}
 AreFound image at (p ∷ ps) [] = Unit {0}
-AreFound image at (p ∷ ps) (f ∷ fs) = IsFound image at p × AreFound image (at + words_of p f) ps fs
+AreFound image at (p ∷ ps) (f ∷ fs) = IsFound image at p × AreFound image (at + piece_words p f) ps fs
 
 module _ (image : Tables) where
   pub found_first : (at : ℕ) (xs ys : List Piece) (fs : List Form) → AreFound image at (xs ++ ys) fs → AreFound image at xs (take (length xs) fs)
   found_first at [] ys fs found = tt
   found_first at (x ∷ xs) ys [] found = tt
-  found_first at (x ∷ xs) ys (f ∷ fs) found = (found.0, found_first (at + words_of x f) xs ys fs found.1)
+  found_first at (x ∷ xs) ys (f ∷ fs) found = (found.0, found_first (at + piece_words x f) xs ys fs found.1)
 
   found_none : (at : ℕ) (ps : List Piece) → AreFound image at ps []
   found_none at [] = tt
@@ -76,17 +76,17 @@ module _ (image : Tables) where
   found_second at [] ys fs found = let e : at ≡ at + 0 = omega arith in subst (λ k. AreFound image k ys fs) e found
   found_second at (x ∷ xs) ys [] found = found_none (at + 0) ys
   found_second at (x ∷ xs) ys (f ∷ fs) found =
-      let e : at + words_of x f + total_words xs fs ≡ at + (words_of x f + total_words xs fs) = omega arith in
-      subst (λ k. AreFound image k ys (drop (length xs) fs)) e (found_second (at + words_of x f) xs ys fs found.1)
+      let e : at + piece_words x f + total_words xs fs ≡ at + (piece_words x f + total_words xs fs) = omega arith in
+      subst (λ k. AreFound image k ys (drop (length xs) fs)) e (found_second (at + piece_words x f) xs ys fs found.1)
 
 -- ---- parts
 
 -- the pieces are there, and their descriptors are found
-pub record PartFound (s : Fixed) (n : Named) (at to : ℕ) (ps : List Piece) : Type 0 where
+pub record PartFound (s : Fixed) (n : NameAddresses) (at to : ℕ) (ps : List Piece) : Type 0 where
   pub part : PartStands s n at to ps
   pub found : AreFound s.image at ps part.forms
 
-module _ (traps : ℕ → ℕ) (f : Frame) where
+module _ (traps : ℕ → ℕ) (f : FrameLayout) where
   abbrev pub Place : List Descr → List Line → List Form → (at k : ℕ) → ℕ
   Place ds code fs at k = place_of_part traps f ds code fs at k
 
@@ -110,11 +110,11 @@ module _ (traps : ℕ → ℕ) (f : Frame) where
   cond_within false low high x y h k = k
 
   pub place_within : (ds : List Descr) (code : List Line) (fs : List Form) (at k : ℕ) →
-      (at ≤ Place ds code fs at k) × (Place ds code fs at k ≤ at + total_words (parts traps f ds code) fs)
+      (at ≤ Place ds code fs at k) × (Place ds code fs at k ≤ at + total_words (parts_of_lines traps f ds code) fs)
   place_within ds [] fs at k = (omega arith, omega arith)
   place_within ds (i ∷ next) fs at k =
       let part = part_in traps f ds i next in
-      let rest = parts traps f (left_in ds i) next in
+      let rest = parts_of_lines traps f (left_in ds i) next in
       let both = words_both part rest fs in
       let later = place_within (left_in ds i) next (drop (length part) fs) (at + total_words part fs) k in
       let low = later.0 in
@@ -124,7 +124,7 @@ module _ (traps : ℕ → ℕ) (f : Frame) where
       (omega arith, omega arith) (omega (arith, low), omega (arith, high, both))
 
   -- after a part without words is no other place
-  pub place_stays : {i : Line} {next : List Line} (ds : List Descr) (code : List Line) (fs : List Form) (at : ℕ) → Stands i next code →
+  pub place_stays : {i : Line} {next : List Line} (ds : List Descr) (code : List Line) (fs : List Form) (at : ℕ) → StandsAsLine i next code →
       ((d : Option Descr) (gs : List Form) → total_words (part_before (traps (length next)) f d i next) gs ≡ 0) →
       Place ds code fs at (length next) ≡ Place ds code fs at (suc (length next))
   place_stays ds [] fs at stands none = elim stands [ ]
@@ -182,17 +182,17 @@ module _ (traps : ℕ → ℕ) (f : Frame) where
           let same : b + at + words ≡ b + (at + words) = omega arith in
           ap (λ x. Place (left_in ds i) next left x k) same ∙ e
 
-module _ (s : Fixed) (n : Named) (traps : ℕ → ℕ) (f : Frame) where
+module _ (s : Fixed) (n : NameAddresses) (traps : ℕ → ℕ) (f : FrameLayout) where
   -- the part of each line is from its place up to that of the next line's
-  pub line_part : {i : Line} {next : List Line} (ds : List Descr) (code : List Line) (fs : List Form) (at : ℕ) → Stands i next code →
-      HasPieces s.image.code n at (parts traps f ds code) fs → ReachFrom (label_place n) at (parts traps f ds code) fs →
-      AreFound s.image at (parts traps f ds code) fs →
+  pub line_part : {i : Line} {next : List Line} (ds : List Descr) (code : List Line) (fs : List Form) (at : ℕ) → StandsAsLine i next code →
+      HasPieces s.image.code n at (parts_of_lines traps f ds code) fs → ReachFrom (label_place n) at (parts_of_lines traps f ds code) fs →
+      AreFound s.image at (parts_of_lines traps f ds code) fs →
       PartFound s n (Place traps f ds code fs at (suc (length next))) (Place traps f ds code fs at (length next))
       (part_before (traps (length next)) f (descriptor_of ds code (length next)) i next)
   line_part ds [] fs at stands has reach found = elim stands [ ]
   line_part ds (i ∷ next) fs at here has reach found =
       let part = part_in traps f ds i next in
-      let rest = parts traps f (left_in ds i) next in
+      let rest = parts_of_lines traps f (left_in ds i) next in
       let it : PartFound s n at (at + total_words part fs) part = record {
         part = record {
           forms = take (length part) fs;
@@ -212,7 +212,7 @@ module _ (s : Fixed) (n : Named) (traps : ℕ → ℕ) (f : Frame) where
       (part_before (traps (length next)) f d i next)) (sym own) ended
   line_part {i} {next} ds (j ∷ is) fs at (below stands) has reach found =
       let part = part_in traps f ds j is in
-      let rest = parts traps f (left_in ds j) is in
+      let rest = parts_of_lines traps f (left_in ds j) is in
       let left = drop (length part) fs in
       let h = shorter stands in
       let it = line_part (left_in ds j) is left (at + total_words part fs) stands (has_second s.image.code n at part rest fs has)

@@ -2,21 +2,21 @@
 use Rattle.std.proofs.Common.{◌≡◌, ℕ, ◌+◌, ◌<◌, Bool, false, cond, List, [], ◌∷◌, ◌++◌, length, Option, None, refl, sym, ap, ◌∙◌, subst, arith}
 use Rattle.std.specs.List.{AllByRecursion}
 use Rattle.std.proofs.lemmas.Bool.{eq-eqb}
-use Rattle.emit_rules.specs.Emitted.{descriptor, part_before, part_of, parts}
-use Rattle.emit_rules.specs.Entry.{Frame}
-use Rattle.emit_rules.specs.Traversal.{Allows, Each, each_more}
-use Rattle.emit_rules.specs.Units.{is_free}
+use Rattle.emit_rules.specs.Emitted.{descriptor, part_before, part_of_line, parts_of_lines}
+use Rattle.emit_rules.specs.Entry.{FrameLayout}
+use Rattle.emit_rules.specs.Traversal.{Allows, EachPiece, each_more}
+use Rattle.emit_rules.specs.Units.{is_free_exit}
 use Rattle.emit_rules.proofs.Traverse.{part-in}
 use Rattle.emit_rules.proofs.Units.{part_unless_free}
 use Rattle.layout_rules.specs.declared.form.Form.{Form}
-use Rattle.layout_rules.specs.Forms.{total_words, words_of}
+use Rattle.layout_rules.specs.Forms.{total_words, piece_words}
 use Rattle.lin_ir.specs.Meaning.{passes_frame}
-use Rattle.lin_ir.specs.Walks.{Stands, here, below}
+use Rattle.lin_ir.specs.Walks.{StandsAsLine, here, below}
 use Rattle.lin_ir.specs.declared.descr.Descr.{Descr}
 use Rattle.lin_ir.specs.declared.lin.Line.{Line}
 use Rattle.lin_ir.specs.declared.lin.LinOp.{LinOp}
 use Rattle.lin_ir.specs.declared.lin.LinOp.TheVariants as lin
-use Rattle.line_calls.specs.Points.{AreMarked, IsMarked}
+use Rattle.line_calls.specs.Points.{AreMarked, IsDescriptorFound}
 use Rattle.linear_machine.specs.View.{Fixed}
 use Rattle.linear_rules.proofs.Homes.{IsIn, is_first, is_later}
 use Rattle.mach_ir.specs.declared.op.Calling.TheVariants as calling
@@ -31,7 +31,7 @@ use Rattle.function_stands.proofs.Parts.{AreFound, IsFound, descriptor_of, left_
 -- ---- marks
 
 module _ (s : Fixed) where
-  mark_one : (at : ℕ) (p : Piece) → IsFound s.image at p → at < length s.image.code → IsMarked s at p
+  mark_one : (at : ℕ) (p : Piece) → IsFound s.image at p → at < length s.image.code → IsDescriptorFound s at p
   mark_one at (Descriptor d) found h = (found, h)
   mark_one at (Known i) found h = tt
   mark_one at (Label l) found h = tt
@@ -49,16 +49,16 @@ module _ (s : Fixed) where
   found_marked at [] fs found h = tt
   found_marked at (p ∷ ps) [] found h = tt
   found_marked at (p ∷ ps) (f ∷ fs) found h =
-      (mark_one at p found.0 (omega (arith, h)), found_marked (at + words_of p f) ps fs found.1 (omega (arith, h)))
+      (mark_one at p found.0 (omega (arith, h)), found_marked (at + piece_words p f) ps fs found.1 (omega (arith, h)))
 
   -- and where there is none
   abbrev Unmarked : Piece → Type 0
-  Unmarked p = (at : ℕ) → IsMarked s at p
+  Unmarked p = (at : ℕ) → IsDescriptorFound s at p
 
-  pub each_marked : (at : ℕ) (ps : List Piece) (fs : List Form) → Each Unmarked ps → AreMarked s at ps fs
+  pub each_marked : (at : ℕ) (ps : List Piece) (fs : List Form) → EachPiece Unmarked ps → AreMarked s at ps fs
   each_marked at [] fs each = tt
   each_marked at (p ∷ ps) [] each = tt
-  each_marked at (p ∷ ps) (f ∷ fs) (each_more h each) = (h at, each_marked (at + words_of p f) ps fs each)
+  each_marked at (p ∷ ps) (f ∷ fs) (each_more h each) = (h at, each_marked (at + piece_words p f) ps fs each)
 
   allows_unmarked : (f : LinOp) → Allows Unmarked f None
   allows_unmarked f = record {
@@ -75,11 +75,11 @@ module _ (s : Fixed) where
     mark = λ e is at. cc;
   }
 
-  pub none_marked : (t : ℕ) (f : Frame) (i : Line) (at : ℕ) (fs : List Form) → AreMarked s at (part_of t f None i) fs
-  none_marked t f i at fs = each_marked at (part_of t f None i) fs (part-in Unmarked None t f i (allows_unmarked i.op))
+  pub none_marked : (t : ℕ) (f : FrameLayout) (i : Line) (at : ℕ) (fs : List Form) → AreMarked s at (part_of_line t f None i) fs
+  none_marked t f i at fs = each_marked at (part_of_line t f None i) fs (part-in Unmarked None t f i (allows_unmarked i.op))
 
 -- a line that is no frame point has no descriptor
-pub no_descriptor : {i : Line} {next : List Line} (ds : List Descr) (code : List Line) → Stands i next code → passes_frame i.op ≡ false →
+pub no_descriptor : {i : Line} {next : List Line} (ds : List Descr) (code : List Line) → StandsAsLine i next code → passes_frame i.op ≡ false →
     descriptor_of ds code (length next) ≡ None
 no_descriptor ds [] stands none = elim stands [ ]
 no_descriptor ds (i ∷ next) here none =
@@ -100,35 +100,35 @@ all_left P [] ys all = tt
 all_left P (x ∷ xs) ys all = (all.0, all_left P xs ys all.1)
 
 -- what holds of all pieces holds of those of each part
-record InPart (P : Piece → Type 0) (f : Frame) (i : Line) : Type 0 where
+record InPart (P : Piece → Type 0) (f : FrameLayout) (i : Line) : Type 0 where
   traps : ℕ
   descr : Option Descr
   next : List Line
   all : AllByRecursion P (part_before traps f descr i next)
 
-in_part : (P : Piece → Type 0) (traps : ℕ → ℕ) (f : Frame) (ds : List Descr) (code : List Line) (i : Line) → AllByRecursion P (parts traps f ds code) →
+in_part : (P : Piece → Type 0) (traps : ℕ → ℕ) (f : FrameLayout) (ds : List Descr) (code : List Line) (i : Line) → AllByRecursion P (parts_of_lines traps f ds code) →
     IsIn i code → InPart P f i
 in_part P traps f ds [] i all z = elim z [ ]
 in_part P traps f ds (j ∷ js) j' all is_first = record {
   traps = traps (length js);
   descr = descriptor (passes_frame j.op) ds;
   next = js;
-  all = all_left P (part_in traps f ds j js) (parts traps f (left_in ds j) js) all;
+  all = all_left P (part_in traps f ds j js) (parts_of_lines traps f (left_in ds j) js) all;
 }
 in_part P traps f ds (j ∷ js) i all (is_later z) =
-    in_part P traps f (left_in ds j) js i (all_right P (part_in traps f ds j js) (parts traps f (left_in ds j) js) all) z
+    in_part P traps f (left_in ds j) js i (all_right P (part_in traps f ds j js) (parts_of_lines traps f (left_in ds j) js) all) z
 
-external_first : (P : Piece → Type 0) (t : ℕ) (f : Frame) (d : Option Descr) (row : External) (frame : Bool) (g : LinOp) (args results : List _) →
-    g ≡ lin.Op (op.Calling (calling.External row frame)) → AllByRecursion P (part_of t f d (record { op = g; args = args; results = results })) →
+external_first : (P : Piece → Type 0) (t : ℕ) (f : FrameLayout) (d : Option Descr) (row : External) (frame : Bool) (g : LinOp) (args results : List _) →
+    g ≡ lin.Op (op.Calling (calling.External row frame)) → AllByRecursion P (part_of_line t f d (record { op = g; args = args; results = results })) →
     P (ExternalNumber T0 row)
 external_first P t f d row frame g args results e all =
-    (subst (λ g. AllByRecursion P (part_of t f d (record { op = g; args = args; results = results }))) e all).0
+    (subst (λ g. AllByRecursion P (part_of_line t f d (record { op = g; args = args; results = results }))) e all).0
 
 -- what holds of all pieces holds of that which names an external call
-pub external_in : (P : Piece → Type 0) (traps : ℕ → ℕ) (f : Frame) (pre : List Piece) (ds : List Descr) (code : List Line) (i : Line) (row : External)
-    (frame : Bool) → AllByRecursion P (pre ++ parts traps f ds code) → IsIn i code → i.op ≡ lin.Op (op.Calling (calling.External row frame)) →
+pub external_in : (P : Piece → Type 0) (traps : ℕ → ℕ) (f : FrameLayout) (pre : List Piece) (ds : List Descr) (code : List Line) (i : Line) (row : External)
+    (frame : Bool) → AllByRecursion P (pre ++ parts_of_lines traps f ds code) → IsIn i code → i.op ≡ lin.Op (op.Calling (calling.External row frame)) →
     P (ExternalNumber T0 row)
 external_in P traps f pre ds code i row frame all z e =
-    let it = in_part P traps f ds code i (all_right P pre (parts traps f ds code) all) z in
+    let it = in_part P traps f ds code i (all_right P pre (parts_of_lines traps f ds code) all) z in
     external_first P it.traps f it.descr row frame i.op i.args i.results e
-    (subst (AllByRecursion P) (part_unless_free it.traps f it.descr i it.next (subst (λ g. is_free g it.next ≡ false) (sym e) refl)) it.all)
+    (subst (AllByRecursion P) (part_unless_free it.traps f it.descr i it.next (subst (λ g. is_free_exit g it.next ≡ false) (sym e) refl)) it.all)

@@ -2,7 +2,7 @@
 use Rattle.std.proofs.Common.{◌≡◌, ℕ, ◌+◌, ◌≤◌, List, [], ◌∷◌, refl, sym, ap, ◌∙◌, subst, arith}
 use Rattle.std.proofs.lemmas.Grind.{common_steps}
 use Rattle.layout_rules.specs.declared.form.Form.{Form}
-use Rattle.layout_rules.specs.Forms.{ReachFrom, branch_form, branch_reaches, jal_reaches, jump_form, none_far, needed, rank, words_of}
+use Rattle.layout_rules.specs.Forms.{ReachFrom, branch_form, branch_reaches, jal_reaches, jump_form, none_far, needed_form, form_rank, piece_words}
 use Rattle.rv_pieces.specs.declared.piece.Piece.{Piece}
 use Rattle.rv_pieces.specs.declared.piece.Piece.TheVariants.{Known, Label, Branch, Jump, Row, LabelAddress, Call, TailCall, SymbolAddress, ExternalNumber, Descriptor}
 
@@ -19,7 +19,7 @@ jump_form_moved : (b from to : ℕ) → jump_form (b + from) (b + to) ≡ jump_f
 jump_form_moved b from to = let e : b + from + 0 ≡ b + from = omega arith in let g : from + 0 ≡ from = omega arith in rw (sym e, jal_moved b from to 0, g) refl
 
 module _ (places moved : ℕ → ℕ) (b : ℕ) (same : (l : ℕ) → moved l ≡ b + places l) where
-  needed_moved : (at : ℕ) (p : Piece) → needed none_far moved (b + at) p ≡ needed none_far places at p
+  needed_moved : (at : ℕ) (p : Piece) → needed_form none_far moved (b + at) p ≡ needed_form none_far places at p
   needed_moved at (Known i) = refl
   needed_moved at (Label l) = refl
   needed_moved at (Branch c r s l) = ap (branch_form (b + at)) (same l) ∙ branch_form_moved b at (places l)
@@ -38,7 +38,7 @@ module _ (places moved : ℕ → ℕ) (b : ℕ) (same : (l : ℕ) → moved l �
   reach_moved at [] (f ∷ fs) reach = absurd reach
   reach_moved at (p ∷ ps) [] reach = absurd reach
   reach_moved at (p ∷ ps) (f ∷ fs) reach =
-      let e : b + (at + words_of p f) ≡ b + at + words_of p f = omega arith in (
-        subst (λ g. rank g ≤ rank f) (sym (needed_moved at p)) reach.0,
-        subst (λ k. ReachFrom moved k ps fs) e (reach_moved (at + words_of p f) ps fs reach.1),
+      let e : b + (at + piece_words p f) ≡ b + at + piece_words p f = omega arith in (
+        subst (λ g. form_rank g ≤ form_rank f) (sym (needed_moved at p)) reach.0,
+        subst (λ k. ReachFrom moved k ps fs) e (reach_moved (at + piece_words p f) ps fs reach.1),
       )

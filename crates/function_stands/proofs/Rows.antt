@@ -6,7 +6,7 @@ use Rattle.std.proofs.lemmas.List.Folds.{find_at}
 use Rattle.std.proofs.lemmas.Slice.Eq.{bytes_eq-Decides}
 use Rattle.bs_words.specs.External.{External}
 use Rattle.image_form.specs.Image.{comp_byte, ret_byte}
-use Rattle.layout_rules.specs.Externals.{number_of, same_row}
+use Rattle.layout_rules.specs.Externals.{external_number, same_row}
 use Rattle.linear_rules.proofs.Homes.{IsIn, is_first, is_later}
 use Rattle.laid_files.proofs.Laid.{ret_same, comps_same}
 
@@ -58,10 +58,10 @@ first (x ∷ rows) e z = by (same_row x e) refl (later e z) (λ y. first rows e 
         record { row = it.row; found = ap (λ b. cond b (Some x) (find (λ y. same_row y e) rows)) h ∙ it.found; same = it.same }
 
 -- A call of the file has a row of the image, at its number.
-pub row_found : (rows : List External) (e : External) → IsIn e rows → (ext : External) × (slice_get rows (number_of rows e) ≡ Some ext)
+pub row_found : (rows : List External) (e : External) → IsIn e rows → (ext : External) × (slice_get rows (external_number rows e) ≡ Some ext)
     × (ext.name ≡ e.name) × (ext.params ≡ e.params) × (ext.result ≡ e.result)
 row_found rows e z =
     let it = first rows e z in
     let same = same_row_is it.row e it.same in
-    let there : slice_get rows (number_of rows e) ≡ Some it.row = sym (find_at (λ x. same_row x e) rows) ∙ it.found in
+    let there : slice_get rows (external_number rows e) ≡ Some it.row = sym (find_at (λ x. same_row x e) rows) ∙ it.found in
     (it.row, there, same.name, same.params, same.result)

@@ -5,8 +5,8 @@ use Rattle.bs_words.specs.declared.types.Comp.{Comp}
 use Rattle.bs_words.specs.declared.types.Comp.TheVariants as comp
 use Rattle.lin_ir.specs.Descriptors.{NamesLives}
 use Rattle.lin_ir.specs.Formed.{IsHome, spare}
-use Rattle.lin_ir.specs.Meaning.{NamedAt, is_named, passes_frame}
-use Rattle.lin_ir.specs.Walks.{LiveAt, Stands}
+use Rattle.lin_ir.specs.Meaning.{NamedAt, is_named_location, passes_frame}
+use Rattle.lin_ir.specs.Walks.{LiveAt, StandsAsLine}
 use Rattle.lin_ir.specs.declared.lin.Line.{Line}
 use Rattle.lin_ir.specs.declared.lin.Lin.{Lin}
 use Rattle.lin_ir.specs.declared.lin.Spot.{Spot}
@@ -35,11 +35,11 @@ module _ (m : Lin) (homes : All (λ (i : Line). AtHomes m i.args × AtHomes m i.
 
 -- no descriptor names it
 pub spare_unnamed : (m : Lin) (named : NamedAt) → NamesLives m named →
-    ((i : Line) (next : List Line) (t : Comp) → Stands i next m.code → LiveAt m spare t i next → ⊥) →
-    (i : Line) (next : List Line) → Stands i next m.code → passes_frame i.op ≡ true → is_named spare (named (length next)) ≡ false
-spare_unnamed m named names dead i next stands point = by (is_named spare (named (length next))) refl
+    ((i : Line) (next : List Line) (t : Comp) → StandsAsLine i next m.code → LiveAt m spare t i next → ⊥) →
+    (i : Line) (next : List Line) → StandsAsLine i next m.code → passes_frame i.op ≡ true → is_named_location spare (named (length next)) ≡ false
+spare_unnamed m named names dead i next stands point = by (is_named_location spare (named (length next))) refl
   where
-    by : (b : Bool) → is_named spare (named (length next)) ≡ b → b ≡ false
+    by : (b : Bool) → is_named_location spare (named (length next)) ≡ b → b ≡ false
     by false e = refl
     by true e =
         absurd (dead i next comp.Val stands ((names.exact i next stands point spare).0 (contains_of (is_one_of spare (named (length next)) e))))

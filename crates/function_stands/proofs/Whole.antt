@@ -9,25 +9,25 @@ use Rattle.bs_words.specs.declared.values.Value.TheVariants.{Word, Block, Functi
 use Rattle.cmm_data.specs.Placement.{value_of_symbol}
 use Rattle.cmm_meaning.specs.Setting.{Setting}
 use Rattle.cmm_tree.specs.Tree.{FileTree, FunctionTree, functions}
-use Rattle.emit_rules.specs.Emitted.{emitted, part_of, parts}
-use Rattle.emit_rules.specs.Entry.{Frame, entry, frame_of}
+use Rattle.emit_rules.specs.Emitted.{emitted, part_of_line, parts_of_lines}
+use Rattle.emit_rules.specs.Entry.{FrameLayout, entry_pieces, frame_of}
 use Rattle.emit_rules.specs.Named.{IsExternalOf}
-use Rattle.emit_rules.specs.Units.{is_free, tests_first}
+use Rattle.emit_rules.specs.Units.{is_free_exit, tests_first}
 use Rattle.image_form.specs.Image.{stub_words, code_limit}
 use Rattle.image_form.specs.Tables.{Desc, Tables}
 use Rattle.layout_rules.specs.declared.form.Form.{Form}
-use Rattle.layout_rules.specs.Conditions.{IsFunctionLaid, IsNamed}
+use Rattle.layout_rules.specs.Conditions.{IsFunctionLaid, AreNamesPresent}
 use Rattle.layout_rules.specs.Externals.{externals}
-use Rattle.layout_rules.specs.Forms.{ReachFrom, label_from, place_of, place_or_entry, total_words}
-use Rattle.layout_rules.specs.Laid.{address_of_place, address_of_value, descs_in, entries_from, names_at}
+use Rattle.layout_rules.specs.Forms.{ReachFrom, label_from, label_word_offset, place_or_entry, total_words}
+use Rattle.layout_rules.specs.Laid.{address_of_place, address_of_value, descs_in, function_entries_from, addresses_named_at}
 use Rattle.layout_rules.specs.Stands as layout
 use Rattle.layout_rules.specs.Stands.{HasPieces}
-use Rattle.layout_rules.specs.Words.{Named}
+use Rattle.layout_rules.specs.Words.{NameAddresses}
 use Rattle.layout_rules.proofs.Functions.{stands}
 use Rattle.lin_ir.specs.Descriptors.{IsDescr, NamesLives, frame_bytes, has_frame_point}
-use Rattle.lin_ir.specs.Formed.{IsFormed, Locates, WellFormed, labels_in}
+use Rattle.lin_ir.specs.Formed.{IsFormedLine, Locates, WellFormed, labels_in}
 use Rattle.lin_ir.specs.Meaning.{NamedAt, after_label, passes_frame}
-use Rattle.lin_ir.specs.Walks.{Reached, Stands, at_entry, by_step, by_walk, goes}
+use Rattle.lin_ir.specs.Walks.{Reached, StandsAsLine, at_entry, by_step, by_walk, goes}
 use Rattle.lin_ir.specs.declared.descr.Descr.{Descr}
 use Rattle.lin_ir.specs.declared.lin.Lin.{Lin}
 use Rattle.lin_ir.specs.declared.lin.Line.{Line}
@@ -43,14 +43,14 @@ use Rattle.linear_rules.proofs.Marks.{all_in}
 use Rattle.emit_rules.proofs.Names.{stands-contains}
 use Rattle.emit_rules.proofs.Units.{free_is_exit, part_unless_free, falls_tests}
 use Rattle.linear_rules.proofs.Walked.{Tail, stands_tail, tail_next}
-use Rattle.mach_ir.specs.Acts.{On, row_of}
+use Rattle.mach_ir.specs.Acts.{On, external_row}
 use Rattle.mach_ir.specs.declared.op.External.{External}
 use Rattle.made_functions.specs.Chained.{IsChained}
 use Rattle.laid_files.proofs.Functions.{point_among}
 use Rattle.moving_laws.specs.Values.{HasFunctions, IsKnown, function_at, value_word}
 use Rattle.rv_pieces.specs.declared.piece.Piece.{Piece}
 use Rattle.rv_pieces.specs.declared.piece.Pieces.{Pieces}
-use Rattle.function_stands.specs.Compiled.{IsImageOf}
+use Rattle.function_stands.specs.Compiled.{IsImageOfPieces}
 use Rattle.function_stands.specs.Functions.{FunctionStands, LineAt, entry_place}
 use Rattle.function_stands.proofs.Described.{is_described, none_over_calls}
 use Rattle.function_stands.proofs.Ending.{place_before, points_go_on}
@@ -74,7 +74,7 @@ index_is (y ∷ xs) zero x e = same_Some y x e
 index_is (y ∷ xs) (suc k) x e = index_is xs k x e
 
 module _ (image : Tables) (file : FileTree) (ps : List Pieces) (c : Setting) (k : ℕ) (tree : FunctionTree) (m : Lin) (ds : List Descr)
-    (p : Pieces) (named : NamedAt) (of : IsImageOf image file ps c) (is_there : slice_get ps k ≡ Some p) (it : IsChained tree m ds p)
+    (p : Pieces) (named : NamedAt) (of : IsImageOfPieces image file ps c) (is_there : slice_get ps k ≡ Some p) (it : IsChained tree m ds p)
     (lives : NamesLives m named) (functions_are : HasFunctions image) where
   -- ---- the function in the image
 
@@ -82,7 +82,7 @@ module _ (image : Tables) (file : FileTree) (ps : List Pieces) (c : Setting) (k 
   forms = of.laid.forms
 
   abbrev entries : List ℕ
-  entries = entries_from stub_words ps forms
+  entries = function_entries_from stub_words ps forms
 
   abbrev traps : ℕ → ℕ
   traps = it.emitted.traps
@@ -96,11 +96,11 @@ module _ (image : Tables) (file : FileTree) (ps : List Pieces) (c : Setting) (k 
   there : slice_get ps k ≡ Some pieces
   there = is_there ∙ ap Some it.emitted.is
 
-  placed : layout.Stands file entries forms image k pieces
+  placed : layout.IsFunctionInImage file entries forms image k pieces
   placed =
       let is = of.laid.is in
       let short = subst (λ (t : Tables). 4 * length t.code ≤ code_limit) is of.short in
-      subst (λ (t : Tables). layout.Stands file entries forms t k pieces) (sym is) (stands file ps forms k pieces of.can of.laid.reach short there)
+      subst (λ (t : Tables). layout.IsFunctionInImage file entries forms t k pieces) (sym is) (stands file ps forms k pieces of.can of.laid.reach short there)
 
   abbrev place : ℕ
   place = placed.place
@@ -108,10 +108,10 @@ module _ (image : Tables) (file : FileTree) (ps : List Pieces) (c : Setting) (k 
   abbrev fs : List Form
   fs = placed.forms
 
-  abbrev n : Named
-  n = names_at file entries place pieces.code fs
+  abbrev n : NameAddresses
+  n = addresses_named_at file entries place pieces.code fs
 
-  same_label : (l : ℕ) → label_place n l ≡ place + place_of pieces.code fs l
+  same_label : (l : ℕ) → label_place n l ≡ place + label_word_offset pieces.code fs l
   same_label l = omega arith
 
   has : HasPieces image.code n place pieces.code fs
@@ -121,7 +121,7 @@ module _ (image : Tables) (file : FileTree) (ps : List Pieces) (c : Setting) (k 
   reach =
       let e : place + 0 ≡ place = omega arith in
       subst (λ at. ReachFrom (label_place n) at pieces.code fs) e
-      (reach_moved (place_of pieces.code fs) (label_place n) place same_label 0 pieces.code fs placed.reach)
+      (reach_moved (label_word_offset pieces.code fs) (label_place n) place same_label 0 pieces.code fs placed.reach)
 
   among : (d : Desc) → IsIn d (descs_in place pieces.code fs) → IsIn d image.descs
   among d z =
@@ -137,26 +137,26 @@ module _ (image : Tables) (file : FileTree) (ps : List Pieces) (c : Setting) (k 
 
   -- ---- the entry, and the parts of the lines
 
-  abbrev f : Frame
+  abbrev f : FrameLayout
   f = frame_of m
 
   abbrev body : List Piece
-  body = parts traps f ds m.code
+  body = parts_of_lines traps f ds m.code
 
   abbrev start : ℕ
-  start = place + total_words (entry f) fs
+  start = place + total_words (entry_pieces f) fs
 
   abbrev left : List Form
-  left = drop (length (entry f)) fs
+  left = drop (length (entry_pieces f)) fs
 
   body_has : HasPieces image.code n start body left
-  body_has = has_second image.code n place (entry f) body fs has
+  body_has = has_second image.code n place (entry_pieces f) body fs has
 
   body_reach : ReachFrom (label_place n) start body left
-  body_reach = reach_second (label_place n) place (entry f) body fs reach
+  body_reach = reach_second (label_place n) place (entry_pieces f) body fs reach
 
   body_found : AreFound image start body left
-  body_found = found_second image place (entry f) body fs found
+  body_found = found_second image place (entry_pieces f) body fs found
 
   abbrev part_place : ℕ → ℕ
   part_place q = Place traps f ds m.code left start q
@@ -175,7 +175,7 @@ module _ (image : Tables) (file : FileTree) (ps : List Pieces) (c : Setting) (k 
   part_within : (q : ℕ) → part_place q ≤ length image.code
   part_within q =
       let high = (place_within traps f ds m.code left start q).1 in
-      let both = words_both (entry f) body fs in
+      let both = words_both (entry_pieces f) body fs in
       let within = placed.stands.within in
       omega (arith, high, both, within)
 
@@ -184,17 +184,17 @@ module _ (image : Tables) (file : FileTree) (ps : List Pieces) (c : Setting) (k 
       part_place q < length image.code
   part_before q reached tail h =
       let high = place_before image.code n traps f m it.lines.unended ds m.code left start start q reached tail h body_has in
-      let both = words_both (entry f) body fs in
+      let both = words_both (entry_pieces f) body fs in
       let within = placed.stands.within in
       omega (arith, high, both, within)
 
-  entry_stands : (s : Fixed) → s.image ≡ image → PartStands s n place start (entry f)
+  entry_stands : (s : Fixed) → s.image ≡ image → PartStands s n place start (entry_pieces f)
   entry_stands s e = record {
-    forms = take (length (entry f)) fs;
-    has = subst (λ (t : Tables). HasPieces t.code n place (entry f) (take (length (entry f)) fs)) (sym e)
-        (has_first image.code n place (entry f) body fs has);
-    reach = reach_first (label_place n) place (entry f) body fs reach;
-    past = ap (λ q. place + q) (sym (words_first (entry f) fs));
+    forms = take (length (entry_pieces f)) fs;
+    has = subst (λ (t : Tables). HasPieces t.code n place (entry_pieces f) (take (length (entry_pieces f)) fs)) (sym e)
+        (has_first image.code n place (entry_pieces f) body fs has);
+    reach = reach_first (label_place n) place (entry_pieces f) body fs reach;
+    past = ap (λ q. place + q) (sym (words_first (entry_pieces f) fs));
   }
 
   -- ---- names
@@ -202,12 +202,12 @@ module _ (image : Tables) (file : FileTree) (ps : List Pieces) (c : Setting) (k 
   label_is : (l : ℕ) → Contains (labels_in m.code) l → n.label l ≡ address_of_place (part_place (length (after_label l m.code)))
   label_is l among =
       let q = length (after_label l m.code) in
-      let zero_on : ℕ = 0 + total_words (entry f) fs in
-      let by : label_from l 0 (entry f ++ body) fs ≡ Some (Place traps f ds m.code left zero_on q) =
-      label_past l 0 (entry f) body fs (entry_past l f) ∙ label_place_is image.code n traps f l zero_on start ds m.code left among body_has in
+      let zero_on : ℕ = 0 + total_words (entry_pieces f) fs in
+      let by : label_from l 0 (entry_pieces f ++ body) fs ≡ Some (Place traps f ds m.code left zero_on q) =
+      label_past l 0 (entry_pieces f) body fs (entry_past l f) ∙ label_place_is image.code n traps f l zero_on start ds m.code left among body_has in
       let moved = place_moved traps f ds m.code left place zero_on q in
       let same : place + zero_on ≡ start = omega arith in
-      let at : place + place_of pieces.code fs l ≡ part_place q =
+      let at : place + label_word_offset pieces.code fs l ≡ part_place q =
       ap (λ (o : Option ℕ). place + place_or_entry o) by ∙ sym moved ∙ ap (λ b. Place traps f ds m.code left b q) same in
       ap address_of_place at
 
@@ -239,15 +239,15 @@ module _ (image : Tables) (file : FileTree) (ps : List Pieces) (c : Setting) (k 
         let own = subst (λ t. IsOf t (n.symbol name) v) (sym same) (symbol_is name v e) in
         (record { is = own.0; known = own.1 }, own.2)
 
-    external_stands : (row : External) → IsExternalOf m row → IsRowAt s row (n.external (row_of row))
+    external_stands : (row : External) → IsExternalOf m row → IsRowAt s row (n.external (external_row row))
     external_stands row is =
         let laid_one = each_at (IsFunctionLaid file) ps k pieces of.can.each there in
         let line = in_of is.line m.code is.among in
-        let named_one = external_in (IsNamed file pieces.code) traps f (entry f) ds m.code is.line row is.frame laid_one.named line is.is in
-        let at = row_found (externals file) (row_of row) (in_of (row_of row) (externals file) (named_one.external row refl)) in
+        let named_one = external_in (AreNamesPresent file pieces.code) traps f (entry_pieces f) ds m.code is.line row is.frame laid_one.named line is.is in
+        let at = row_found (externals file) (external_row row) (in_of (external_row row) (externals file) (named_one.external row refl)) in
         record {
           ext = at.0;
-          there = ap (λ (t : Tables). slice_get t.extcs (n.external (row_of row))) (same ∙ of.laid.is) ∙ at.1;
+          there = ap (λ (t : Tables). slice_get t.extcs (n.external (external_row row))) (same ∙ of.laid.is) ∙ at.1;
           name = at.2;
           params = at.3;
           result = at.4;
@@ -273,16 +273,16 @@ module _ (image : Tables) (file : FileTree) (ps : List Pieces) (c : Setting) (k 
     abbrev descr_of : List Line → Option Descr
     descr_of next = descriptor_of ds m.code (length next)
 
-    module _ (i : Line) (next : List Line) (tries : List ℕ) (stands : Stands i next m.code) (reached : Reached m (i ∷ next) tries)
-        (unless : is_free i.op next ≡ false) where
-      line_found : PartFound s n (part_place (suc (length next))) (part_place (length next)) (part_of (length tries) f (descr_of next) i)
+    module _ (i : Line) (next : List Line) (tries : List ℕ) (stands : StandsAsLine i next m.code) (reached : Reached m (i ∷ next) tries)
+        (unless : is_free_exit i.op next ≡ false) where
+      line_found : PartFound s n (part_place (suc (length next))) (part_place (length next)) (part_of_line (length tries) f (descr_of next) i)
       line_found =
           let has' = subst (λ (t : Tables). HasPieces t.code n start body left) (sym same) body_has in
           let found' = subst (λ t. AreFound t start body left) (sym same) body_found in
           let before = line_part s n traps f ds m.code left start stands has' body_reach found' in
           let own = subst (PartFound s n (part_place (suc (length next))) (part_place (length next)))
           (part_unless_free (traps (length next)) f (descr_of next) i next unless) before in
-          subst (λ t. PartFound s n (part_place (suc (length next))) (part_place (length next)) (part_of t f (descr_of next) i))
+          subst (λ t. PartFound s n (part_place (suc (length next))) (part_place (length next)) (part_of_line t f (descr_of next) i))
           (it.emitted.pushed.pushed i next stands tries reached) own
 
       line_among : Contains m.code i
@@ -300,7 +300,7 @@ module _ (image : Tables) (file : FileTree) (ps : List Pieces) (c : Setting) (k 
         saves = refl;
         slots = refl;
         among = line_among;
-        formed = all_in IsFormed well.forms line_in;
+        formed = all_in IsFormedLine well.forms line_in;
         offset = all_in (λ (j : Line). OffsetFits j.op) it.lines.offsets line_in;
         args = (all_in (λ (j : Line). Locates m j.args × Locates m j.results) well.locations line_in).0;
         results = (all_in (λ (j : Line). Locates m j.args × Locates m j.results) well.locations line_in).1;
@@ -318,15 +318,15 @@ module _ (image : Tables) (file : FileTree) (ps : List Pieces) (c : Setting) (k 
           (part_before (length next) (by_step reached (goes On (points_go_on i.op point))) (tail_next (stands_tail stands)) (omega arith))
 
       line_marked : (b : Bool) → passes_frame i.op ≡ b →
-          AreMarked s (part_place (suc (length next))) (part_of (length tries) f (descr_of next) i) line_found.part.forms
+          AreMarked s (part_place (suc (length next))) (part_of_line (length tries) f (descr_of next) i) line_found.part.forms
       line_marked true point =
           let past = line_found.part.past in
           let before = point_before point in
-          found_marked s (part_place (suc (length next))) (part_of (length tries) f (descr_of next) i) line_found.part.forms line_found.found
+          found_marked s (part_place (suc (length next))) (part_of_line (length tries) f (descr_of next) i) line_found.part.forms line_found.found
           (omega (arith, past, before))
       line_marked false none =
           let no_descr = no_descriptor ds m.code stands none in
-          subst (λ d. AreMarked s (part_place (suc (length next))) (part_of (length tries) f d i) line_found.part.forms) (sym no_descr)
+          subst (λ d. AreMarked s (part_place (suc (length next))) (part_of_line (length tries) f d i) line_found.part.forms) (sym no_descr)
           (none_marked s (length tries) f i (part_place (suc (length next))) line_found.part.forms)
 
       point_described : passes_frame i.op ≡ true → Described m ds it.exact it.count i next tries
@@ -365,7 +365,7 @@ module _ (image : Tables) (file : FileTree) (ps : List Pieces) (c : Setting) (k 
 
   -- ---- exits that have no words
 
-  free_stands : (i : Line) (next : List Line) → Stands i next m.code → is_free i.op next ≡ true → FreeStands laid m i next
+  free_stands : (i : Line) (next : List Line) → StandsAsLine i next m.code → is_free_exit i.op next ≡ true → FreeStands laid m i next
   unfolding laid
   free_stands i next stands e =
       let exit = free_is_exit i.op next e in
@@ -405,8 +405,8 @@ module _ (image : Tables) (file : FileTree) (ps : List Pieces) (c : Setting) (k 
         begins = let e = place_is in let first = first_part in omega (arith, e, first);
         ends = ends_within;
         entered = λ s e.
-            subst (λ at. PartStands s n at (part_place (length m.code)) (entry f)) (sym place_is)
-            (subst (λ to. PartStands s n place to (entry f)) (sym first_part) (entry_stands s e));
+            subst (λ at. PartStands s n at (part_place (length m.code)) (entry_pieces f)) (sym place_is)
+            (subst (λ to. PartStands s n place to (entry_pieces f)) (sym first_part) (entry_stands s e));
         line = line_at;
         free = free_stands;
       }

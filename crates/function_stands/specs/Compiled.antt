@@ -12,7 +12,7 @@ use Rattle.rv_pieces.specs.declared.piece.Pieces.{Pieces}
 
 -- The image is that of the file, whose functions are these pieces in order, and the setting is the
 -- file's.
-pub record IsImageOf (image : Tables) (file : FileTree) (ps : List Pieces) (c : Setting) : Type 0
+pub record IsImageOfPieces (image : Tables) (file : FileTree) (ps : List Pieces) (c : Setting) : Type 0
   where
     pub can : CanBeLaid file ps
     pub laid : IsLaid file ps image

@@ -2,13 +2,13 @@
 use Rattle.std.specs.Prelude.{◌≡◌, ℕ, ◌+◌, ◌-◌, ◌/◌, ◌≤◌, true, false, List, ◌∷◌, length, Option, slice_index}
 use Rattle.cmm_meaning.specs.Setting.{Setting}
 use Rattle.correctness.specs.Setting.{layout_of}
-use Rattle.emit_rules.specs.Entry.{entry, frame_of}
-use Rattle.emit_rules.specs.Units.{is_free}
+use Rattle.emit_rules.specs.Entry.{entry_pieces, frame_of}
+use Rattle.emit_rules.specs.Units.{is_free_exit}
 use Rattle.image_form.specs.Image.{stub_words}
 use Rattle.image_form.specs.Tables.{Tables}
-use Rattle.layout_rules.specs.Words.{Named}
+use Rattle.layout_rules.specs.Words.{NameAddresses}
 use Rattle.lin_ir.specs.Meaning.{NamedAt}
-use Rattle.lin_ir.specs.Walks.{Reached, Stands}
+use Rattle.lin_ir.specs.Walks.{Reached, StandsAsLine}
 use Rattle.lin_ir.specs.declared.descr.Descr.{Descr}
 use Rattle.lin_ir.specs.declared.lin.Lin.{Lin}
 use Rattle.lin_ir.specs.declared.lin.Line.{Line}
@@ -26,7 +26,7 @@ entry_place image f = (function_at image.funcs f - code_start) / 4
 
 -- A line to which a walk comes, and which is no exit without words, where these traps are pushed,
 -- with its descriptor if it has one.
-pub record LineAt (s : Fixed) (laid : Laid) (n : Named) (m : Lin) (c : Setting) (named : NamedAt)
+pub record LineAt (s : Fixed) (laid : Laid) (n : NameAddresses) (m : Lin) (c : Setting) (named : NamedAt)
     (tries : List ℕ) (i : Line) (next : List Line) : Type 0 where
   pub descr : Option Descr
   pub stands : LineStands s laid n m c Nowhere tries (frame_of m) descr i next
@@ -37,7 +37,7 @@ pub record LineAt (s : Fixed) (laid : Laid) (n : Named) (m : Lin) (c : Setting) 
 pub record FunctionStands (image : Tables) (m : Lin) (c : Setting) (named : NamedAt) (k : ℕ)
     : Type 0 where
   pub laid : Laid
-  pub names : Named
+  pub names : NameAddresses
   -- its frame is that of its row
   pub frame : laid.frame ≡ slice_index (layout_of image).frames k
   pub small : laid.frame ≤ 1048576
@@ -49,9 +49,9 @@ pub record FunctionStands (image : Tables) (m : Lin) (c : Setting) (named : Name
   -- the entry's pieces are at the entry, up to the first line's part
   pub entered : (s : Fixed) → s.image ≡ image →
       PartStands s names (entry_place image k) (laid.part (length m.code))
-      (entry (record { bytes = laid.frame; saves = laid.saves }))
+      (entry_pieces (record { bytes = laid.frame; saves = laid.saves }))
   pub line : (s : Fixed) → s.image ≡ image → (i : Line) (next : List Line) (tries : List ℕ) →
-      Stands i next m.code → Reached m (i ∷ next) tries → is_free i.op next ≡ false →
+      StandsAsLine i next m.code → Reached m (i ∷ next) tries → is_free_exit i.op next ≡ false →
       LineAt s laid names m c named tries i next
-  pub free : (i : Line) (next : List Line) → Stands i next m.code → is_free i.op next ≡ true →
+  pub free : (i : Line) (next : List Line) → StandsAsLine i next m.code → is_free_exit i.op next ≡ true →
       FreeStands laid m i next

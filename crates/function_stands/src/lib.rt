@@ -7,11 +7,11 @@
 ghost use Rattle.std.specs.Prelude.{◌≡◌, ℕ, ◌*◌, List, Some, slice_get, slice_index};
 ghost use Rattle.cmm_meaning.specs.Setting.{Setting};
 ghost use Rattle.cmm_tree.specs.Tree.{FileTree, FunctionTree, functions};
-ghost use Rattle.function_stands.specs.Compiled.{IsImageOf};
+ghost use Rattle.function_stands.specs.Compiled.{IsImageOfPieces};
 ghost use Rattle.function_stands.specs.Functions.{FunctionStands, entry_place};
 ghost use Rattle.image_form.specs.Image.{stub_words};
 ghost use Rattle.image_form.specs.Tables.{Func, Tables};
-ghost use Rattle.layout_rules.specs.Laid.{entries_from};
+ghost use Rattle.layout_rules.specs.Laid.{function_entries_from};
 ghost use Rattle.lin_ir.specs.Descriptors.{NamesLives};
 ghost use Rattle.lin_ir.specs.Meaning.{NamedAt};
 ghost use Rattle.lin_ir.specs.declared.descr.Descr.{Descr};
@@ -28,7 +28,7 @@ ghost use Rattle.rv_pieces.specs.declared.piece.Pieces.{Pieces};
 pub fn functions_stand()
     ensures { (image : Tables) (file : FileTree) (ps : List Pieces) (c : Setting) (k : ℕ)
         (pieces : Pieces) (tree : FunctionTree) (m : Lin) (ds : List Descr) (named : NamedAt) →
-        IsImageOf image file ps c → slice_get ps k ≡ Some pieces →
+        IsImageOfPieces image file ps c → slice_get ps k ≡ Some pieces →
         slice_get (functions file) k ≡ Some tree → IsChained tree m ds pieces → NamesLives m named →
         HasFunctions image → FunctionStands image m c named k }
 {}
@@ -36,9 +36,9 @@ pub fn functions_stand()
 /// Law: functions are entered where their pieces are laid, and so say their rows.
 pub fn entries_are_laid()
     ensures places { (image : Tables) (file : FileTree) (ps : List Pieces) (c : Setting)
-        (it : IsImageOf image file ps c) (f : ℕ) →
-        entry_place image f ≡ slice_index (entries_from stub_words ps it.laid.forms) f }
+        (it : IsImageOfPieces image file ps c) (f : ℕ) →
+        entry_place image f ≡ slice_index (function_entries_from stub_words ps it.laid.forms) f }
     ensures rows { (image : Tables) (file : FileTree) (ps : List Pieces) (c : Setting) →
-        IsImageOf image file ps c → (f : ℕ) (row : Func) → slice_get image.funcs f ≡ Some row →
+        IsImageOfPieces image file ps c → (f : ℕ) (row : Func) → slice_get image.funcs f ≡ Some row →
         row.offset ≡ 4 * entry_place image f }
 {}

@@ -4,7 +4,7 @@ use Rattle.std.proofs.lemmas.Bool.{and_from, and_left, and_right, cond-true, eq-
 use Rattle.correctness.specs.InNeed.{IsAtAllocation, IsInNeed}
 use Rattle.rv_machine.specs.Hart.{Hart, Service, decoded_next, fetched, goes_to, hart, register, sets, with_register}
 use Rattle.rv_machine.specs.Hart as next
-use Rattle.rv_machine.specs.Memory.{word}
+use Rattle.rv_machine.specs.Memory.{memory_word}
 use Rattle.rv_machine.specs.Run.{Schedule, one}
 use Rattle.rv_machine.specs.Services.{Machine, Going}
 use Rattle.guarded_machine.specs.Guarded.{guarded_of, is_at_allocation, is_in_need, is_service}
@@ -23,8 +23,8 @@ pub other_service : (m : Machine) → (register m.hart 7 ≡ 3 → ⊥) → is_i
 other_service m other = free m (and_right _ _ (false_from_ne_true _ (λ e. other (eqb-true (register m.hart 7) 3 e))))
 
 -- an allocation service below the limit word
-pub below_limit : (m : Machine) → register m.hart 26 < word m.hart.memory 0x20000000 → is_in_need m ≡ true
-below_limit m l = or_right _ _ (lt-ltb (register m.hart 26) (word m.hart.memory 0x20000000) l)
+pub below_limit : (m : Machine) → register m.hart 26 < memory_word m.hart.memory 0x20000000 → is_in_need m ≡ true
+below_limit m l = or_right _ _ (lt-ltb (register m.hart 26) (memory_word m.hart.memory 0x20000000) l)
 
 -- what sets a register is no ECALL
 pub sets_unserved : (rd value address : ℕ) (h : Hart) → is_service (sets rd value address h) ≡ false
@@ -45,8 +45,8 @@ at_allocation m at = and_from _ _ (ap is_service (serves m at)) (eq-eqb (registe
 
 pub in_need : (m : Machine) → is_in_need m ≡ true → IsInNeed m
 in_need m e at =
-    ltb-true (register m.hart 26) (word m.hart.memory 0x20000000)
-    (sym (ap (λ t. not t || nat_lt (register m.hart 26) (word m.hart.memory 0x20000000)) (at_allocation m at)) ∙ e)
+    ltb-true (register m.hart 26) (memory_word m.hart.memory 0x20000000)
+    (sym (ap (λ t. not t || nat_lt (register m.hart 26) (memory_word m.hart.memory 0x20000000)) (at_allocation m at)) ∙ e)
 
 -- ---- one instruction
 

@@ -4,7 +4,7 @@ use Rattle.std.proofs.lemmas.Bool.{cond-false}
 use Rattle.correctness.specs.InNeed.{AsksOnlyInNeed, AsksOnlyInNeedUntil, IsInNeed}
 use Rattle.machine_laws.specs.Steps.{IsFrontOf, IsOrderly}
 use Rattle.machine_laws.proofs.Orderly.{machine_orderly}
-use Rattle.rv_machine.specs.Run.{Schedule, after, one, seen}
+use Rattle.rv_machine.specs.Run.{Schedule, now_after, one, seen}
 use Rattle.rv_machine.specs.Services.{Running, Now, Going, Over, Stopped}
 use Rattle.rv_machine.specs.declared.cause.Cause.TheVariants.{BadService}
 use Rattle.guarded_machine.specs.Guarded.{guarded_of, guarded_after, is_in_need}
@@ -36,13 +36,13 @@ over_stays : (schedule : Schedule) (n : ℕ) (now : Now) → guarded_of schedule
 over_stays schedule zero now e = refl
 over_stays schedule (suc n) now e = ap (guarded_after schedule n) e ∙ over_stays schedule n now e
 
-pub same_or_refused : (schedule : Schedule) (n : ℕ) (now : Now) → (guarded_after schedule n now ≡ after schedule n now) ⊎ IsRefused (guarded_after schedule n now)
+pub same_or_refused : (schedule : Schedule) (n : ℕ) (now : Now) → (guarded_after schedule n now ≡ now_after schedule n now) ⊎ IsRefused (guarded_after schedule n now)
 same_or_refused schedule zero now = inl refl
 same_or_refused schedule (suc n) (Over calls end) = inl (over_stays schedule (suc n) (Over calls end) refl)
 same_or_refused schedule (suc n) (Going m) = by (is_in_need m) (same_or_refused schedule n (one schedule m))
   where
-    by : (t : Bool) → (guarded_after schedule n (one schedule m) ≡ after schedule n (one schedule m)) ⊎ IsRefused (guarded_after schedule n (one schedule m)) →
-        (guarded_after schedule n (cond t (one schedule m) (Over m.calls (Stopped BadService))) ≡ after schedule n (one schedule m))
+    by : (t : Bool) → (guarded_after schedule n (one schedule m) ≡ now_after schedule n (one schedule m)) ⊎ IsRefused (guarded_after schedule n (one schedule m)) →
+        (guarded_after schedule n (cond t (one schedule m) (Over m.calls (Stopped BadService))) ≡ now_after schedule n (one schedule m))
         ⊎ IsRefused (guarded_after schedule n (cond t (one schedule m) (Over m.calls (Stopped BadService))))
     by true behind = behind
     by false behind = inr (ap (λ x. (seen x).end) (over_stays schedule n (Over m.calls (Stopped BadService)) refl))
@@ -68,7 +68,7 @@ needed_until schedule start n never k lt m e =
     ⊎_elim (λ same. by same (is_in_need m) refl) (λ r. absurd (never (stays_refused schedule k n start (omega (arith, lt)) r)))
     (same_or_refused schedule k start)
   where
-    by : guarded_after schedule k start ≡ after schedule k start → (t : Bool) → is_in_need m ≡ t → IsInNeed m
+    by : guarded_after schedule k start ≡ now_after schedule k start → (t : Bool) → is_in_need m ≡ t → IsInNeed m
     by same true is = in_need m is
     by same false is =
         absurd (never (stays_refused schedule (suc k) n start (omega (arith, lt)) (ap (λ x. (seen x).end)
@@ -76,7 +76,7 @@ needed_until schedule start n never k lt m e =
 
 module _ (schedule : Schedule) (start : Now) (never : (n : ℕ) → IsRefused (guarded_after schedule n start) → ⊥) where
   -- where it is never refused
-  pub same_run : (n : ℕ) → guarded_after schedule n start ≡ after schedule n start
+  pub same_run : (n : ℕ) → guarded_after schedule n start ≡ now_after schedule n start
   same_run n = ⊎_elim (λ e. e) (λ r. absurd (never n r)) (same_or_refused schedule n start)
 
   pub never_needless : AsksOnlyInNeed schedule start

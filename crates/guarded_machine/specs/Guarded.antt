@@ -4,7 +4,7 @@ use Rattle.machine_laws.specs.Steps.{moments}
 use Rattle.rv_isa.specs.Registers.{s10, t2}
 use Rattle.rv_machine.specs.Hart.{Next, Retired, Service, hart, register}
 use Rattle.rv_machine.specs.Hart as next
-use Rattle.rv_machine.specs.Memory.{word}
+use Rattle.rv_machine.specs.Memory.{memory_word}
 use Rattle.rv_machine.specs.Places.{domain_start}
 use Rattle.rv_machine.specs.Run.{Schedule, one}
 use Rattle.rv_machine.specs.Services.{Machine, Now, Going, Over, Stopped}
@@ -20,7 +20,7 @@ abbrev pub is_at_allocation : Machine → Bool
 is_at_allocation m = is_service (hart m.hart) && (register m.hart t2 == 3)
 
 abbrev pub is_in_need : Machine → Bool
-is_in_need m = not (is_at_allocation m) || nat_lt (register m.hart s10) (word m.hart.memory domain_start)
+is_in_need m = not (is_at_allocation m) || nat_lt (register m.hart s10) (memory_word m.hart.memory domain_start)
 
 -- one instruction, or the refusal
 abbrev pub guarded_of : Schedule → Now → Now

@@ -5,17 +5,17 @@ use Rattle.std.specs.List.{list_any, list_all}
 use Rattle.std.proofs.lemmas.Bool.{cases_lt, true≢false, and_parts}
 use Rattle.std.proofs.lemmas.List.{get_or_past}
 use Rattle.mach_ir.specs.Formed.{WellFormed}
-use Rattle.mach_ir.specs.Walks.{Stands, IsRegister}
+use Rattle.mach_ir.specs.Walks.{StandsAsInstr, IsRegister}
 use Rattle.mach_ir.specs.declared.reg.Reg.{Reg}
 use Rattle.mach_ir.specs.declared.mach.Instr.{Instr}
 use Rattle.mach_ir.specs.declared.mach.Mach.{Mach}
 use Rattle.mach_laws.specs.Expand.{expand}
 use Rattle.dead_rules.specs.Dropped.{may_go}
-use Rattle.hoist_rules.specs.Hoisted.{moved}
+use Rattle.hoist_rules.specs.Hoisted.{hoisted_instruction}
 use Rattle.hoist_rules.specs.Chosen.{AreChosen, HasConstantsFirst}
 use Rattle.hoist.specs.Constants.{makes_wide}
 use Rattle.hoist.specs.Loops.{IsFirstCall, IsCalmWide, flag_at, AreFlags}
-use Rattle.hoist.specs.Moves.{none_moves, stays, StaysAt, moves_by, left}
+use Rattle.hoist.specs.Moves.{none_moves, flag_stays, StaysAt, moves_by, left}
 use Rattle.hoist.specs.Written.{times, is_once}
 use Rattle.hoist.proofs.Reaching.{same_item}
 use Rattle.hoist.proofs.Moving.{at_of, place_of, calm_of, once_of, moved_of}
@@ -49,15 +49,15 @@ none_wide (x ∷ xs) (suc calls) none (suc p) i lt e w =
     later_false false b e = e
 
 pub stays_is : (flags : List Bool) (code : List Instr) (writes : ℕ → ℕ) (p : ℕ) (i : Instr) (flag b : Bool) → flag ≡ flag_at flags p →
-    slice_get code p ≡ Some i → b ≡ stays flag writes i → (b ≡ true) ↔ StaysAt flags code writes p
+    slice_get code p ≡ Some i → b ≡ flag_stays flag writes i → (b ≡ true) ↔ StaysAt flags code writes p
 stays_is flags code writes p i flag b f at e = (λ t. stay (sym e ∙ t), λ s. e ∙ holds s)
   where
-    stay : stays flag writes i ≡ true → StaysAt flags code writes p
+    stay : flag_stays flag writes i ≡ true → StaysAt flags code writes p
     stay t =
         let x = and_parts flag (is_once writes i) t in
         record { flagged = sym f ∙ x.0; instr = i; at = at; once = x.1 }
 
-    holds : StaysAt flags code writes p → stays flag writes i ≡ true
+    holds : StaysAt flags code writes p → flag_stays flag writes i ≡ true
     holds s =
         ap (λ b. b && is_once writes i) (f ∙ s.flagged) ∙ ap (is_once writes) (same_item (slice_get code p) i s.instr at s.at) ∙ s.once
 
@@ -145,20 +145,20 @@ module _ (m : Mach) (formed : WellFormed m) (origins : (r : Reg) → IsRegister 
 
 -- ---- whole
 
-goes : (m : Mach) (moves : ℕ → Bool) → AreChosen m moves → (i : Instr) (next : List Instr) → Stands i next m.code →
+goes : (m : Mach) (moves : ℕ → Bool) → AreChosen m moves → (i : Instr) (next : List Instr) → StandsAsInstr i next m.code →
     moves (length next) ≡ true → may_go i.op ≡ true
 goes m moves are i next s t = ap (λ (i : Instr). may_go i.op) (((are i next s).0 t).may).is
 
 pub first_by : (m q : Mach) (flags : List Bool) → AreChosen m (moves_by flags (length m.code)) →
     q ≡ record m {
-      code = expand (moved (moves_by flags (length m.code))) m.code ++ expand (left (moves_by flags (length m.code))) m.code;
+      code = expand (hoisted_instruction (moves_by flags (length m.code))) m.code ++ expand (left (moves_by flags (length m.code))) m.code;
     } → HasConstantsFirst m q
 first_by m q flags are e =
     record {
       moves = moves_by flags (length m.code);
       chosen = are;
       is = e
-          ∙ ap (λ xs. record m { code = expand (moved (moves_by flags (length m.code))) m.code ++ xs })
+          ∙ ap (λ xs. record m { code = expand (hoisted_instruction (moves_by flags (length m.code))) m.code ++ xs })
           (left_without (moves_by flags (length m.code)) m.code (goes m (moves_by flags (length m.code)) are));
     }
 

@@ -7,10 +7,10 @@ use Rattle.bs_words.specs.declared.types.Comp.TheVariants as comp
 use Rattle.bs_words.specs.declared.types.Loc.TheVariants as loc
 use Rattle.bs_words.proofs.Lists.{first_in}
 use Rattle.mach_ir.specs.Acts.{Target, At}
-use Rattle.mach_ir.specs.Formed.{WellFormed, LeadsTo, is_exit}
+use Rattle.mach_ir.specs.Formed.{WellFormed, TargetsLabel, is_exit}
 use Rattle.mach_ir.specs.Labels.{label_of}
 use Rattle.mach_ir.specs.Meaning.{Everything, destroyed_by, killed, has_label}
-use Rattle.mach_ir.specs.Walks.{Among, first, OneOf, this, other, Stands, here, below, IsRegister, is_in_code}
+use Rattle.mach_ir.specs.Walks.{AmongRegisters, first, OneOf, this, other, StandsAsInstr, here, below, IsRegister, is_in_code}
 use Rattle.mach_ir.specs.declared.op.Op.TheVariants as op
 use Rattle.mach_ir.specs.declared.op.Pure.TheVariants as pure
 use Rattle.mach_ir.specs.declared.reg.Reg.{Reg}
@@ -25,10 +25,10 @@ use Rattle.mach_laws.proofs.Places.{shorter, results_in, is_unset}
 use Rattle.mach_laws.proofs.Among.{split_among, left_among}
 use Rattle.hoist.specs.Constants.{is_wide, fits_always, constant_of, can_hold, holds_wide, makes_wide}
 use Rattle.hoist.specs.Loops.{exit_of, EndsFrom, IsFirstCall, IsCalmWide}
-use Rattle.hoist.specs.Written.{noted, times, is_once}
+use Rattle.hoist.specs.Written.{writes_counted, times, is_once}
 use Rattle.hoist.proofs.Reaching.{same_item}
 use Rattle.hoist.proofs.Once.{open_stays, no_param, only_here, times_once}
-use Rattle.mach_ir.specs.Places.{is_open, are_none}
+use Rattle.mach_ir.specs.Places.{is_unset_location, are_none}
 
 -- ---- places
 
@@ -36,7 +36,7 @@ use Rattle.mach_ir.specs.Places.{is_open, are_none}
 abbrev pub IsPlace : List Instr → List Instr → ℕ → Type 0
 IsPlace code next p = p + suc (length next) ≡ length code
 
-pub at_of : {i : Instr} {next code : List Instr} → Stands i next code → (p : ℕ) → IsPlace code next p → slice_get code p ≡ Some i
+pub at_of : {i : Instr} {next code : List Instr} → StandsAsInstr i next code → (p : ℕ) → IsPlace code next p → slice_get code p ≡ Some i
 at_of here zero e = refl
 at_of here (suc p) e = absurd (omega (arith, e))
 at_of (below s) zero e = let lt = shorter s in absurd (omega (arith, lt, e))
@@ -44,19 +44,19 @@ at_of (below s) (suc p) e = at_of s p (omega (arith, e))
 
 pub record IsAt (code : List Instr) (p : ℕ) (i : Instr) : Type 0 where
   pub next : List Instr
-  pub stands : Stands i next code
+  pub stands : StandsAsInstr i next code
   pub place : IsPlace code next p
 
 pub stands_at : (code : List Instr) (p : ℕ) (i : Instr) → slice_get code p ≡ Some i → IsAt code p i
 stands_at [] p i e = absurd cc
 stands_at (x ∷ xs) zero i e =
     let same : x ≡ i = cc in
-    record { next = xs; stands = subst (λ i. Stands i xs (x ∷ xs)) same here; place = omega arith }
+    record { next = xs; stands = subst (λ i. StandsAsInstr i xs (x ∷ xs)) same here; place = omega arith }
 stands_at (x ∷ xs) (suc p) i e =
     let s = stands_at xs p i e in
     record { next = s.next; stands = below s.stands; place = let k = s.place in omega (arith, k) }
 
-pub place_of : {i : Instr} {next code : List Instr} → Stands i next code → IsPlace code next (length code - suc (length next))
+pub place_of : {i : Instr} {next code : List Instr} → StandsAsInstr i next code → IsPlace code next (length code - suc (length next))
 place_of s = let lt = shorter s in omega (arith, lt)
 
 -- ---- labels and exits
@@ -93,7 +93,7 @@ only : {t u : Target} → OneOf t (u ∷ []) → t ≡ u
 only this = refl
 only (other o) = elim o [ ]
 
-exit_told : (l : ℕ) (f : MachOp) → is_exit f ≡ true → LeadsTo f l → exit_of f ≡ Some l
+exit_told : (l : ℕ) (f : MachOp) → is_exit f ≡ true → TargetsLabel f l → exit_of f ≡ Some l
 exit_told l (mach.Mark (mark.Exit k n)) e o = let same = only o in let back : k ≡ l = cc in ap (λ k. Some k) back
 exit_told l (mach.Op f) e o = absurd (true≢false (sym e))
 exit_told l (mach.Mark (mark.If t k)) e o = absurd (true≢false (sym e))
@@ -107,7 +107,7 @@ exit_told l (mach.Mark (mark.Leave k end)) e o = absurd (true≢false (sym e))
 exit_told l (mach.Mark (mark.Handler k)) e o = absurd (true≢false (sym e))
 exit_told l (mach.Mark (mark.End k)) e o = absurd (true≢false (sym e))
 
-exit_says : (l : ℕ) (f : MachOp) → exit_of f ≡ Some l → (is_exit f ≡ true) × LeadsTo f l
+exit_says : (l : ℕ) (f : MachOp) → exit_of f ≡ Some l → (is_exit f ≡ true) × TargetsLabel f l
 exit_says l (mach.Mark (mark.Exit k n)) e =
     let same : k ≡ l = cc in
     (refl, subst (λ k. OneOf (At l) (At k ∷ [])) (sym same) this)
@@ -167,7 +167,7 @@ constant_told w args results e = by args results (and_parts (is_wide w) (are_non
         MakesWide (of_parts (mach.Op (op.Pure (pure.Constant w))) args results)
     by [] [] t = absurd (true≢false (sym t.1))
     by [] (r ∷ []) t =
-        let h = and_parts (is_open r.loc) (fits_always r.comp w) t.1 in
+        let h = and_parts (is_unset_location r.loc) (fits_always r.comp w) t.1 in
         record {
           register = r;
           word = w;
@@ -198,7 +198,7 @@ all_true a b c e h k = cc
 makes_says : (i : Instr) (r : Reg) (w : ℕ) → i ≡ makes r w → FitsAlways r.comp w → r.loc ≡ loc.Unset → IsWide w → makes_wide i ≡ true
 makes_says i r w e fits open_place wide =
     ap makes_wide e
-    ∙ all_true (is_wide w) (is_open r.loc) (fits_always r.comp w) (wide_says w wide) (ap is_open open_place) (fits_says fits)
+    ∙ all_true (is_wide w) (is_unset_location r.loc) (fits_always r.comp w) (wide_says w wide) (ap is_unset_location open_place) (fits_says fits)
 
 -- ---- loops
 
@@ -297,7 +297,7 @@ module _ (m : Mach) where
             let q = s.place in
             omega (arith, lt, k, q)
 
-    pub calm_of : {i : Instr} {next : List Instr} (p : ℕ) → Stands i next m.code → IsPlace m.code next p → IsMoved m i next →
+    pub calm_of : {i : Instr} {next : List Instr} (p : ℕ) → StandsAsInstr i next m.code → IsPlace m.code next p → IsMoved m i next →
         IsCalmWide m.code calls p
     calm_of {i} {next} p s place v =
         record {
@@ -321,16 +321,16 @@ module _ (m : Mach) where
             (record { end = v.end; place = (round_told p place v.round).place; round = v.round }) in
             omega (arith, lt, le, last)
 
-    pub once_of : {i : Instr} {next : List Instr} → Stands i next m.code → MayMove m i next → is_once (times m) i ≡ true
+    pub once_of : {i : Instr} {next : List Instr} → StandsAsInstr i next m.code → MayMove m i next → is_once (times m) i ≡ true
     once_of {i} {next} s v =
         ap (is_once (times m)) v.is ∙ ap (λ n. nat_eq n 1 && true) one
       where
         n : ℕ
         n = (v.register).number
 
-        here_once : noted (v.register).number i.results 0 ≡ 1
+        here_once : writes_counted (v.register).number i.results 0 ≡ 1
         here_once =
-            ap (λ (i : Instr). noted (v.register).number i.results 0) v.is
+            ap (λ (i : Instr). writes_counted (v.register).number i.results 0) v.is
             ∙ ap (λ b. cond b 1 0) (eq-eqb (v.register).number (v.register).number refl)
 
         one : times m (v.register).number ≡ 1
@@ -339,7 +339,7 @@ module _ (m : Mach) where
             (λ j others t a. v.once j others t (left_among j.results (killed m j) a))
 
     module _ (formed : WellFormed m) (origins : (r : Reg) → IsRegister m r → r.origin ≡ r.number) where
-      may_of : {i : Instr} {next : List Instr} → Stands i next m.code → MakesWide i → is_once (times m) i ≡ true →
+      may_of : {i : Instr} {next : List Instr} → StandsAsInstr i next m.code → MakesWide i → is_once (times m) i ≡ true →
           (v : MayMove m i next) × IsWide v.word
       may_of {i} {next} s w once = (
         record {
@@ -357,8 +357,8 @@ module _ (m : Mach) where
         w.wide,
       )
         where
-          wrote : Among (w.register).number i.results
-          wrote = subst (λ (i : Instr). Among (w.register).number i.results) (sym w.is) (first refl)
+          wrote : AmongRegisters (w.register).number i.results
+          wrote = subst (λ (i : Instr). AmongRegisters (w.register).number i.results) (sym w.is) (first refl)
 
           is_register : IsRegister m w.register
           is_register =
@@ -370,7 +370,7 @@ module _ (m : Mach) where
               eqb-true (times m (w.register).number) 1
               (and_parts (nat_eq (times m (w.register).number) 1) true (sym (ap (is_once (times m)) w.is) ∙ once)).0
 
-      pub moved_of : {i : Instr} {next : List Instr} (p : ℕ) → Stands i next m.code → IsPlace m.code next p → IsCalmWide m.code calls p →
+      pub moved_of : {i : Instr} {next : List Instr} (p : ℕ) → StandsAsInstr i next m.code → IsPlace m.code next p → IsCalmWide m.code calls p →
           is_once (times m) i ≡ true → IsMoved m i next
       moved_of {i} {next} p s place w once =
           record {
@@ -384,7 +384,7 @@ module _ (m : Mach) where
           wide : MakesWide i
           wide = makes_told i (ap makes_wide (same_item (slice_get m.code p) i w.instr (at_of s p place) w.at) ∙ w.wide)
 
-          calm : (loop : List Instr) → IsLoopRound m (i ∷ next) loop → (c : Instr) (others : List Instr) → Stands c others m.code →
+          calm : (loop : List Instr) → IsLoopRound m (i ∷ next) loop → (c : Instr) (others : List Instr) → StandsAsInstr c others m.code →
               destroyed_by c.op ≡ Everything → length (c ∷ others) < length loop
           calm loop r c others t all =
               let known_round = round_told p place r in

@@ -9,7 +9,7 @@ use Rattle.mach_ir.specs.Labels.{label_of}
 use Rattle.mach_ir.specs.Meaning.{Everything, destroyed_by}
 use Rattle.mach_ir.specs.declared.mach.Instr.{Instr}
 use Rattle.hoist.specs.Constants.{makes_wide}
-use Rattle.hoist.specs.Loops.{exit_of, IsAbove, IsExitTo, AreEnds, end_noted, end_by, end_of, EndsFrom, IsCalmWide, is_calm_wide, flag_at, AreFlags}
+use Rattle.hoist.specs.Loops.{exit_of, IsAbove, IsExitTo, AreEnds, end_noted, end_by, loop_end, EndsFrom, IsCalmWide, is_calm_wide, flag_at, AreFlags}
 
 pub same_item : {X : Type 0} (o : Option X) (x y : X) → o ≡ Some x → o ≡ Some y → x ≡ y
 same_item o x y e h = cc
@@ -199,7 +199,7 @@ module _ (code : List Instr) (p : ℕ) (i : Instr) (at : slice_get code p ≡ So
           let same : max r (ends l) ≡ r = omega (arith, le) in
           ⊎_elim (λ z. inl (same ∙ z)) (λ w. inr (w.0, same ∙ w.1, earlier w.0 w.2)) a.least
 
-  pub reach_more : (r new : ℕ) → new ≡ max r (end_of ends i.op) → IsAbove (EndsFrom code p) r → IsAbove (EndsFrom code (p + 1)) new
+  pub reach_more : (r new : ℕ) → new ≡ max r (loop_end ends i.op) → IsAbove (EndsFrom code p) r → IsAbove (EndsFrom code (p + 1)) new
   reach_more r new e a =
       subst (λ q. IsAbove (EndsFrom code q) new) (next p)
       (subst (IsAbove (EndsFrom code (suc p))) (sym e) (reach_by r (label_of i.op) refl a))

@@ -8,7 +8,7 @@ use Rattle.mach_ir.specs.declared.reg.Reg.{Reg}
 use Rattle.mach_ir.specs.declared.mach.MachOp.{MachOp}
 use Rattle.mach_ir.specs.declared.mach.MachOp.TheVariants as mach
 use Rattle.mach_ir.specs.declared.mach.Instr.{Instr}
-use Rattle.mach_ir.specs.Places.{is_open, are_none}
+use Rattle.mach_ir.specs.Places.{is_unset_location, are_none}
 
 -- no word that twelve bits give, sign extended
 abbrev pub is_wide : ℕ → Bool
@@ -33,7 +33,7 @@ constant_of (mach.Mark f) = None
 -- one open register in which a word fits
 abbrev pub can_hold : ℕ → List Reg → Bool
 can_hold w [] = false
-can_hold w (r ∷ []) = is_open r.loc && fits_always r.comp w
+can_hold w (r ∷ []) = is_unset_location r.loc && fits_always r.comp w
 can_hold w (r ∷ q ∷ rs) = false
 
 abbrev pub holds_wide : Option ℕ → List Reg → List Reg → Bool

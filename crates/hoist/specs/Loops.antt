@@ -48,8 +48,8 @@ end_by ends None = 0
 end_by ends (Some l) = ends l
 
 -- the place after the last exit to the label that is here
-abbrev pub end_of : (ℕ → ℕ) → MachOp → ℕ
-end_of ends f = end_by ends (label_of f)
+abbrev pub loop_end : (ℕ → ℕ) → MachOp → ℕ
+loop_end ends f = end_by ends (label_of f)
 
 -- at a place ends what begins with a label before another place
 pub record EndsFrom (code : List Instr) (from end : ℕ) : Type 0 where

@@ -9,8 +9,8 @@ abbrev pub none_moves : List Bool → Bool
 none_moves flags = list_all not flags
 
 -- whether a flag stays
-abbrev pub stays : Bool → (ℕ → ℕ) → Instr → Bool
-stays flag writes i = flag && is_once writes i
+abbrev pub flag_stays : Bool → (ℕ → ℕ) → Instr → Bool
+flag_stays flag writes i = flag && is_once writes i
 
 -- the flag of a place stays
 pub record StaysAt (flags : List Bool) (code : List Instr) (writes : ℕ → ℕ) (p : ℕ) : Type 0 where

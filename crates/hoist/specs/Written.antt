@@ -11,17 +11,17 @@ more zero = 1
 more (suc n) = 2
 
 -- how often a number is written by these after so many times before
-abbrev pub noted : ℕ → List Reg → ℕ → ℕ
-noted n [] t = t
-noted n (r ∷ rs) t = noted n rs (cond (nat_eq r.number n) (more t) t)
+abbrev pub writes_counted : ℕ → List Reg → ℕ → ℕ
+writes_counted n [] t = t
+writes_counted n (r ∷ rs) t = writes_counted n rs (cond (nat_eq r.number n) (more t) t)
 
 abbrev pub noted_in : ℕ → List Instr → ℕ → ℕ
 noted_in n [] t = t
-noted_in n (i ∷ is) t = noted_in n is (noted n i.results t)
+noted_in n (i ∷ is) t = noted_in n is (writes_counted n i.results t)
 
 -- in a function, whose entry writes the parameters
 abbrev pub times : Mach → ℕ → ℕ
-times m n = noted_in n m.code (noted n m.params 0)
+times m n = noted_in n m.code (writes_counted n m.params 0)
 
 abbrev pub is_once : (ℕ → ℕ) → Instr → Bool
 is_once writes i = list_all (λ (r : Reg). nat_eq (writes r.number) 1) i.results

@@ -5,8 +5,8 @@ ghost use Rattle.mach_ir.specs.Walks.{IsRegister};
 ghost use Rattle.mach_ir.specs.declared.reg.Reg.{Reg};
 ghost use Rattle.hoist_rules.specs.Chosen.{AreChosen};
 ghost use Rattle.hoist.specs.Loops.{AreFlags};
-ghost use Rattle.hoist.specs.Moves.{stays, StaysAt, moves_by, none_moves};
-ghost use Rattle.hoist.specs.Tables.{entry};
+ghost use Rattle.hoist.specs.Moves.{flag_stays, StaysAt, moves_by, none_moves};
+ghost use Rattle.hoist.specs.Tables.{table_entry};
 ghost use Rattle.hoist.specs.Written.{is_once};
 
 use crate::calls::first_call;
@@ -26,7 +26,7 @@ pub fn none_moves(flags: &[bool]) -> bool
 
 /// Whether the flag of the instruction stays: nothing else writes its results.
 fn stays(flag: bool, writes: &Table, instr: &Instr) -> bool
-    ensures { result ≡ stays flag (entry writes.now) instr.now }
+    ensures { result ≡ flag_stays flag (table_entry writes.now) instr.now }
 {
     flag && is_once(writes, instr)
 }
@@ -40,7 +40,7 @@ fn written_once(
 ) -> Result<Vec<bool>, AllocError>
     requires { length flags.now ≤ length code.now }
     ensures { IfOk result (λ kept.
-        AreFlags (StaysAt flags.now code.now (entry writes.now)) (length flags.now) kept.items) }
+        AreFlags (StaysAt flags.now code.now (table_entry writes.now)) (length flags.now) kept.items) }
 {
     let mut kept = Vec::with_capacity(alloc, flags.len())?;
     for place in 0..flags.len() {

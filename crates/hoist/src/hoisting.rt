@@ -4,7 +4,7 @@ ghost use Rattle.mach_ir.specs.Formed.{WellFormed};
 ghost use Rattle.mach_ir.specs.Walks.{IsRegister};
 ghost use Rattle.mach_ir.specs.declared.reg.Reg.{Reg};
 ghost use Rattle.mach_laws.specs.Expand.{expand};
-ghost use Rattle.hoist_rules.specs.Hoisted.{moved};
+ghost use Rattle.hoist_rules.specs.Hoisted.{hoisted_instruction};
 ghost use Rattle.hoist_rules.specs.Chosen.{HasConstantsFirst};
 ghost use Rattle.hoist.specs.Loops.{flag_at};
 ghost use Rattle.hoist.specs.Moves.{moves_by, left};
@@ -46,7 +46,7 @@ fn put(
 /// The instructions that move, and then the others.
 fn moved_first(alloc: Global, flags: &[bool], code: Seq<Instr>) -> Result<Seq<Instr>, AllocError>
     ensures { IfOk result (λ made. made
-        ≡ expand (moved (moves_by flags.now (length code))) code
+        ≡ expand (hoisted_instruction (moves_by flags.now (length code))) code
         ++ expand (left (moves_by flags.now (length code))) code) }
 {
     let count = code.len();

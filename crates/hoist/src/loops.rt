@@ -1,7 +1,7 @@
 //! Loops, by the text.
 ghost use Rattle.std.specs.Prelude.{◌≡◌, ◌≤◌, ◌&&◌, ℕ, length, IfOk};
-ghost use Rattle.hoist.specs.Loops.{exit_of, end_of, end_noted, is_calm_wide, AreEnds, AreFlags, IsCalmWide};
-ghost use Rattle.hoist.specs.Tables.{entry};
+ghost use Rattle.hoist.specs.Loops.{exit_of, loop_end, end_noted, is_calm_wide, AreEnds, AreFlags, IsCalmWide};
+ghost use Rattle.hoist.specs.Tables.{table_entry};
 
 use crate::constants::makes_wide;
 use crate::table::Table;
@@ -46,7 +46,7 @@ fn exit_of(op: &MachOp) -> Option<Label>
 /// Notes the exit, after which this place comes, if it is one.
 fn note_exit(ends: &mut Table, op: &MachOp, after: usize) -> Result<(), AllocError>
     ensures { IfOk result (λ _. (l : ℕ) →
-        entry ends.new l ≡ end_noted (exit_of op.now) after (entry ends.old) l) }
+        table_entry ends.new l ≡ end_noted (exit_of op.now) after (table_entry ends.old) l) }
 {
     match exit_of(op) {
         None => Ok(()),
@@ -56,7 +56,7 @@ fn note_exit(ends: &mut Table, op: &MachOp, after: usize) -> Result<(), AllocErr
 
 /// For each label the place after the last exit to it, or 0. The only error is want of memory.
 pub fn last_exits(alloc: Global, code: &[Instr]) -> Result<Table, AllocError>
-    ensures { IfOk result (λ ends. AreEnds code.now (entry ends)) }
+    ensures { IfOk result (λ ends. AreEnds code.now (table_entry ends)) }
 {
     let mut ends = Table::new(alloc);
     for place in 0..code.len() {
@@ -67,7 +67,7 @@ pub fn last_exits(alloc: Global, code: &[Instr]) -> Result<Table, AllocError>
 
 /// The place after the last exit to the label that is here, or 0.
 fn end_of(ends: &Table, op: &MachOp) -> usize
-    ensures { result ≡ end_of (entry ends.now) op.now }
+    ensures { result ≡ loop_end (table_entry ends.now) op.now }
 {
     match op.own_label() {
         None => 0,
@@ -90,7 +90,7 @@ pub fn in_calm_loops(
     ends: &Table,
     calls: usize,
 ) -> Result<Vec<bool>, AllocError>
-    requires ends { AreEnds code.now (entry ends.now) }
+    requires ends { AreEnds code.now (table_entry ends.now) }
     requires within { calls ≤ length code.now }
     ensures { IfOk result (λ flags. AreFlags (IsCalmWide code.now calls) calls flags.items) }
 {

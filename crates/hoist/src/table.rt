@@ -1,6 +1,6 @@
 //! A table by number.
 ghost use Rattle.std.specs.Prelude.{◌≡◌, ℕ, cond, nat_eq, IfOk};
-ghost use Rattle.hoist.specs.Tables.{entry};
+ghost use Rattle.hoist.specs.Tables.{table_entry};
 
 use std::alloc::{AllocError, Global};
 
@@ -14,7 +14,7 @@ pub struct Table {
 impl Table {
     /// Nothing was put. It takes no memory.
     pub fn new(alloc: Global) -> Table
-        ensures { (n : ℕ) → entry result n ≡ 0 }
+        ensures { (n : ℕ) → table_entry result n ≡ 0 }
     {
         Table {
             entries: Vec::new(alloc),
@@ -23,7 +23,7 @@ impl Table {
 
     /// What was put at the number last, or 0.
     pub fn get(&self, number: u32) -> usize
-        ensures { result ≡ entry self.now number }
+        ensures { result ≡ table_entry self.now number }
     {
         match self.entries.get(number as usize) {
             None => 0,
@@ -34,7 +34,7 @@ impl Table {
     /// Puts it at the number. After an error nothing is known of the table.
     pub fn put(&mut self, number: u32, new: usize) -> Result<(), AllocError>
         ensures { IfOk result (λ _. (n : ℕ) →
-            entry self.new n ≡ cond (nat_eq number n) new (entry self.old n)) }
+            table_entry self.new n ≡ cond (nat_eq number n) new (table_entry self.old n)) }
     {
         let index = number as usize;
         if index < self.entries.len() {

@@ -1,7 +1,7 @@
 //! How often registers are written.
 ghost use Rattle.std.specs.Prelude.{◌≡◌, ℕ, IfOk};
-ghost use Rattle.hoist.specs.Tables.{entry};
-ghost use Rattle.hoist.specs.Written.{more, noted, noted_in, times, is_once};
+ghost use Rattle.hoist.specs.Tables.{table_entry};
+ghost use Rattle.hoist.specs.Written.{more, writes_counted, noted_in, times, is_once};
 
 use crate::table::Table;
 use mach_ir::{Instr, Mach, Reg};
@@ -16,7 +16,7 @@ fn more(times: usize) -> usize
 
 fn note_writes(writes: &mut Table, regs: &[Reg]) -> Result<(), AllocError>
     ensures { IfOk result (λ _. (n : ℕ) →
-        entry writes.new n ≡ noted n regs.now (entry writes.old n)) }
+        table_entry writes.new n ≡ writes_counted n regs.now (table_entry writes.old n)) }
 {
     for reg in regs {
         let times = more(writes.get(reg.number));
@@ -27,7 +27,7 @@ fn note_writes(writes: &mut Table, regs: &[Reg]) -> Result<(), AllocError>
 
 fn note_code(writes: &mut Table, code: &[Instr]) -> Result<(), AllocError>
     ensures { IfOk result (λ _. (n : ℕ) →
-        entry writes.new n ≡ noted_in n code.now (entry writes.old n)) }
+        table_entry writes.new n ≡ noted_in n code.now (table_entry writes.old n)) }
 {
     for instr in code {
         note_writes(writes, instr.results.as_slice())?;
@@ -39,7 +39,7 @@ fn note_code(writes: &mut Table, code: &[Instr]) -> Result<(), AllocError>
 /// parameters. What an instruction destroys is at a colour, and is not counted.
 /// The only error is want of memory.
 pub fn times_written(alloc: Global, mach: &Mach) -> Result<Table, AllocError>
-    ensures { IfOk result (λ writes. (n : ℕ) → entry writes n ≡ times mach.now n) }
+    ensures { IfOk result (λ writes. (n : ℕ) → table_entry writes n ≡ times mach.now n) }
 {
     let mut writes = Table::new(alloc);
     note_writes(&mut writes, mach.params.as_slice())?;
@@ -49,7 +49,7 @@ pub fn times_written(alloc: Global, mach: &Mach) -> Result<Table, AllocError>
 
 /// Whether its results are written nowhere else.
 pub fn is_once(writes: &Table, instr: &Instr) -> bool
-    ensures { result ≡ is_once (entry writes.now) instr.now }
+    ensures { result ≡ is_once (table_entry writes.now) instr.now }
 {
     instr
         .results

@@ -6,19 +6,19 @@ use Rattle.std.proofs.lemmas.List.Elements.{Contains-get_or, All-contains}
 use Rattle.std.proofs.Math.Nat.{le_of_eq}
 use Rattle.mach_ir.specs.Formed.{is_exit, WellFormed}
 use Rattle.mach_ir.specs.Meaning.{passes_frame, tries_at}
-use Rattle.mach_ir.specs.Walks.{Stands, here, below}
+use Rattle.mach_ir.specs.Walks.{StandsAsInstr, here, below}
 use Rattle.mach_ir.specs.declared.mach.Instr.{Instr}
 use Rattle.mach_ir.specs.declared.mach.Mach.{Mach}
 use Rattle.mach_laws.specs.Expand.{expand}
 use Rattle.mach_laws.proofs.Places.{tries_expand}
 use Rattle.pass_rules.specs.Carried.{OffsetFits, IsCarried}
-use Rattle.pass_rules.specs.Measures.{instr_words, code_words, one_if, code_points, exits, operands_with, other_operands}
+use Rattle.pass_rules.specs.Measures.{instr_words, code_words, one_if_true, code_points, exit_count, operands_with, other_operands}
 use Rattle.pass_rules.proofs.Carried.{exit_one, ends_second}
-use Rattle.dead_rules.specs.Dropped.{without}
+use Rattle.dead_rules.specs.Dropped.{unless_dropped}
 use Rattle.dead_rules.proofs.Left.{IsMain, was_main, still_ends, tries_here}
 use Rattle.dead_rules.proofs.Text.{keeps_marks}
 use Rattle.bs_words.proofs.Lists.{tail_same}
-use Rattle.hoist_rules.specs.Hoisted.{moved, hoisted, MayAllMove, IsHoisted, IsKept}
+use Rattle.hoist_rules.specs.Hoisted.{hoisted_instruction, hoisted, MayAllMove, IsHoisted, IsHoistKept}
 use Rattle.hoist_rules.proofs.Moved as at_entry_of
 use Rattle.hoist_rules.proofs.Whole as whole
 
@@ -30,24 +30,24 @@ module _ (m : Mach) (moves : ℕ → Bool) (may : MayAllMove m moves) (formed : 
   rest_of = at_entry_of.rest_of m moves may
 
   abbrev f : ℕ → Instr → List Instr
-  f = without moves
+  f = unless_dropped moves
 
   abbrev front : List Instr
-  front = expand (moved moves) m.code
+  front = expand (hoisted_instruction moves) m.code
 
   -- no try is round the entry
   front_tries : {j : Instr} {zs xs : List Instr} → at_entry_of.Front m moves may xs → {code : List Instr} →
-      code ≡ xs ++ rest_of.code → Stands j zs code →
+      code ≡ xs ++ rest_of.code → StandsAsInstr j zs code →
       (tries_at (j ∷ zs) ≡ tries_at rest_of.code) ⊎ IsMain moves j zs m.code
   front_tries {j} {zs} at_entry_of.front_end e s =
-      inr (was_main moves m.code j zs (subst (Stands j zs) e s))
+      inr (was_main moves m.code j zs (subst (StandsAsInstr j zs) e s))
   front_tries (at_entry_of.front_one s h k) e here =
       inl
       (ap tries_at e ∙ at_entry_of.tries_past_front m moves may rest_of.code (at_entry_of.front_one s h k))
   front_tries (at_entry_of.front_one s h k) e (below t) = front_tries k (tail_same e) t
 
-  few_tries : (most : ℕ) → ((i : Instr) (next : List Instr) → Stands i next m.code → length (tries_at (i ∷ next)) ≤ most) →
-      (i : Instr) (zs : List Instr) → Stands i zs q.code → length (tries_at (i ∷ zs)) ≤ most
+  few_tries : (most : ℕ) → ((i : Instr) (next : List Instr) → StandsAsInstr i next m.code → length (tries_at (i ∷ next)) ≤ most) →
+      (i : Instr) (zs : List Instr) → StandsAsInstr i zs q.code → length (tries_at (i ∷ zs)) ≤ most
   few_tries most known i zs s =
       ⊎_elim
       (λ e.
@@ -66,10 +66,10 @@ module _ (m : Mach) (moves : ℕ → Bool) (may : MayAllMove m moves) (formed : 
   carried =
       record {
         words = let e = whole.sum_same m moves may code_words instr_words refl (λ i is. refl) in omega (arith, e);
-        points = le_of_eq (whole.sum_same m moves may code_points (λ (i : Instr). one_if (passes_frame i.op)) refl (λ i is. refl));
+        points = le_of_eq (whole.sum_same m moves may code_points (λ (i : Instr). one_if_true (passes_frame i.op)) refl (λ i is. refl));
         operands = le_of_eq (whole.sum_same m moves may other_operands (λ (i : Instr). operands_with i.op i.args i.results) refl (λ i is. refl));
-        exits = le_of_eq (whole.sum_same m moves may exits (λ (i : Instr). cond (is_exit i.op) 1 0) refl
-            (λ (i : Instr) is. exit_one (is_exit i.op) (exits is)));
+        exits = le_of_eq (whole.sum_same m moves may exit_count (λ (i : Instr). cond (is_exit i.op) 1 0) refl
+            (λ (i : Instr) is. exit_one (is_exit i.op) (exit_count is)));
         tries = λ most known i zs s. few_tries most known i zs s;
         offsets = λ fit k d lt.
             All-contains (λ (i : Instr). OffsetFits i.op) m.code (slice_index_or q.code k d) fit
@@ -78,7 +78,7 @@ module _ (m : Mach) (moves : ℕ → Bool) (may : MayAllMove m moves) (formed : 
         colours_low = λ low r k c i e. low r k c (whole.was m moves may k i) e;
       }
 
-  pub kept_by : IsKept m (hoisted moves m)
+  pub kept_by : IsHoistKept m (hoisted moves m)
   kept_by =
       record {
         keeps = whole.still_keeps m moves may formed;
@@ -93,5 +93,5 @@ module _ (m : Mach) (moves : ℕ → Bool) (may : MayAllMove m moves) (formed : 
       }
 
 -- A function whose constants are made at the entry is kept.
-pub hoisted_kept : (m q : Mach) → WellFormed m → IsHoisted m q → IsKept m q
-hoisted_kept m q formed h = subst (IsKept m) (sym h.is) (kept_by m h.moves h.may formed)
+pub hoisted_kept : (m q : Mach) → WellFormed m → IsHoisted m q → IsHoistKept m q
+hoisted_kept m q formed h = subst (IsHoistKept m) (sym h.is) (kept_by m h.moves h.may formed)

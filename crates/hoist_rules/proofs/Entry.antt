@@ -13,10 +13,10 @@ use Rattle.bs_words.specs.declared.values.Value.TheVariants as value
 use Rattle.bs_words.proofs.Lists.{first_in, head_same}
 use Rattle.mach_ir.specs.Acts.{Around, AtHandler, Act, Goes, Pushes, Jumps, Unwinds, Asks, Replaces, Ends, EndsRaising, Stuck}
 use Rattle.mach_ir.specs.Formed.{WellFormed}
-use Rattle.mach_ir.specs.Runs.{Place, asked, Continues, Pays, Waits, Tally, Run, Running, runs, onward}
-use Rattle.mach_ir.specs.Meaning.{is_addr, Held, State, File, put, put_if, put_all, clear, killed, written, values, past_frame, passes_frame, mach_act, wrote, on_act, on_values, step, run}
-use Rattle.mach_ir.specs.Walks.{Among, first, Live, IsRegister, in_results, is_in_code, is_param, Stands, here, below}
-use Rattle.mach_ir.specs.Keeps.{ValsWritten, OriginsAgree, wrote_unless, wrote_at, just_written, Alike, SuitRound, Comes}
+use Rattle.mach_ir.specs.Runs.{ActivationSetting, asked_call, Continues, Pays, Waits, Tally, RunProgress, Running, runs, run_onward}
+use Rattle.mach_ir.specs.Meaning.{is_addr, Held, State, File, assign_register, put_if, put_all, clear_registers, killed, registers_written, values, past_frame, passes_frame, mach_act, wrote, on_act, on_values, step, run_of_mach}
+use Rattle.mach_ir.specs.Walks.{AmongRegisters, first, Live, IsRegister, in_results, is_in_code, is_param, StandsAsInstr, here, below}
+use Rattle.mach_ir.specs.Keeps.{ValsWritten, OriginsAgree, wrote_unless, wrote_at, just_written, RunsAlike, SuitRound, Comes}
 use Rattle.mach_ir.specs.declared.op.Op.TheVariants as op
 use Rattle.mach_ir.specs.declared.op.Pure.TheVariants as pure
 use Rattle.mach_ir.specs.declared.reg.Reg.{Reg}
@@ -44,7 +44,7 @@ always_fits {w = w} end (an_odd_val e) = ap (λ n. (n == 1) || (nat_le data_star
 
 -- a write of a word that fits
 pub puts_one : (end : ℕ) (r : Reg) (w : ℕ) (g : File) → FitsAlways r.comp w →
-    put_all end (r ∷ []) (value.Word w ∷ []) g ≡ Some (put r (value.Word w) g)
+    put_all end (r ∷ []) (value.Word w ∷ []) g ≡ Some (assign_register r (value.Word w) g)
 puts_one end r w g h = ap (λ b. put_if b r (value.Word w) (Some g)) (always_fits end h)
 
 pub never_addr : {t : Comp} {w : ℕ} → FitsAlways t w → is_addr t ≡ false
@@ -83,7 +83,7 @@ module _ (m : Mach) (moves : ℕ → Bool) (may : MayAllMove m moves) where
       held_with : Comp → ℕ → Held
       held_with c w = record { comp = c; value = value.Word w }
 
-  abbrev pub made_by_it : {n : ℕ} {i : Instr} {next : List Instr} → Stands i next m.code → (h : moves (length next) ≡ true) →
+  abbrev pub made_by_it : {n : ℕ} {i : Instr} {next : List Instr} → StandsAsInstr i next m.code → (h : moves (length next) ≡ true) →
       (v : MayMove m i next) → (v.register).number ≡ n → IsMade n
   made_by_it {n} {i} {next} s h v e =
       record {
@@ -91,25 +91,25 @@ module _ (m : Mach) (moves : ℕ → Bool) (may : MayAllMove m moves) where
         next = next;
         stands = s;
         moves_so = h;
-        among = subst (λ (i : Instr). Among n i.results) (sym v.is) (first e);
+        among = subst (λ (i : Instr). AmongRegisters n i.results) (sym v.is) (first e);
       }
 
   -- the file after so much of the entry
   abbrev pub filled : {xs : List Instr} → Front xs → File → File
   filled at_entry_of.front_end b = b
   filled (at_entry_of.front_one {i = i} {next = next} s h k) b =
-      filled k (put (may i next s h).register (value.Word (may i next s h).word) b)
+      filled k (assign_register (may i next s h).register (value.Word (may i next s h).word) b)
 
   pub filled_other : {xs : List Instr} (k : Front xs) (b : File) (n : ℕ) → (IsMade n → ⊥) → filled k b n ≡ b n
   filled_other at_entry_of.front_end b n free = refl
   filled_other (at_entry_of.front_one {i = i} {next = next} s h k) b n free =
       let v = may i next s h in
-      filled_other k (put v.register (value.Word v.word) b) n free
+      filled_other k (assign_register v.register (value.Word v.word) b) n free
       ∙ put_other v.register (value.Word v.word) b n (λ e. free (made_by_it s h v e))
 
-  put_stays : {n : ℕ} {i : Instr} {next : List Instr} → Stands i next m.code → (h : moves (length next) ≡ true) →
+  put_stays : {n : ℕ} {i : Instr} {next : List Instr} → StandsAsInstr i next m.code → (h : moves (length next) ≡ true) →
       (v : MayMove m i next) (b : File) (a : IsMade n) → b n ≡ Some (held a) →
-      put v.register (value.Word v.word) b n ≡ Some (held a)
+      assign_register v.register (value.Word v.word) b n ≡ Some (held a)
   put_stays {n} s h v b a e =
       ⊎_elim
       (λ t.
@@ -125,19 +125,19 @@ module _ (m : Mach) (moves : ℕ → Bool) (may : MayAllMove m moves) where
   filled_stays at_entry_of.front_end b a e = e
   filled_stays (at_entry_of.front_one {i = i} {next = next} s h k) b a e =
       let v = may i next s h in
-      filled_stays k (put v.register (value.Word v.word) b) a (put_stays s h v b a e)
+      filled_stays k (assign_register v.register (value.Word v.word) b) a (put_stays s h v b a e)
 
-  filled_at : {n : ℕ} {j : Instr} {xs ys : List Instr} (k : Front xs) (b : File) (a : IsMade n) → a.instr ≡ j → Stands j ys xs →
+  filled_at : {n : ℕ} {j : Instr} {xs ys : List Instr} (k : Front xs) (b : File) (a : IsMade n) → a.instr ≡ j → StandsAsInstr j ys xs →
       filled k b n ≡ Some (held a)
   filled_at at_entry_of.front_end b a e t = elim t [ ]
   filled_at {n} (at_entry_of.front_one {i = i} {next = next} s h k) b a e here =
       let v = may i next s h in
-      filled_stays k (put v.register (value.Word v.word) b) a
+      filled_stays k (assign_register v.register (value.Word v.word) b) a
       (put_here v.register (value.Word v.word) b n
-      (at_entry_of.number_of m moves may v (subst (λ (i : Instr). Among n i.results) e a.among))
+      (at_entry_of.number_of m moves may v (subst (λ (i : Instr). AmongRegisters n i.results) e a.among))
       ∙ ap Some (same_held v (at_entry_of.move_of m moves may a) (sym e)))
   filled_at (at_entry_of.front_one {i = i} {next = next} s h k) b a e (below t) =
-      let v = may i next s h in filled_at k (put v.register (value.Word v.word) b) a e t
+      let v = may i next s h in filled_at k (assign_register v.register (value.Word v.word) b) a e t
 
   abbrev pub entry_file : File → File
   entry_file b = filled (at_entry_of.whole_front m moves may) b
@@ -184,14 +184,14 @@ module _ (m : Mach) (moves : ℕ → Bool) (may : MayAllMove m moves) where
               known.agree r k (live.to_rest m moves may r i) (live.to_rest m moves may k j) origin (lived r l) (lived k e) u v x y;
         }
       where
-        lived : (r : Reg) → Live q r.number s.rest ⊎ Among r.number ws → Live rest_of r.number s.rest ⊎ Among r.number ws
+        lived : (r : Reg) → Live q r.number s.rest ⊎ AmongRegisters r.number ws → Live rest_of r.number s.rest ⊎ AmongRegisters r.number ws
         lived r l = ⊎_elim (λ v. inl (live.live_same m moves may v)) inr l
 
-    module _ (c : Place) where
+    module _ (c : ActivationSetting) where
       act_same : (i : Instr) (next : List Instr) (g : File) (a : Around) (act : Act) →
           on_act c q i next g a act ≡ on_act c rest_of i next g a act
       act_same i next g a (Goes vs to after) =
-          ap (λ code. wrote code after (put_all c.setting.end i.results vs (clear (killed m i) g)))
+          ap (λ code. wrote code after (put_all c.setting.end i.results vs (clear_registers (killed m i) g)))
           (at_entry_of.code_same m moves may next to)
       act_same i next g a (Pushes after) = refl
       act_same i next g a (Jumps to after) =
@@ -199,7 +199,7 @@ module _ (m : Mach) (moves : ℕ → Bool) (may : MayAllMove m moves) where
       act_same i next g a (Unwinds after) =
           ap (λ code. Continues (at code g after)) (at_entry_of.land_same m moves may (i ∷ next) AtHandler)
       act_same i next g a (Asks callee vs go) =
-          ap (λ go. Waits (asked c callee vs false a) go) (fun_ext (λ d. act_same i next g a (go d)))
+          ap (λ go. Waits (asked_call c callee vs false a) go) (fun_ext (λ d. act_same i next g a (go d)))
       act_same i next g a (Replaces callee vs kept) = refl
       act_same i next g a (Ends d) = refl
       act_same i next g a (EndsRaising d) = refl
@@ -218,19 +218,19 @@ module _ (m : Mach) (moves : ℕ → Bool) (may : MayAllMove m moves) where
       step_same : (s : State) → step c q s ≡ step c rest_of s
       step_same s = step_at s.rest s.file s.around
 
-      run_same : (n : ℕ) (s : State) (t : Tally) → run c q n s t ≡ run c rest_of n s t
+      run_same : (n : ℕ) (s : State) (t : Tally) → run_of_mach c q n s t ≡ run_of_mach c rest_of n s t
       run_same n s t = ap (λ go. runs go n s t) (fun_ext step_same)
 
       wrote_same : (rest : List Instr) → wrote_at rest_of rest ≡ wrote_at q rest
       wrote_same [] = refl
       wrote_same (i ∷ next) = refl
 
-      pub comes_same : {Suit : Around → Around → Type 0} {r : Run State} {s : State} {t : Tally} →
+      pub comes_same : {Suit : Around → Around → Type 0} {r : RunProgress State} {s : State} {t : Tally} →
           Comes Suit r c rest_of s t → Comes Suit r c q s t
       comes_same {Suit} {r} {s} {t} h =
           record {
             steps = h.steps;
-            alike = subst (Alike (SuitRound Suit) r) (sym (run_same h.steps s t)) h.alike;
+            alike = subst (RunsAlike (SuitRound Suit) r) (sym (run_same h.steps s t)) h.alike;
             proper = record {
               goes = λ e. (h.proper).goes (sym (run_same h.steps s t) ∙ e);
               vals = λ k lt u y e. vals_same u ((h.proper).vals k lt u y (sym (run_same k s t) ∙ e));
@@ -243,19 +243,19 @@ module _ (m : Mach) (moves : ℕ → Bool) (may : MayAllMove m moves) where
 
       -- ---- one step more before it
 
-      comes_after : {Suit : Around → Around → Type 0} {r : Run State} {s u : State} {t : Tally} → step c q s ≡ Continues u →
+      comes_after : {Suit : Around → Around → Type 0} {r : RunProgress State} {s u : State} {t : Tally} → step c q s ≡ Continues u →
           ValsWritten q s → Agrees q (wrote_at q s.rest) u → Comes Suit r c q u t → Comes Suit r c q s t
       comes_after {Suit} {r} {s} {u} {t} e known agree h =
           record {
             steps = suc h.steps;
-            alike = subst (Alike (SuitRound Suit) r) (sym (shift h.steps)) h.alike;
+            alike = subst (RunsAlike (SuitRound Suit) r) (sym (shift h.steps)) h.alike;
             proper = record { goes = λ w. (h.proper).goes (sym (shift h.steps) ∙ w); vals = vals_by; origins = origins_by };
           }
         where
-          shift : (k : ℕ) → run c q (suc k) s t ≡ run c q k u t
-          shift k = ap (λ x. onward (run c q k) x t) e
+          shift : (k : ℕ) → run_of_mach c q (suc k) s t ≡ run_of_mach c q k u t
+          shift k = ap (λ x. run_onward (run_of_mach c q k) x t) e
 
-          vals_by : (k : ℕ) → k < suc h.steps → (v : State) (y : Tally) → run c q k s t ≡ Running v y → ValsWritten q v
+          vals_by : (k : ℕ) → k < suc h.steps → (v : State) (y : Tally) → run_of_mach c q k s t ≡ Running v y → ValsWritten q v
           vals_by zero lt v y w = subst (ValsWritten q) (running_same s v t y w) known
           vals_by (suc k) lt v y w = (h.proper).vals k (omega (arith, lt)) v y (sym (shift k) ∙ w)
 
@@ -264,8 +264,8 @@ module _ (m : Mach) (moves : ℕ → Bool) (may : MayAllMove m moves) where
               subst (λ (x : State). OriginsAgree q (just_written q x w) w) a
               (subst (λ (x : State). OriginsAgree q (just_written q s x) x) b agree)
 
-          origins_by : (k : ℕ) → k < suc h.steps → (v w : State) (y z : Tally) → run c q k s t ≡ Running v y →
-              run c q (suc k) s t ≡ Running w z → OriginsAgree q (just_written q v w) w
+          origins_by : (k : ℕ) → k < suc h.steps → (v w : State) (y z : Tally) → run_of_mach c q k s t ≡ Running v y →
+              run_of_mach c q (suc k) s t ≡ Running w z → OriginsAgree q (just_written q v w) w
           origins_by zero lt v w y z a b = first_by v w (running_same s v t y a) (running_same u w t z (sym (shift 0) ∙ b))
           origins_by (suc k) lt v w y z a b =
               (h.proper).origins k (omega (arith, lt)) v w y z (sym (shift k) ∙ a) (sym (shift (suc k)) ∙ b)
@@ -274,9 +274,9 @@ module _ (m : Mach) (moves : ℕ → Bool) (may : MayAllMove m moves) where
 
     -- parameters alone hold something, and what has been made
     abbrev pub Holds : File → Type 0
-    Holds b = (n : ℕ) → (b n ≡ None) ⊎ (Among n m.params ⊎ IsMade n)
+    Holds b = (n : ℕ) → (b n ≡ None) ⊎ (AmongRegisters n m.params ⊎ IsMade n)
 
-    param_origin : (r : Reg) → IsRegister m r → Among r.number m.params → r.origin ≡ r.number
+    param_origin : (r : Reg) → IsRegister m r → AmongRegisters r.number m.params → r.origin ≡ r.number
     param_origin r i a =
         let k = member m.params a in
         subst (λ (r : Reg). r.origin ≡ r.number) (formed.numbers k.reg r (is_param k.among) i k.number)
@@ -291,8 +291,8 @@ module _ (m : Mach) (moves : ℕ → Bool) (may : MayAllMove m moves) where
         }
       where
         by : (r k : Reg) → IsRegister m r → IsRegister m k → r.origin ≡ k.origin → (u v : Held) → b r.number ≡ Some u →
-            b k.number ≡ Some v → (b r.number ≡ None) ⊎ (Among r.number m.params ⊎ IsMade r.number) →
-            (b k.number ≡ None) ⊎ (Among k.number m.params ⊎ IsMade k.number) → u.value ≡ v.value
+            b k.number ≡ Some v → (b r.number ≡ None) ⊎ (AmongRegisters r.number m.params ⊎ IsMade r.number) →
+            (b k.number ≡ None) ⊎ (AmongRegisters k.number m.params ⊎ IsMade k.number) → u.value ≡ v.value
         by r k i j origin u v s t (inl e) z = absurd (none-some _ (sym e ∙ s))
         by r k i j origin u v s t (inr z) (inl e) = absurd (none-some _ (sym e ∙ t))
         by r k i j origin u v s t (inr (inr a)) (inr z) = same_value b (same_origin r k i j origin a) s t
@@ -301,21 +301,21 @@ module _ (m : Mach) (moves : ℕ → Bool) (may : MayAllMove m moves) where
             same_value b
             (formed.numbers r k i j (sym (param_origin r i p) ∙ origin ∙ param_origin k j o)) s t
 
-    holds_put : {i : Instr} {next : List Instr} → Stands i next m.code → (h : moves (length next) ≡ true) →
-        (v : MayMove m i next) (b : File) → Holds b → Holds (put v.register (value.Word v.word) b)
+    holds_put : {i : Instr} {next : List Instr} → StandsAsInstr i next m.code → (h : moves (length next) ≡ true) →
+        (v : MayMove m i next) (b : File) → Holds b → Holds (assign_register v.register (value.Word v.word) b)
     holds_put s h v b known n =
         ⊎_elim (λ t. inr (inr (made_by_it s h v (eqb-true (v.register).number n t))))
         (λ t.
-        subst (λ o. (o ≡ None) ⊎ (Among n m.params ⊎ IsMade n))
+        subst (λ o. (o ≡ None) ⊎ (AmongRegisters n m.params ⊎ IsMade n))
         (sym
         (put_other v.register (value.Word v.word) b n
         (λ k. both_ways (nat_eq (v.register).number n) t (eq-eqb (v.register).number n k))))
         (known n))
         (cases_Bool (nat_eq (v.register).number n))
 
-    module _ (c : Place) where
+    module _ (c : ActivationSetting) where
       step_makes : {i : Instr} {next : List Instr} (v : MayMove m i next) (zs : List Instr) (b : File) (y : Around) →
-          step c q (at (i ∷ zs) b y) ≡ Continues (at zs (put v.register (value.Word v.word) b) y)
+          step c q (at (i ∷ zs) b y) ≡ Continues (at zs (assign_register v.register (value.Word v.word) b) y)
       step_makes v zs b y =
           ap (λ (i : Instr). step c q (at (i ∷ zs) b y)) v.is
           ∙ ap (wrote zs y) (puts_one c.setting.end v.register v.word b v.fits)
@@ -329,7 +329,7 @@ module _ (m : Mach) (moves : ℕ → Bool) (may : MayAllMove m moves) where
                 (both_ways (passes_frame j.op) (ap (λ (i : Instr). passes_frame i.op) (sym (head_same e) ∙ v.is)) frame);
           }
 
-      pub comes_through : {Suit : Around → Around → Type 0} {r : Run State} {t : Tally} {xs : List Instr} (k : Front xs) (b : File)
+      pub comes_through : {Suit : Around → Around → Type 0} {r : RunProgress State} {t : Tally} {xs : List Instr} (k : Front xs) (b : File)
           (y : Around) → Holds b → Comes Suit r c q (at rest_of.code (filled k b) y) t →
           Comes Suit r c q (at (xs ++ rest_of.code) b y) t
       comes_through at_entry_of.front_end b y known h = h
@@ -337,5 +337,5 @@ module _ (m : Mach) (moves : ℕ → Bool) (may : MayAllMove m moves) where
           let v = may i next s e in
           let more = holds_put s e v b known in
           comes_after c (step_makes v (xs ++ rest_of.code) b y) (no_frame v (xs ++ rest_of.code) b y)
-          (agree_so (wrote_unless y.raised (written q i)) (xs ++ rest_of.code) (put v.register (value.Word v.word) b) y more)
-          (comes_through k (put v.register (value.Word v.word) b) y more h)
+          (agree_so (wrote_unless y.raised (registers_written q i)) (xs ++ rest_of.code) (assign_register v.register (value.Word v.word) b) y more)
+          (comes_through k (assign_register v.register (value.Word v.word) b) y more h)

@@ -11,11 +11,11 @@ use Rattle.bs_words.specs.declared.values.Value.TheVariants as value
 use Rattle.bs_words.proofs.Lists.{head_same, tail_same}
 use Rattle.cmm_meaning.specs.State.{Doing}
 use Rattle.mach_ir.specs.Acts.{Around, Target, On, At, Landing, Goes, Replaces, Stuck}
-use Rattle.mach_ir.specs.Formed.{IsFormed, WellFormed}
-use Rattle.mach_ir.specs.Runs.{Place, entered}
-use Rattle.mach_ir.specs.Meaning.{Held, State, File, unless_addr, with_held, put, put_all, clear, killed, written, values, past_frame, passes_frame, mach_act, after_label, landing_code, start}
-use Rattle.mach_ir.specs.Walks.{Among, OneOf, targets, IsRegister, Live, LiveAcross}
-use Rattle.mach_ir.specs.Keeps.{ValsWritten, wrote_unless, Begins, Does}
+use Rattle.mach_ir.specs.Formed.{IsFormedInstruction, WellFormed}
+use Rattle.mach_ir.specs.Runs.{ActivationSetting, entry_around}
+use Rattle.mach_ir.specs.Meaning.{Held, State, File, unless_addr, with_held, assign_register, put_all, clear_registers, killed, registers_written, values, past_frame, passes_frame, mach_act, after_label, landing_code, mach_start}
+use Rattle.mach_ir.specs.Walks.{AmongRegisters, OneOf, targets, IsRegister, Live, LiveAcross}
+use Rattle.mach_ir.specs.Keeps.{ValsWritten, wrote_unless, Begins, MachSimulation}
 use Rattle.mach_ir.specs.declared.reg.Reg.{Reg}
 use Rattle.mach_ir.specs.declared.mach.Instr.{Instr}
 use Rattle.mach_ir.specs.declared.mach.Mach.{Mach}
@@ -30,7 +30,7 @@ use Rattle.mach_laws.proofs.Among.{left_among, right_among, among_or_not}
 use Rattle.mach_laws.proofs.Files.{put_other}
 use Rattle.mach_laws.proofs.Raised.{IsSilent, told}
 use Rattle.places_rules.proofs.Files.{past_same, cleared, not_cleared, put_here, PutsBoth, put_both}
-use Rattle.dead_rules.specs.Dropped.{may_go, without}
+use Rattle.dead_rules.specs.Dropped.{may_go, unless_dropped}
 use Rattle.dead_rules.proofs.Left.{tries_here, label_is}
 use Rattle.dead_rules.proofs.Text.{pure_of, pure_no_frame, Fate, falls, remains, fate, keeps_marks}
 use Rattle.hoist_rules.specs.Hoisted.{MayMove, hoisted, MayAllMove}
@@ -71,7 +71,7 @@ module _ (m : Mach) (moves : ℕ → Bool) (may : MayAllMove m moves) (formed : 
   rest_of = at_entry_of.rest_of m moves may
 
   abbrev f : ℕ → Instr → List Instr
-  f = without moves
+  f = unless_dropped moves
 
   abbrev IsMade : ℕ → Type 0
   IsMade = entry.IsMade m moves may
@@ -116,9 +116,9 @@ module _ (m : Mach) (moves : ℕ → Bool) (may : MayAllMove m moves) (formed : 
       }
     where
       Here : Reg → Type 0
-      Here r = Live rest_of r.number (expand f rest) ⊎ Among r.number (wrote_unless y.raised ws)
+      Here r = Live rest_of r.number (expand f rest) ⊎ AmongRegisters r.number (wrote_unless y.raised ws)
 
-      was : (r : Reg) → (IsMade r.number → ⊥) → Here r → Live m r.number rest ⊎ Among r.number (wrote_unless y.raised ws)
+      was : (r : Reg) → (IsMade r.number → ⊥) → Here r → Live m r.number rest ⊎ AmongRegisters r.number (wrote_unless y.raised ws)
       was r free l = ⊎_elim (λ v. inl (live.live_back m moves may v free rest ending refl)) inr l
 
       by : (r k : Reg) → IsRegister m r → IsRegister m k → r.origin ≡ k.origin → Here r → Here k → (u v : Held) →
@@ -156,7 +156,7 @@ module _ (m : Mach) (moves : ℕ → Bool) (may : MayAllMove m moves) (formed : 
 
   -- ---- each instruction
 
-  module _ (c : Place) (Suit : Around → Around → Type 0) (i : Instr) (next : List Instr) (a b : File)
+  module _ (c : ActivationSetting) (Suit : Around → Around → Type 0) (i : Instr) (next : List Instr) (a b : File)
       (ending : Ending (i ∷ next) m.code) (same : Same a b) where
     abbrev Round : List Instr → Around → Around → File → File → Type 0
     Round = level.Level c m rest_of f (keeps_marks moves) refl Rel
@@ -171,7 +171,7 @@ module _ (m : Mach) (moves : ℕ → Bool) (may : MayAllMove m moves) (formed : 
     past = past_kept (passes_frame i.op) same
 
     abbrev Puts : List Value → File → Type 0
-    Puts vs d = PutsBoth c.setting.end i.results vs (clear (killed m i) a') (clear (killed m i) b') d
+    Puts vs d = PutsBoth c.setting.end i.results vs (clear_registers (killed m i) a') (clear_registers (killed m i) b') d
 
     after_same : (may_go i.op ≡ true → moves (length next) ≡ false) → (vs : List Value) (d : File) (p : Puts vs d) → Same d p.file
     after_same kept vs d p = record { each = each_by; made = made_by }
@@ -206,34 +206,34 @@ module _ (m : Mach) (moves : ℕ → Bool) (may : MayAllMove m moves) (formed : 
           general.Past c m rest_of f (keeps_marks moves) refl Suit Round i i next [] y y d p.file t
       past_to vs d p y On o =
           let s = after_same kept vs d p in
-          general.on (λ w. agrees_by next (ending_next ending) d p.file y (written m i) s w) general.passed (λ w. (refl, s))
+          general.on (λ w. agrees_by next (ending_next ending) d p.file y (registers_written m i) s w) general.passed (λ w. (refl, s))
       past_to vs d p y (At l) o =
           let s = after_same kept vs d p in
           general.elsewhere refl
           (λ w. (
             (refl, s),
-            subst (λ code. Agrees rest_of (written m i) (at code p.file y)) (sym (label_is m moves l))
-                (agrees_by (after_label l m.code) (ending_label l m.code) d p.file y (written m i) s w),
+            subst (λ code. Agrees rest_of (registers_written m i) (at code p.file y)) (sym (label_is m moves l))
+                (agrees_by (after_label l m.code) (ending_label l m.code) d p.file y (registers_written m i) s w),
           ))
 
       lands : (to : Landing) → MayLand i.op to → (y : Around) →
           general.Lands c m rest_of f (keeps_marks moves) refl Suit Round i i next [] to y y a' b'
       lands to l y w = (
         (refl, past),
-        subst (λ code. Agrees rest_of (written m i) (at code b' y))
+        subst (λ code. Agrees rest_of (registers_written m i) (at code b' y))
             (sym (land_expand f (keeps_marks moves) m.code (i ∷ next) (i ∷ expand f next) to (tries_here moves i next refl)))
-            (agrees_by (landing_code m.code (i ∷ next) to) (ending_land to (i ∷ next) m.code) a' b' y (written m i) past w),
+            (agrees_by (landing_code m.code (i ∷ next) to) (ending_land to (i ∷ next) m.code) a' b' y (registers_written m i) past w),
       )
 
       same_operation : level.SameOperation c m rest_of f (keeps_marks moves) refl Suit Rel (IsSilent m i) i i next [] a' b'
       same_operation =
           record {
             goes = λ vs d e.
-                let p = put_both c.setting.end i.results vs (clear (killed m i) a') (clear (killed m i) b') d e in
+                let p = put_both c.setting.end i.results vs (clear_registers (killed m i) a') (clear_registers (killed m i) b') d e in
                 (p.file, p.puts, λ y to o. past_to vs d p y to o);
             lands = λ y to l s. lands to l y;
             tries = tries_here moves i next refl;
-            pushes = λ t. (refl, λ y w. ((refl, past), agrees_by next (ending_next ending) a' b' y (written m i) past w));
+            pushes = λ t. (refl, λ y w. ((refl, past), agrees_by next (ending_next ending) a' b' y (registers_written m i) past w));
           }
 
       -- an instruction that is left
@@ -251,7 +251,7 @@ module _ (m : Mach) (moves : ℕ → Bool) (may : MayAllMove m moves) (formed : 
             passing = general.passed;
             vals = λ known. vals_before i next a b y ending same known;
             reads = values_more a b i.args (λ n. ⊎_elim inl (λ z. inr z.0) (same.each n)) vs e;
-            told = told m (All-contains IsFormed m.code i formed.instrs (contains_of (stands_of ending))) c.setting vs y;
+            told = told m (All-contains IsFormedInstruction m.code i formed.instrs (contains_of (stands_of ending))) c.setting vs y;
             same = same_operation;
           })
 
@@ -270,7 +270,7 @@ module _ (m : Mach) (moves : ℕ → Bool) (may : MayAllMove m moves) (formed : 
         w = value.Word (may i next (stands_of ending) h).word
 
         g : File
-        g = clear (killed m i) a'
+        g = clear_registers (killed m i) a'
 
         made_one : (n : ℕ) → r.number ≡ n → IsMade n
         made_one n e = entry.made_by_it m moves may (stands_of ending) h v e
@@ -280,12 +280,12 @@ module _ (m : Mach) (moves : ℕ → Bool) (may : MayAllMove m moves) (formed : 
             not_cleared (killed m i) a' n (at_entry_of.none_killed m moves may n v)
             ∙ ap (λ t. past_frame t a n) (pure_no_frame (pure_of i.op (at_entry_of.may_go_so m moves may v)))
 
-        put_there : (d : File) → put_all c.setting.end i.results (w ∷ []) g ≡ Some d → put r w g ≡ d
+        put_there : (d : File) → put_all c.setting.end i.results (w ∷ []) g ≡ Some d → assign_register r w g ≡ d
         put_there d e =
             same_Some _ _ (sym (puts_one c.setting.end r v.word g v.fits)
             ∙ ap (λ (j : Instr). put_all c.setting.end j.results (w ∷ []) g) (sym v.is) ∙ e)
 
-        still : (d : File) → put r w g ≡ d → Same d b
+        still : (d : File) → assign_register r w g ≡ d → Same d b
         still d e =
             record {
               each = λ n.
@@ -304,7 +304,7 @@ module _ (m : Mach) (moves : ℕ → Bool) (may : MayAllMove m moves) (formed : 
 
         by : (vs : List Value) → (mach_act c.setting i.op vs y ≡ Stuck)
             ⊎ ((results : List Value) × (after : Around) × (mach_act c.setting i.op vs y ≡ Goes results On after)
-            × ((d : File) → put_all c.setting.end i.results results (clear (killed m i) a') ≡ Some d →
+            × ((d : File) → put_all c.setting.end i.results results (clear_registers (killed m i) a') ≡ Some d →
             general.Skips c m rest_of f (keeps_marks moves) refl Suit Round i next [] after y b d))
         by [] =
             inr (
@@ -316,10 +316,10 @@ module _ (m : Mach) (moves : ℕ → Bool) (may : MayAllMove m moves) (formed : 
             )
         by (x ∷ xs) = inl (ap (λ (j : Instr). mach_act c.setting j.op (x ∷ xs) y) v.is)
 
-  abbrev Level : Place → List Instr → Around → Around → File → File → Type 0
+  abbrev Level : ActivationSetting → List Instr → Around → Around → File → File → Type 0
   Level c = level.Level c m rest_of f (keeps_marks moves) refl Rel
 
-  module _ (c : Place) where
+  module _ (c : ActivationSetting) where
     serves : (Suit : Around → Around → Type 0) → ((x y : Around) → x ≡ y → Suit x y) →
         level.Serves c m rest_of f (keeps_marks moves) refl Rel Suit
     serves Suit suits =
@@ -344,7 +344,7 @@ module _ (m : Mach) (moves : ℕ → Bool) (may : MayAllMove m moves) (formed : 
     -- ---- from the entry
 
     module _ (arguments : List Value) (a : File) (e : put_all c.setting.end m.params arguments (λ n. None) ≡ Some a) where
-      unwritten : (n : ℕ) → (Among n m.params → ⊥) → a n ≡ None
+      unwritten : (n : ℕ) → (AmongRegisters n m.params → ⊥) → a n ≡ None
       unwritten n free = (put_both c.setting.end m.params arguments (λ n. None) (λ n. None) a e).others n free
 
       holds : entry.Holds m moves may formed a
@@ -362,21 +362,21 @@ module _ (m : Mach) (moves : ℕ → Bool) (may : MayAllMove m moves) (formed : 
           }
 
     does_at : (arguments : List Value) (memory : Memory) (doings : List Doing) (s : State) →
-        start c m arguments memory ≡ Some s → Begins c m q arguments memory doings s
+        mach_start c m arguments memory ≡ Some s → Begins c m q arguments memory doings s
     does_at =
         level.begins_at c m q refl
         (λ arguments memory a t n e proper.
         let both =
         level.follows_from c m rest_of f (keeps_marks moves) refl Rel serves a (entry.entry_file m moves may a)
-        (entered memory) (same_there arguments a e) n t proper in
+        (entry_around memory) (same_there arguments a e) n t proper in
         let front = at_entry_of.whole_front m moves may in
         record {
-          no_less = entry.comes_through m moves may formed c front a (entered memory) (holds arguments a e)
+          no_less = entry.comes_through m moves may formed c front a (entry_around memory) (holds arguments a e)
               (entry.comes_same m moves may formed c both.no_less);
-          no_more = entry.comes_through m moves may formed c front a (entered memory) (holds arguments a e)
+          no_more = entry.comes_through m moves may formed c front a (entry_around memory) (holds arguments a e)
               (entry.comes_same m moves may formed c both.no_more);
         })
 
   -- The function whose constants are made at the entry does what it did.
-  pub does_hoisted : Does m (hoisted moves m)
+  pub does_hoisted : MachSimulation m (hoisted moves m)
   does_hoisted = λ c arguments memory doings s e. does_at c arguments memory doings s e

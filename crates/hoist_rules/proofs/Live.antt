@@ -8,14 +8,14 @@ use Rattle.mach_ir.specs.Acts.{Target, On}
 use Rattle.bs_words.specs.declared.types.Comp.TheVariants as comp
 use Rattle.bs_words.proofs.Lists.{none_in, head_same, tail_same}
 use Rattle.mach_ir.specs.Meaning.{after_label, from_handler, code_at, killed, passes_frame, tries_at}
-use Rattle.mach_ir.specs.Walks.{Among, OneOf, targets, may_raise, goes, raises, Reached, at_entry, by_step, by_raise, Live, read, on, aside, LiveAfter, after_step, LiveAcross, across_step, across_raise, InCode, in_args, in_results, further, IsRegister, is_param, is_colour, is_in_code, Stands, here, below, NoAddrLive, Meets, at_write, at_params, Joined, one_way, other_way}
+use Rattle.mach_ir.specs.Walks.{AmongRegisters, OneOf, targets, may_raise, goes, raises, Reached, at_entry, by_step, by_raise, Live, read, on, aside, LiveAfter, after_step, LiveAcross, across_step, across_raise, InCode, in_args, in_results, further, IsRegister, is_param, is_colour, is_in_code, StandsAsInstr, here, below, NoAddrLive, Meets, at_write, at_params, Joined, one_way, other_way}
 use Rattle.mach_ir.specs.declared.reg.Reg.{Reg}
 use Rattle.mach_ir.specs.declared.mach.Instr.{Instr}
 use Rattle.mach_ir.specs.declared.mach.Mach.{Mach}
 use Rattle.mach_laws.specs.Expand.{expand, Ending, all}
 use Rattle.mach_laws.proofs.Places.{ending_of}
 use Rattle.mach_laws.proofs.Among.{split_among}
-use Rattle.dead_rules.specs.Dropped.{may_go, without}
+use Rattle.dead_rules.specs.Dropped.{may_go, unless_dropped}
 use Rattle.dead_rules.proofs.Left as what_is_left
 use Rattle.dead_rules.proofs.Left.{IsMain, was_main, code_back, label_is, handler_is, first_kept, gone_reached, WasReached, reached_on, reached_aside, GoesBack}
 use Rattle.dead_rules.proofs.Text.{pure_of, pure_on, pure_only, pure_quiet, pure_no_frame}
@@ -30,14 +30,14 @@ module _ (m : Mach) (moves : ℕ → Bool) (may : MayAllMove m moves) where
   rest_of = at_entry_of.rest_of m moves may
 
   abbrev f : ℕ → Instr → List Instr
-  f = without moves
+  f = unless_dropped moves
 
   abbrev IsMade : ℕ → Type 0
   IsMade = at_entry_of.IsMade m moves may
 
   -- ---- what is left, without its entry
 
-  lift : {n : ℕ} {i : Instr} {next : List Instr} → Stands i next m.code → may_go i.op ≡ true → moves (length next) ≡ true →
+  lift : {n : ℕ} {i : Instr} {next : List Instr} → StandsAsInstr i next m.code → may_go i.op ≡ true → moves (length next) ≡ true →
       (IsMade n → ⊥) → Live m n next → Live m n (i ∷ next)
   lift {n} {i} {next} s g d free v =
       on
@@ -99,7 +99,7 @@ module _ (m : Mach) (moves : ℕ → Bool) (may : MayAllMove m moves) where
 
   -- ---- registers
 
-  pub stands_in_code : {r : Reg} {i : Instr} {next code : List Instr} → Stands i next code → InCode r (i ∷ []) → InCode r code
+  pub stands_in_code : {r : Reg} {i : Instr} {next code : List Instr} → StandsAsInstr i next code → InCode r (i ∷ []) → InCode r code
   stands_in_code here (in_args a) = in_args a
   stands_in_code here (in_results a) = in_results a
   stands_in_code here (further c) = elim c [ ]
@@ -163,17 +163,17 @@ module _ (m : Mach) (moves : ℕ → Bool) (may : MayAllMove m moves) where
 
   -- it is made at the entry, or left
   pub data Whence (j : Instr) (zs : List Instr) : Type 0 where
-    at_the_entry : {next : List Instr} → Stands j next m.code → moves (length next) ≡ true → Whence j zs
+    at_the_entry : {next : List Instr} → StandsAsInstr j next m.code → moves (length next) ≡ true → Whence j zs
     left : IsMain moves j zs m.code → Whence j zs
 
   from_front : {j : Instr} {zs xs : List Instr} → at_entry_of.Front m moves may xs → {code : List Instr} →
-      code ≡ xs ++ rest_of.code → Stands j zs code → Whence j zs
-  from_front {j} {zs} at_entry_of.front_end e s = left (was_main moves m.code j zs (subst (Stands j zs) e s))
+      code ≡ xs ++ rest_of.code → StandsAsInstr j zs code → Whence j zs
+  from_front {j} {zs} at_entry_of.front_end e s = left (was_main moves m.code j zs (subst (StandsAsInstr j zs) e s))
   from_front {j} {zs} (at_entry_of.front_one {next = next} s h k) e here =
-      at_the_entry (subst (λ (i : Instr). Stands i next m.code) (sym (head_same e)) s) h
+      at_the_entry (subst (λ (i : Instr). StandsAsInstr i next m.code) (sym (head_same e)) s) h
   from_front (at_entry_of.front_one s h k) e (below t) = from_front k (tail_same e) t
 
-  pub whence : {j : Instr} {zs : List Instr} → Stands j zs q.code → Whence j zs
+  pub whence : {j : Instr} {zs : List Instr} → StandsAsInstr j zs q.code → Whence j zs
   whence s = from_front (at_entry_of.whole_front m moves may) refl s
 
   -- ---- what moves goes on alone
@@ -184,10 +184,10 @@ module _ (m : Mach) (moves : ℕ → Bool) (may : MayAllMove m moves) where
   pub no_raise : {i : Instr} {next : List Instr} → MayMove m i next → may_raise i.op ≡ true → ⊥
   no_raise v r = both_ways _ (pure_quiet (pure_of _ (at_entry_of.may_go_so m moves may v))) r
 
-  pub no_read : {n : ℕ} {i : Instr} {next : List Instr} → MayMove m i next → Among n i.args → ⊥
-  no_read {n} v a = none_among (subst (λ (i : Instr). Among n i.args) v.is a)
+  pub no_read : {n : ℕ} {i : Instr} {next : List Instr} → MayMove m i next → AmongRegisters n i.args → ⊥
+  no_read {n} v a = none_among (subst (λ (i : Instr). AmongRegisters n i.args) v.is a)
     where
-      none_among : Among n [] → ⊥
+      none_among : AmongRegisters n [] → ⊥
       none_among a = elim a [ ]
 
   -- what is live at the entry, and not made there, is live after it
@@ -195,7 +195,7 @@ module _ (m : Mach) (moves : ℕ → Bool) (may : MayAllMove m moves) where
       Live q n rest_of.code
   front_live {n} at_entry_of.front_end e v = subst (Live q n) e v
   front_live {n} (at_entry_of.front_one {i = i} {next = next} s h k) e (read a) =
-      absurd (no_read (may i next s h) (subst (λ (i : Instr). Among n i.args) (head_same e) a))
+      absurd (no_read (may i next s h) (subst (λ (i : Instr). AmongRegisters n i.args) (head_same e) a))
   front_live {n} (at_entry_of.front_one {i = i} {next = next} s h k) e (on {next = zs} w (goes t o) v) =
       front_live k (tail_same e)
       (subst (λ t. Live q n (code_at q.code zs t))

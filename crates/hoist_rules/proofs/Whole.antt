@@ -6,13 +6,13 @@ use Rattle.std.proofs.lemmas.List.Elements.{Contains-append_right}
 use Rattle.bs_words.specs.declared.types.Comp.{Comp}
 use Rattle.bs_words.specs.declared.types.Comp.TheVariants as comp
 use Rattle.bs_words.specs.declared.types.Loc.TheVariants as loc
-use Rattle.mach_ir.specs.Formed.{IsFormed, AreDistinct, labels_in, HasPlace, HasHandler, WellFormed}
+use Rattle.mach_ir.specs.Formed.{IsFormedInstruction, AreDistinct, labels_in, LabelOccursIn, HasHandler, WellFormed}
 use Rattle.mach_ir.specs.Keeps.{Keeps, NamesSymbol, NamesExternal}
 use Rattle.mach_ir.specs.Meaning.{is_addr, after_label, from_handler}
 use Rattle.mach_ir.specs.Placed.{WellPlaced, AllocatesFresh, IsFresh, AreStraight}
 use Rattle.mach_ir.specs.Seats.{Seated}
 use Rattle.mach_ir.specs.Sizes.{operand_count, Size, HasSize}
-use Rattle.mach_ir.specs.Walks.{Among, Writes, IsRegister, Stands}
+use Rattle.mach_ir.specs.Walks.{AmongRegisters, Writes, IsRegister, StandsAsInstr}
 use Rattle.mach_ir.specs.declared.blocks.NewBlock.{NewBlock}
 use Rattle.mach_ir.specs.declared.op.Access.TheVariants as access
 use Rattle.mach_ir.specs.declared.op.Op.TheVariants as op
@@ -26,10 +26,10 @@ use Rattle.mach_laws.proofs.Places.{ending_next, stands_of, stands_behind, stand
 use Rattle.pass_rules.proofs.Formed.{ComesFrom, is_new, stood, KeepsPlaces}
 use Rattle.pass_rules.proofs.Formed as places
 use Rattle.pass_rules.proofs.Words.{both_sum}
-use Rattle.dead_rules.specs.Dropped.{may_go, without}
+use Rattle.dead_rules.specs.Dropped.{may_go, unless_dropped}
 use Rattle.dead_rules.proofs.Left.{IsMain, contains_left, place_left, handler_left, tries_before, run_back, label_is, handler_is}
 use Rattle.dead_rules.proofs.Text.{pure_of, pure_straight, mark_stays, Fate, falls, remains, fate, same_labels}
-use Rattle.hoist_rules.specs.Hoisted.{MayMove, moved, hoisted, MayAllMove}
+use Rattle.hoist_rules.specs.Hoisted.{MayMove, hoisted_instruction, hoisted, MayAllMove}
 use Rattle.hoist_rules.proofs.Moved as at_entry_of
 use Rattle.hoist_rules.proofs.Live as live
 use Rattle.hoist_rules.proofs.Entry as entry
@@ -46,10 +46,10 @@ module _ (m : Mach) (moves : ℕ → Bool) (may : MayAllMove m moves) where
   rest_of = at_entry_of.rest_of m moves may
 
   abbrev f : ℕ → Instr → List Instr
-  f = without moves
+  f = unless_dropped moves
 
   abbrev front : List Instr
-  front = expand (moved moves) m.code
+  front = expand (hoisted_instruction moves) m.code
 
   abbrev IsMade : ℕ → Type 0
   IsMade = at_entry_of.IsMade m moves may
@@ -60,7 +60,7 @@ module _ (m : Mach) (moves : ℕ → Bool) (may : MayAllMove m moves) where
   pub was : (r : Reg) → IsRegister q r → IsRegister m r
   was = live.was_register m moves may
 
-  pub whence : {j : Instr} {zs : List Instr} → Stands j zs q.code → Whence j zs
+  pub whence : {j : Instr} {zs : List Instr} → StandsAsInstr j zs q.code → Whence j zs
   whence = live.whence m moves may
 
   -- ---- what is in the code
@@ -122,11 +122,11 @@ module _ (m : Mach) (moves : ℕ → Bool) (may : MayAllMove m moves) where
               v.same
               ∙ ap (expand f) ((known.fresh i w.next w.stands blocks e r c).once j v.next v.stands x) ∙ sym w.same
 
-          unread : (j : Instr) (run : List Instr) → AreStraight (j ∷ run) → Among r.number j.args → Whence j (run ++ i ∷ zs) → ⊥
+          unread : (j : Instr) (run : List Instr) → AreStraight (j ∷ run) → AmongRegisters r.number j.args → Whence j (run ++ i ∷ zs) → ⊥
           unread j run st a (live.at_the_entry {next = next} t g) = live.no_read m moves may (may j next t g) a
           unread j run st a (live.left v) =
               let u = run_back moves v.next run i zs v.same (tail_of j run st) in
-              let there : Stands j (u.run ++ i ∷ u.next) m.code = subst (λ xs. Stands j xs m.code) u.same v.stands in
+              let there : StandsAsInstr j (u.run ++ i ∷ u.next) m.code = subst (λ xs. StandsAsInstr j xs m.code) u.same v.stands in
               (known.fresh i u.next (stands_within there (stands_behind u.run i u.next)) blocks e r c).unread j u.run there
               (straight_cons j u.run (head_of j run st) u.straight) a
 
@@ -138,31 +138,31 @@ module _ (m : Mach) (moves : ℕ → Bool) (may : MayAllMove m moves) where
   -- ---- each instruction moves or is left
 
   pub data Divides (i : Instr) (is : List Instr) : Type 0 where
-    goes_first : expand (moved moves) (i ∷ is) ≡ i ∷ expand (moved moves) is → expand f (i ∷ is) ≡ expand f is → Divides i is
-    goes_after : expand (moved moves) (i ∷ is) ≡ expand (moved moves) is → expand f (i ∷ is) ≡ i ∷ expand f is → Divides i is
+    goes_first : expand (hoisted_instruction moves) (i ∷ is) ≡ i ∷ expand (hoisted_instruction moves) is → expand f (i ∷ is) ≡ expand f is → Divides i is
+    goes_after : expand (hoisted_instruction moves) (i ∷ is) ≡ expand (hoisted_instruction moves) is → expand f (i ∷ is) ≡ i ∷ expand f is → Divides i is
 
   pub divides : (i : Instr) (is : List Instr) → Ending (i ∷ is) m.code → Divides i is
   divides i is ending = by (moves (length is)) refl (fate moves i is)
     where
       by : (b : Bool) → moves (length is) ≡ b → Fate moves i is → Divides i is
-      by true e (falls g d s h) = goes_first (ap (λ b. cond b (i ∷ []) [] ++ expand (moved moves) is) e) h
+      by true e (falls g d s h) = goes_first (ap (λ b. cond b (i ∷ []) [] ++ expand (hoisted_instruction moves) is) e) h
       by false e (falls g d s h) = absurd (both_ways (moves (length is)) e d)
       by true e (remains k s h) =
           absurd (both_ways (moves (length is)) (k (at_entry_of.may_go_so m moves may (may i is (stands_of ending) e))) e)
-      by false e (remains k s h) = goes_after (ap (λ b. cond b (i ∷ []) [] ++ expand (moved moves) is) e) h
+      by false e (remains k s h) = goes_after (ap (λ b. cond b (i ∷ []) [] ++ expand (hoisted_instruction moves) is) e) h
 
   -- what is a sum over instructions stays
   module _ (M : List Instr → ℕ) (one : Instr → ℕ) (none : M [] ≡ 0) (more : (i : Instr) (is : List Instr) → M (i ∷ is) ≡ one i + M is) where
-    parts_sum : (code : List Instr) → Ending code m.code → M (expand (moved moves) code) + M (expand f code) ≡ M code
+    parts_sum : (code : List Instr) → Ending code m.code → M (expand (hoisted_instruction moves) code) + M (expand f code) ≡ M code
     parts_sum [] ending = let e = none in omega (arith, e)
     parts_sum (i ∷ is) ending = by (divides i is ending) (parts_sum is (ending_next ending))
       where
-        by : Divides i is → M (expand (moved moves) is) + M (expand f is) ≡ M is →
-            M (expand (moved moves) (i ∷ is)) + M (expand f (i ∷ is)) ≡ M (i ∷ is)
+        by : Divides i is → M (expand (hoisted_instruction moves) is) + M (expand f is) ≡ M is →
+            M (expand (hoisted_instruction moves) (i ∷ is)) + M (expand f (i ∷ is)) ≡ M (i ∷ is)
         by (goes_first a b) ih =
             let x = ap M a in
             let y = ap M b in
-            let z = more i (expand (moved moves) is) in
+            let z = more i (expand (hoisted_instruction moves) is) in
             let w = more i is in omega (arith, x, y, z, w, ih)
         by (goes_after a b) ih =
             let x = ap M a in
@@ -209,7 +209,7 @@ module _ (m : Mach) (moves : ℕ → Bool) (may : MayAllMove m moves) where
       comes {i} (live.at_the_entry {next = next} s h) =
           is_new (pure_straight (pure_of i.op (at_entry_of.may_go_so m moves may (may i next s h))))
       comes (live.left w) =
-          stood w.stands (tries_before moves w.next w.same) (λ l p. subst (HasPlace l) (sym w.same) (place_left moves p))
+          stood w.stands (tries_before moves w.next w.same) (λ l p. subst (LabelOccursIn l) (sym w.same) (place_left moves p))
           (λ l p. subst (HasHandler l) (sym w.same) (handler_left moves p))
 
   module _ (formed : WellFormed m) where
@@ -222,7 +222,7 @@ module _ (m : Mach) (moves : ℕ → Bool) (may : MayAllMove m moves) where
     pub still_formed : WellFormed q
     still_formed =
         places.still_formed m q.code formed keeps_places
-        (places.all_still m q.code contains_back IsFormed formed.instrs)
+        (places.all_still m q.code contains_back IsFormedInstruction formed.instrs)
         (places.all_still m q.code contains_back (λ (i : Instr). AreDistinct i.results) formed.distinct)
 
     open_of : (r : Reg) → IsRegister m r → IsMade r.number → r.loc ≡ loc.Unset

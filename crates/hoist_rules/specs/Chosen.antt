@@ -1,8 +1,8 @@
 -- Which constants are made at the entry: wide ones in loops before the first call.
 use Rattle.std.specs.Prelude.{◌≡◌, ◌↔◌, ◌<◌, ◌≤◌, ◌+◌, ◌^◌, ℕ, Bool, true, List, ◌∷◌, length}
-use Rattle.mach_ir.specs.Formed.{LeadsTo, is_exit}
+use Rattle.mach_ir.specs.Formed.{TargetsLabel, is_exit}
 use Rattle.mach_ir.specs.Meaning.{Everything, destroyed_by, has_label}
-use Rattle.mach_ir.specs.Walks.{Stands}
+use Rattle.mach_ir.specs.Walks.{StandsAsInstr}
 use Rattle.mach_ir.specs.declared.mach.Instr.{Instr}
 use Rattle.mach_ir.specs.declared.mach.Mach.{Mach}
 use Rattle.hoist_rules.specs.Hoisted.{MayMove, hoisted}
@@ -13,15 +13,15 @@ pub record IsLoopRound (m : Mach) (from end : List Instr) : Type 0 where
   pub label : ℕ
   pub head : Instr
   pub body : List Instr
-  pub head_stands : Stands head body m.code
+  pub head_stands : StandsAsInstr head body m.code
   pub labelled : has_label label head.op ≡ true
   pub before : length from ≤ length (head ∷ body)
   pub back : Instr
   pub rest : List Instr
-  pub back_stands : Stands back rest m.code
+  pub back_stands : StandsAsInstr back rest m.code
   pub is_end : end ≡ back ∷ rest
   pub is_back : is_exit back.op ≡ true
-  pub leads : LeadsTo back.op label
+  pub leads : TargetsLabel back.op label
   pub after : length end ≤ length from
 
 -- a constant that does not fit the twelve bits of an immediate
@@ -37,13 +37,13 @@ pub record IsMoved (m : Mach) (i : Instr) (next : List Instr) : Type 0 where
   pub end : List Instr
   pub round : IsLoopRound m (i ∷ next) end
   pub calm : (loop : List Instr) → IsLoopRound m (i ∷ next) loop →
-      (c : Instr) (others : List Instr) → Stands c others m.code →
+      (c : Instr) (others : List Instr) → StandsAsInstr c others m.code →
       destroyed_by c.op ≡ Everything → length (c ∷ others) < length loop
 
 -- exactly those move
 abbrev pub AreChosen : Mach → (ℕ → Bool) → Type 0
 AreChosen m moves =
-    (i : Instr) (next : List Instr) → Stands i next m.code →
+    (i : Instr) (next : List Instr) → StandsAsInstr i next m.code →
     (moves (length next) ≡ true) ↔ IsMoved m i next
 
 -- The second is the first with these constants made at the entry.

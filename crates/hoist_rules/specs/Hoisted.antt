@@ -4,13 +4,13 @@ use Rattle.std.specs.Prelude.{◌≡◌, ℕ, ◌%◌, Bool, true, cond, List, [
 use Rattle.bs_words.specs.declared.types.Comp.{Comp}
 use Rattle.bs_words.specs.declared.types.Comp.TheVariants as comp
 use Rattle.bs_words.specs.declared.types.Loc.TheVariants as loc
-use Rattle.dead_rules.specs.Dropped.{without}
+use Rattle.dead_rules.specs.Dropped.{unless_dropped}
 use Rattle.mach_ir.specs.Formed.{WellFormed}
 use Rattle.mach_ir.specs.Keeps.{Keeps}
 use Rattle.mach_ir.specs.Placed.{WellPlaced, AllocatesFresh}
 use Rattle.mach_ir.specs.Seats.{Seated}
 use Rattle.mach_ir.specs.Sizes.{Size, HasSize}
-use Rattle.mach_ir.specs.Walks.{Among, Writes, Stands, IsRegister}
+use Rattle.mach_ir.specs.Walks.{AmongRegisters, Writes, StandsAsInstr, IsRegister}
 use Rattle.mach_ir.specs.declared.op.Op.TheVariants as op
 use Rattle.mach_ir.specs.declared.op.Pure.TheVariants as pure
 use Rattle.mach_ir.specs.declared.reg.Reg.{Reg}
@@ -38,25 +38,25 @@ pub record MayMove (m : Mach) (i : Instr) (next : List Instr) : Type 0 where
   pub is : i ≡ makes register word
   pub fits : FitsAlways register.comp word
   pub open_place : register.loc ≡ loc.Unset
-  pub once : (j : Instr) (others : List Instr) → Stands j others m.code →
+  pub once : (j : Instr) (others : List Instr) → StandsAsInstr j others m.code →
       Writes m j register.number → others ≡ next
-  pub no_param : Among register.number m.params → ⊥
+  pub no_param : AmongRegisters register.number m.params → ⊥
   pub own : (r : Reg) → IsRegister m r → r.origin ≡ register.origin → r ≡ register
 
 -- an instruction that moves, which so many come after, or none
-abbrev pub moved : (ℕ → Bool) → ℕ → Instr → List Instr
-moved moves k i = cond (moves k) (i ∷ []) []
+abbrev pub hoisted_instruction : (ℕ → Bool) → ℕ → Instr → List Instr
+hoisted_instruction moves k i = cond (moves k) (i ∷ []) []
 
 -- The function with the instructions of which this is said, by how many come after them, first, in
 -- their order. All else is as it was.
 abbrev pub hoisted : (ℕ → Bool) → Mach → Mach
 hoisted moves m =
-    record m { code = expand (moved moves) m.code ++ expand (without moves) m.code }
+    record m { code = expand (hoisted_instruction moves) m.code ++ expand (unless_dropped moves) m.code }
 
 -- each of which it is said may move
 abbrev pub MayAllMove : Mach → (ℕ → Bool) → Type 0
 MayAllMove m moves =
-    (i : Instr) (next : List Instr) → Stands i next m.code → moves (length next) ≡ true →
+    (i : Instr) (next : List Instr) → StandsAsInstr i next m.code → moves (length next) ≡ true →
     MayMove m i next
 
 -- The second is the first with some constants made at the entry.
@@ -66,7 +66,7 @@ pub record IsHoisted (m q : Mach) : Type 0 where
   pub is : q ≡ hoisted moves m
 
 -- What a function keeps whose constants are made at the entry.
-pub record IsKept (p q : Mach) : Type 0 where
+pub record IsHoistKept (p q : Mach) : Type 0 where
   pub keeps : Keeps p q
   pub formed : WellFormed q
   pub placed : WellPlaced p → WellPlaced q

@@ -13,16 +13,16 @@ ghost use Rattle.std.specs.Prelude.{◌≡◌};
 ghost use Rattle.mach_ir.specs.Formed.{WellFormed};
 ghost use Rattle.mach_ir.specs.declared.mach.Mach.{Mach};
 ghost use Rattle.hoist_rules.specs.Chosen.{HasConstantsFirst};
-ghost use Rattle.hoist_rules.specs.Hoisted.{IsHoisted, IsKept};
+ghost use Rattle.hoist_rules.specs.Hoisted.{IsHoisted, IsHoistKept};
 
 /// Law: a function is kept in which constants that may move, whichever of them, are made at the entry.
 pub fn what_is_hoisted_is_kept()
-    ensures { (m q : Mach) → WellFormed m → IsHoisted m q → IsKept m q }
+    ensures { (m q : Mach) → WellFormed m → IsHoisted m q → IsHoistKept m q }
 {}
 
 /// Law: so is a function with the constants of its loops first.
 pub fn what_has_constants_first_is_kept()
-    ensures { (m q : Mach) → WellFormed m → HasConstantsFirst m q → IsKept m q }
+    ensures { (m q : Mach) → WellFormed m → HasConstantsFirst m q → IsHoistKept m q }
 {}
 
 /// Law: there is one function with the constants of its loops first.

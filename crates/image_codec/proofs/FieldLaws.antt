@@ -14,8 +14,8 @@ use Rattle.bs_words.specs.declared.types.Comp.TheVariants.{Int, Val, Addr, Float
 use Rattle.bs_words.specs.declared.types.Ret.{Ret}
 use Rattle.bs_words.specs.declared.types.Ret.TheVariants as returns
 use Rattle.image_form.specs.Image.{le16, le32, le_entry, entry_width, entry_limit, comp_byte, ret_byte, name_bytes, params_bytes, IsParam, IsResult, IsArgument, IsExtResult}
-use Rattle.image_form.specs.Seen.{has}
-use Rattle.image_form.specs.Fields.{byte_at, number_at, wide_at, kept, text_at, name_at, new_name_at, decoded, comp_of, result_of, ext_result_of, type_at, rows_at, params_at}
+use Rattle.image_form.specs.Seen.{has_text}
+use Rattle.image_form.specs.Fields.{byte_at, number_at, wide_at, kept, text_at, name_at, new_name_at, decoded_byte, comp_of_byte, result_of_byte, ext_result_of, type_at, rows_at, params_at}
 use Rattle.image_codec.proofs.Takes.{IsBytes, IsBytes-drop, IsBytes-take, IsBytes-rest, bind_ok, guard_ok, ok_is, Takes, Takes-then, IsField, alike, kept_field, rows_take, rows_again, AllAfter}
 
 -- ---- bytes and numbers
@@ -129,12 +129,12 @@ new_decides false = (λ e. refl, λ e. refl)
 -- a name that is not among these
 pub record IsNew (names : List (List ℕ)) (text : List ℕ) : Type 0 where
   pub name : IsSymbol text
-  pub new : has names text ≡ false
+  pub new : has_text names text ≡ false
 
 pub new_name_field : (names : List (List ℕ)) → IsField (new_name_at names) name_bytes (IsNew names)
 unfolding new_name_at
 new_name_field names =
-    alike (new_name_at names) name_bytes _ (kept_field name_at name_bytes IsSymbol name_field (λ name. not (has names name)) (λ name. has names name ≡ false) (λ name. new_decides (has names name)))
+    alike (new_name_at names) name_bytes _ (kept_field name_at name_bytes IsSymbol name_field (λ name. not (has_text names name)) (λ name. has_text names name ≡ false) (λ name. new_decides (has_text names name)))
     (IsNew names) (λ x fits. record { name = fits.0; new = fits.1 }) (λ x is. (is.name, is.new))
 
 -- ---- types
@@ -145,7 +145,7 @@ record IsCode {A : Type 0} (of : ℕ → Option A) (byte : A → ℕ) (Allowed :
   to : (x : A) → Allowed x → of (byte x) ≡ Some x
   small : (x : A) → byte x < 256
 
-decoded_ok : {A : Type 0} (o : Option A) (bytes rest : List ℕ) (y : A × List ℕ) → decoded o bytes rest ≡ Ok y → (x : A) × (o ≡ Some x) × ((x, rest) ≡ y)
+decoded_ok : {A : Type 0} (o : Option A) (bytes rest : List ℕ) (y : A × List ℕ) → decoded_byte o bytes rest ≡ Ok y → (x : A) × (o ≡ Some x) × ((x, rest) ≡ y)
 decoded_ok (Some x) bytes rest y e = (x, refl, ok_is (x, rest) y e)
 decoded_ok None bytes rest y e = absurd cc
 
@@ -153,7 +153,7 @@ module _ {A : Type 0} (of : ℕ → Option A) (byte : A → ℕ) (Allowed : A �
   type_takes : (bytes : List ℕ) (x : A) (rest : List ℕ) → IsBytes bytes → type_at of bytes ≡ Ok (x, rest) → Takes bytes (byte x ∷ []) rest × Allowed x
   unfolding type_at
   type_takes bytes x rest fits e =
-      let a = bind_ok (byte_at bytes) (λ b. decoded (of b.0) bytes b.1) (x, rest) e in
+      let a = bind_ok (byte_at bytes) (λ b. decoded_byte (of b.0) bytes b.1) (x, rest) e in
       let d = decoded_ok (of a.0.0) bytes a.0.1 (x, rest) a.2 in
       let t = byte_field.takes bytes a.0.0 a.0.1 fits a.1 in
       let c = is.from a.0.0 d.0 d.1 in
@@ -202,32 +202,32 @@ comp_small Val = omega arith
 comp_small Addr = omega arith
 comp_small Float = omega arith
 
-comp_within : (most b : ℕ) (x : Comp) → comp_of most b ≡ Some x → (b ≤ most) × ((b ≡ comp_byte x) × IsParam x)
-unfolding comp_of
+comp_within : (most b : ℕ) (x : Comp) → comp_of_byte most b ≡ Some x → (b ≤ most) × ((b ≡ comp_byte x) × IsParam x)
+unfolding comp_of_byte
 comp_within most b x e =
     elim (chosen (leb b most) _ None (Some x) e) [
       | inl p ↦ (leb-true b most p.0, comp_cases b x p.1)
       | inr p ↦ absurd cc
     ]
 
-param_to : (x : Comp) → IsParam x → comp_of 2 (comp_byte x) ≡ Some x
-unfolding comp_of
+param_to : (x : Comp) → IsParam x → comp_of_byte 2 (comp_byte x) ≡ Some x
+unfolding comp_of_byte
 param_to Int allowed = refl
 param_to Val allowed = refl
 param_to Addr allowed = refl
 param_to Float allowed = absurd allowed
 
-argument_to : (x : Comp) → IsArgument x → comp_of 1 (comp_byte x) ≡ Some x
-unfolding comp_of
+argument_to : (x : Comp) → IsArgument x → comp_of_byte 1 (comp_byte x) ≡ Some x
+unfolding comp_of_byte
 argument_to Int allowed = refl
 argument_to Val allowed = refl
 argument_to Addr allowed = absurd allowed
 argument_to Float allowed = absurd allowed
 
-param_code : IsCode (comp_of 2) comp_byte IsParam
+param_code : IsCode (comp_of_byte 2) comp_byte IsParam
 param_code = record { from = λ b x e. (comp_within 2 b x e).1; to = param_to; small = comp_small }
 
-argument_code : IsCode (comp_of 1) comp_byte IsArgument
+argument_code : IsCode (comp_of_byte 1) comp_byte IsArgument
 argument_code = record {
   from = λ b x e. let h = comp_within 1 b x e in (h.1.0, argument_from x (omega (arith, h.0, h.1.0)));
   to = argument_to;
@@ -238,8 +238,8 @@ ret_small : (x : Ret) → ret_byte x < 256
 ret_small returns.Unit = omega arith
 ret_small (returns.Comp c) = comp_small c
 
-result_from : (b : ℕ) (x : Ret) → result_of b ≡ Some x → (b ≡ ret_byte x) × IsResult x
-unfolding result_of
+result_from : (b : ℕ) (x : Ret) → result_of_byte b ≡ Some x → (b ≡ ret_byte x) × IsResult x
+unfolding result_of_byte
 result_from b x e =
     elim (chosen (eqb b 0) (Some (returns.Comp Int)) _ (Some x) e) [
       | inl p ↦ subst (λ (y : Ret). (b ≡ ret_byte y) × IsResult y) (some_is (returns.Comp Int) x p.1) (eqb-true b 0 p.0, tt)
@@ -252,15 +252,15 @@ result_from b x e =
       ]
     ]
 
-result_to : (x : Ret) → IsResult x → result_of (ret_byte x) ≡ Some x
-unfolding result_of
+result_to : (x : Ret) → IsResult x → result_of_byte (ret_byte x) ≡ Some x
+unfolding result_of_byte
 result_to returns.Unit allowed = refl
 result_to (returns.Comp Int) allowed = refl
 result_to (returns.Comp Val) allowed = refl
 result_to (returns.Comp Addr) allowed = absurd allowed
 result_to (returns.Comp Float) allowed = absurd allowed
 
-result_code : IsCode result_of ret_byte IsResult
+result_code : IsCode result_of_byte ret_byte IsResult
 result_code = record { from = result_from; to = result_to; small = ret_small }
 
 ext_from_result : (x : Ret) → IsResult x → IsExtResult x
@@ -273,13 +273,13 @@ ext_from_result (returns.Comp Float) allowed = absurd allowed
 ext_result_from : (b : ℕ) (x : Ret) → ext_result_of b ≡ Some x → (b ≡ ret_byte x) × IsExtResult x
 unfolding ext_result_of
 ext_result_from b x e =
-    elim (chosen (eqb b 2) (Some (returns.Comp Addr)) (result_of b) (Some x) e) [
+    elim (chosen (eqb b 2) (Some (returns.Comp Addr)) (result_of_byte b) (Some x) e) [
       | inl p ↦ subst (λ (y : Ret). (b ≡ ret_byte y) × IsExtResult y) (some_is (returns.Comp Addr) x p.1) (eqb-true b 2 p.0, tt)
       | inr p ↦ let h = result_from b x p.1 in (h.0, ext_from_result x h.1)
     ]
 
 ext_result_to : (x : Ret) → IsExtResult x → ext_result_of (ret_byte x) ≡ Some x
-unfolding ext_result_of result_of
+unfolding ext_result_of result_of_byte
 ext_result_to returns.Unit allowed = refl
 ext_result_to (returns.Comp Int) allowed = refl
 ext_result_to (returns.Comp Val) allowed = refl
@@ -289,8 +289,8 @@ ext_result_to (returns.Comp Float) allowed = absurd allowed
 ext_result_code : IsCode ext_result_of ret_byte IsExtResult
 ext_result_code = record { from = ext_result_from; to = ext_result_to; small = ret_small }
 
-pub result_field : IsField (type_at result_of) (λ x. ret_byte x ∷ []) IsResult
-result_field = type_field result_of ret_byte IsResult result_code
+pub result_field : IsField (type_at result_of_byte) (λ x. ret_byte x ∷ []) IsResult
+result_field = type_field result_of_byte ret_byte IsResult result_code
 
 pub ext_result_field : IsField (type_at ext_result_of) (λ x. ret_byte x ∷ []) IsExtResult
 ext_result_field = type_field ext_result_of ret_byte IsExtResult ext_result_code
@@ -319,16 +319,16 @@ pub record AreParams (Allowed : Comp → Type 0) (params : List Comp) : Type 0 w
   pub few : length params ≤ 16
   pub each : AllByRecursion Allowed params
 
-module _ (most : ℕ) (Allowed : Comp → Type 0) (is : IsCode (comp_of most) comp_byte Allowed) where
-  comp_field : (before : List Comp) → IsField (type_at (comp_of most)) (λ x. comp_byte x ∷ []) Allowed
-  comp_field before = type_field (comp_of most) comp_byte Allowed is
+module _ (most : ℕ) (Allowed : Comp → Type 0) (is : IsCode (comp_of_byte most) comp_byte Allowed) where
+  comp_field : (before : List Comp) → IsField (type_at (comp_of_byte most)) (λ x. comp_byte x ∷ []) Allowed
+  comp_field before = type_field (comp_of_byte most) comp_byte Allowed is
 
   params_take : (bytes : List ℕ) (params : List Comp) (rest : List ℕ) → IsBytes bytes → params_at most bytes ≡ Ok (params, rest) → Takes bytes (params_bytes params) rest × AreParams Allowed params
   unfolding params_at params_bytes
   params_take bytes params rest fits e =
-      let a = bind_ok (kept (λ n. nat_le n 16) byte_at bytes) (λ n. rows_at (λ _. type_at (comp_of most)) [] n.0 n.1) (params, rest) e in
+      let a = bind_ok (kept (λ n. nat_le n 16) byte_at bytes) (λ n. rows_at (λ _. type_at (comp_of_byte most)) [] n.0 n.1) (params, rest) e in
       let t = count_field.takes bytes a.0.0 a.0.1 fits a.1 in
-      let r = rows_take (λ _. type_at (comp_of most)) (λ x. comp_byte x ∷ []) (λ _ x. Allowed x) comp_field [] a.0.0 a.0.1 params rest t.0.rest_fits a.2 in
+      let r = rows_take (λ _. type_at (comp_of_byte most)) (λ x. comp_byte x ∷ []) (λ _ x. Allowed x) comp_field [] a.0.0 a.0.1 params rest t.0.rest_fits a.2 in
       let all-is : params ≡ r.rows = r.all_is in
       let both = Takes-then bytes (a.0.0 ∷ []) a.0.1 (flat_map (λ x. comp_byte x ∷ []) r.rows) rest t.0 r.takes in
       let text : (a.0.0 ∷ []) ++ flat_map (λ x. comp_byte x ∷ []) r.rows ≡ length r.rows ∷ map comp_byte r.rows = params_text a.0.0 r.rows r.count in
@@ -339,8 +339,8 @@ module _ (most : ℕ) (Allowed : Comp → Type 0) (is : IsCode (comp_of most) co
   unfolding params_at params_bytes
   params_again params rest are =
       let small : (length params < 256) × (length params ≤ 16) = (omega (arith, are.few), are.few) in
-      let rows = rows_again (λ _. type_at (comp_of most)) (λ x. comp_byte x ∷ []) (λ _ x. Allowed x) comp_field [] params rest (each_to Allowed [] params are.each) in
-      let rows' : rows_at (λ _. type_at (comp_of most)) [] (length params) (map comp_byte params ++ rest) ≡ Ok (params, rest) = rw (← bytes_map comp_byte params) rows in
+      let rows = rows_again (λ _. type_at (comp_of_byte most)) (λ x. comp_byte x ∷ []) (λ _ x. Allowed x) comp_field [] params rest (each_to Allowed [] params are.each) in
+      let rows' : rows_at (λ _. type_at (comp_of_byte most)) [] (length params) (map comp_byte params ++ rest) ≡ Ok (params, rest) = rw (← bytes_map comp_byte params) rows in
       rw (count_field.again (length params) (map comp_byte params ++ rest) small) rows'
 
 pub func_params_field : IsField (params_at 2) params_bytes (AreParams IsParam)

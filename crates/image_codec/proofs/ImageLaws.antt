@@ -13,8 +13,8 @@ use Rattle.image_form.specs.declared.fault.ImageError.{ImageError}
 use Rattle.image_form.specs.declared.fault.ImageError.TheVariants as errors
 use Rattle.image_form.specs.Tables.{Tables, tables, func_names, sym_names}
 use Rattle.image_form.specs.Image.{le32, func_bytes, sym_bytes, ext_bytes, desc_bytes, table_bytes, section_bytes, tables_bytes, magic, IsVersion, AreTables, IsImage, image_bytes, table_limit}
-use Rattle.image_form.specs.Fields.{◌>>=◌, func_at, sym_at, root_at, ext_at, desc_at, table_at, words_at}
-use Rattle.image_codec.specs.Reading.{Reads, IsRefusalOf, refused, mark_at, version_at, part_at, table_limits, data_limits, code_limits, code_least, reading}
+use Rattle.image_form.specs.Fields.{◌>>=◌, func_at, sym_at, root_offset_field, ext_at, desc_at, table_at, words_of_body}
+use Rattle.image_codec.specs.Reading.{ReadsImagePart, IsRefusalOf, refused, after_mark, version_at, part_at, table_limits, data_limits, code_limits, code_least, image_reading}
 use Rattle.image_form.proofs.Differ.{apart, along}
 use Rattle.image_form.proofs.Lengths.{length-words, few, func_nonempty, sym_nonempty, ext_nonempty, desc_nonempty, le32_nonempty}
 use Rattle.image_codec.proofs.Takes.{IsBytes, bind_ok, passed_ok, Takes, Takes-then}
@@ -96,10 +96,10 @@ tables_to t is =
 
 -- Where a mark or a section was read and the reading went on, what follows from both holds. (The value
 -- and the rest are variables there, so that terms stay small.)
-mark_then : {Y : Type 0} (G : Type 0) (total : ℕ) (fault : ImageFault) (mark bytes : List ℕ) (k : List ℕ → Result Y ImageRefusal) (y : Y) → IsBytes bytes → (mark_at total fault mark bytes >>= k) ≡ Ok y
+mark_then : {Y : Type 0} (G : Type 0) (total : ℕ) (fault : ImageFault) (mark bytes : List ℕ) (k : List ℕ → Result Y ImageRefusal) (y : Y) → IsBytes bytes → (after_mark total fault mark bytes >>= k) ≡ Ok y
     → ((rest : List ℕ) → Takes bytes mark rest → k rest ≡ Ok y → G) → G
 mark_then G total fault mark bytes k y fits e next =
-    let a = bind_ok (mark_at total fault mark bytes) k y e in
+    let a = bind_ok (after_mark total fault mark bytes) k y e in
     next a.0 (mark_takes total fault mark bytes a.0 fits a.1) a.2
 
 version_then : {Y : Type 0} (G : Type 0) (total : ℕ) (bytes : List ℕ) (k : ℕ × List ℕ → Result Y ImageRefusal) (y : Y) → IsBytes bytes → (version_at total bytes >>= k) ≡ Ok y
@@ -125,8 +125,8 @@ func_body = table_body func_at func_bytes FuncRule func_field table_limits
 sym_body : (names : List (List ℕ)) (data_len : ℕ) → IsBody (table_at (sym_at names data_len)) (table_bytes sym_bytes) table_limits (AreRows (SymRule names data_len))
 sym_body names data_len = table_body (sym_at names data_len) sym_bytes (SymRule names data_len) (sym_field names data_len) table_limits
 
-root_body : (data_len : ℕ) → IsBody (table_at (root_at data_len)) (table_bytes le32) table_limits (AreRows (RootRule data_len))
-root_body data_len = table_body (root_at data_len) le32 (RootRule data_len) (root_field data_len) table_limits
+root_body : (data_len : ℕ) → IsBody (table_at (root_offset_field data_len)) (table_bytes le32) table_limits (AreRows (RootRule data_len))
+root_body data_len = table_body (root_offset_field data_len) le32 (RootRule data_len) (root_field data_len) table_limits
 
 ext_body : IsBody (table_at ext_at) (table_bytes ext_bytes) table_limits (AreRows ExtRule)
 ext_body = table_body ext_at ext_bytes ExtRule ext_field table_limits
@@ -149,18 +149,18 @@ chained bytes a b c d e f g h i x0 x1 x2 x3 x4 x5 x6 x7 rest t0 t1 t2 t3 t4 t5 t
     let all : List ℕ = a ++ (b ++ (c ++ (d ++ (e ++ (f ++ (g ++ (h ++ i))))))) in
     u0.parts ∙ ap (λ (r : List ℕ). all ++ r) nothing ∙ append-nil all
 
-reading_takes : (bytes : List ℕ) (t : Tables) → IsBytes bytes → reading bytes ≡ Ok t → AreRead t × (bytes ≡ tables_bytes t)
-unfolding reading tables_bytes
+reading_takes : (bytes : List ℕ) (t : Tables) → IsBytes bytes → image_reading bytes ≡ Ok t → AreRead t × (bytes ≡ tables_bytes t)
+unfolding image_reading tables_bytes
 reading_takes bytes t fits e =
     let total = length bytes in
     let G : Type 0 = AreRead t × (bytes ≡ tables_bytes t) in
     mark_then G total faults.Magic magic bytes _ t fits e (λ x0 t0 e0.
     version_then G total x0 _ t t0.rest_fits e0 (λ version x1 t1 is-version e1.
     part_then G (table_at func_at) (table_bytes func_bytes) table_limits (AreRows FuncRule) func_body total (codes "FUNC") x1 _ t t1.rest_fits e1 (λ funcs x2 f e2.
-    part_then G words_at (flat_map le32) (code_limits funcs) AreWords (words_body funcs) total (codes "CODE") x2 _ t f.takes.rest_fits e2 (λ code x3 c e3.
+    part_then G words_of_body (flat_map le32) (code_limits funcs) AreWords (words_body funcs) total (codes "CODE") x2 _ t f.takes.rest_fits e2 (λ code x3 c e3.
     part_then G (λ body. Ok body) (λ b. b) data_limits (λ b. Unit {0}) (data_body data_limits) total (codes "DATA") x3 _ t c.takes.rest_fits e3 (λ bytes' x4 d e4.
     part_then G (table_at (sym_at (func_names funcs) (length bytes'))) (table_bytes sym_bytes) table_limits (AreRows (SymRule (func_names funcs) (length bytes'))) (sym_body (func_names funcs) (length bytes')) total (codes "SYMS") x4 _ t d.takes.rest_fits e4 (λ syms x5 s e5.
-    part_then G (table_at (root_at (length bytes'))) (table_bytes le32) table_limits (AreRows (RootRule (length bytes'))) (root_body (length bytes')) total (codes "ROOT") x5 _ t s.takes.rest_fits e5 (λ roots x6 r e6.
+    part_then G (table_at (root_offset_field (length bytes'))) (table_bytes le32) table_limits (AreRows (RootRule (length bytes'))) (root_body (length bytes')) total (codes "ROOT") x5 _ t s.takes.rest_fits e5 (λ roots x6 r e6.
     part_then G (table_at ext_at) (table_bytes ext_bytes) table_limits (AreRows ExtRule) ext_body total (codes "EXTC") x6 _ t r.takes.rest_fits e6 (λ extcs x7 x e7.
     part_then G (table_at (desc_at version (4 * length code))) (table_bytes (desc_bytes version)) table_limits (AreRows (DescRule version (4 * length code))) (desc_body version (4 * length code)) total (codes "DESC") x7 _ t x.takes.rest_fits e7 (λ descs x8 z e8.
     let made : Tables = record { version = version; funcs = funcs; code = code; bytes = bytes'; syms = syms; roots = roots; extcs = extcs; descs = descs } in
@@ -185,7 +185,7 @@ reading_takes bytes t fits e =
     } in
     subst (λ (u : Tables). AreRead u × (bytes ≡ tables_bytes u)) g.1 (read, whole))))))))))
 
-mark_goes : {Y : Type 0} (total : ℕ) (fault : ImageFault) (mark rest : List ℕ) (k : List ℕ → Result Y ImageRefusal) → (mark_at total fault mark (mark ++ rest) >>= k) ≡ k rest
+mark_goes : {Y : Type 0} (total : ℕ) (fault : ImageFault) (mark rest : List ℕ) (k : List ℕ → Result Y ImageRefusal) → (after_mark total fault mark (mark ++ rest) >>= k) ≡ k rest
 mark_goes total fault mark rest k = ap (λ r. r >>= k) (mark_again total fault mark rest)
 
 version_goes : {Y : Type 0} (total version : ℕ) (rest : List ℕ) (k : ℕ × List ℕ → Result Y ImageRefusal) → IsVersion version → (version_at total (le32 version ++ rest) >>= k) ≡ k (version, rest)
@@ -198,8 +198,8 @@ part_goes read spell limits Fits is total name x rest k fits lt within = ap (λ 
 table_small : (n : ℕ) → IsWithin table_limits n → n < 2 ^ 32
 table_small n within = omega (arith, within.most)
 
-reading_again : (t : Tables) → AreRead t → reading (tables_bytes t) ≡ Ok t
-unfolding reading tables_bytes
+reading_again : (t : Tables) → AreRead t → image_reading (tables_bytes t) ≡ Ok t
+unfolding image_reading tables_bytes
 reading_again t r =
     let total = length (tables_bytes t) in
     let x7 = section_bytes (codes "DESC") (table_bytes (desc_bytes t.version) t.descs) ++ [] in
@@ -215,36 +215,36 @@ reading_again t r =
     ++ (section_bytes (codes "SYMS") (table_bytes sym_bytes t.syms) ++ (section_bytes (codes "ROOT") (table_bytes le32 t.roots) ++ (section_bytes (codes "EXTC") (table_bytes ext_bytes t.extcs) ++ end)))))))) (sym (append-nil (section_bytes (codes "DESC") (table_bytes (desc_bytes t.version) t.descs)))) in
     let code_small : length (flat_map le32 t.code) < 2 ^ 32 = omega (arith, r.code_within.most) in
     let data_small : length t.bytes < 2 ^ 32 = omega (arith, r.bytes_within.most) in
-    ap reading whole
+    ap image_reading whole
     ∙ mark_goes _ faults.Magic magic x0 _
     ∙ version_goes _ t.version x1 _ r.version
     ∙ part_goes (table_at func_at) (table_bytes func_bytes) table_limits (AreRows FuncRule) func_body _ (codes "FUNC") t.funcs x2 _ r.funcs (table_small _ r.funcs_within) r.funcs_within
-    ∙ part_goes words_at (flat_map le32) (code_limits t.funcs) AreWords (words_body t.funcs) _ (codes "CODE") t.code x3 _ r.code code_small r.code_within
+    ∙ part_goes words_of_body (flat_map le32) (code_limits t.funcs) AreWords (words_body t.funcs) _ (codes "CODE") t.code x3 _ r.code code_small r.code_within
     ∙ part_goes (λ body. Ok body) (λ b. b) data_limits (λ b. Unit {0}) (data_body data_limits) _ (codes "DATA") t.bytes x4 _ tt data_small r.bytes_within
     ∙ part_goes (table_at (sym_at (func_names t.funcs) (length t.bytes))) (table_bytes sym_bytes) table_limits (AreRows (SymRule (func_names t.funcs) (length t.bytes))) (sym_body (func_names t.funcs) (length t.bytes)) _ (codes "SYMS") t.syms x5 _ r.syms (table_small _ r.syms_within) r.syms_within
-    ∙ part_goes (table_at (root_at (length t.bytes))) (table_bytes le32) table_limits (AreRows (RootRule (length t.bytes))) (root_body (length t.bytes)) _ (codes "ROOT") t.roots x6 _ r.roots (table_small _ r.roots_within) r.roots_within
+    ∙ part_goes (table_at (root_offset_field (length t.bytes))) (table_bytes le32) table_limits (AreRows (RootRule (length t.bytes))) (root_body (length t.bytes)) _ (codes "ROOT") t.roots x6 _ r.roots (table_small _ r.roots_within) r.roots_within
     ∙ part_goes (table_at ext_at) (table_bytes ext_bytes) table_limits (AreRows ExtRule) ext_body _ (codes "EXTC") t.extcs x7 _ r.extcs (table_small _ r.extcs_within) r.extcs_within
     ∙ part_goes (table_at (desc_at t.version (4 * length t.code))) (table_bytes (desc_bytes t.version)) table_limits (AreRows (DescRule t.version (4 * length t.code))) (desc_body t.version (4 * length t.code)) _ (codes "DESC") t.descs [] _ r.descs (table_small _ r.descs_within) r.descs_within
 
 -- ---- the laws of the reading
 
-pub read_is : (bytes : List ℕ) (t : Tables) → IsBytes bytes → reading bytes ≡ Ok t → AreTables t × (bytes ≡ tables_bytes t)
+pub read_is : (bytes : List ℕ) (t : Tables) → IsBytes bytes → image_reading bytes ≡ Ok t → AreTables t × (bytes ≡ tables_bytes t)
 read_is bytes t fits e = let h = reading_takes bytes t fits e in (tables_from t h.0, h.1)
 
-pub is_read : (t : Tables) → AreTables t → reading (tables_bytes t) ≡ Ok t
+pub is_read : (t : Tables) → AreTables t → image_reading (tables_bytes t) ≡ Ok t
 is_read t is = reading_again t (tables_to t is)
 
-pub found_from : (bytes : List ℕ) → IsBytes bytes → (result : Result declared.Image ImageError) → Reads tables result (reading bytes) → IfOk result (λ image. IsImage image × (image_bytes image ≡ bytes))
+pub found_from : (bytes : List ℕ) → IsBytes bytes → (result : Result declared.Image ImageError) → ReadsImagePart tables result (image_reading bytes) → IfOk result (λ image. IsImage image × (image_bytes image ≡ bytes))
 found_from bytes fits (Ok image) e = let h = read_is bytes (tables image) fits e in (h.0, sym h.1)
 found_from bytes fits (Err error) e = tt
 
-image_read : (bytes : List ℕ) (image : declared.Image) → IsImage image → image_bytes image ≡ bytes → reading bytes ≡ Ok (tables image)
-image_read bytes image is same = ap reading (sym same) ∙ is_read (tables image) is
+image_read : (bytes : List ℕ) (image : declared.Image) → IsImage image → image_bytes image ≡ bytes → image_reading bytes ≡ Ok (tables image)
+image_read bytes image is same = ap image_reading (sym same) ∙ is_read (tables image) is
 
-pub only_from : (bytes : List ℕ) (result : Result declared.Image ImageError) → Reads tables result (reading bytes) → (image : declared.Image) → IsImage image → image_bytes image ≡ bytes → Reads tables result (Ok (tables image))
-only_from bytes result e image is same = subst (λ (read : Result Tables ImageRefusal). Reads tables result read) (image_read bytes image is same) e
+pub only_from : (bytes : List ℕ) (result : Result declared.Image ImageError) → ReadsImagePart tables result (image_reading bytes) → (image : declared.Image) → IsImage image → image_bytes image ≡ bytes → ReadsImagePart tables result (Ok (tables image))
+only_from bytes result e image is same = subst (λ (read : Result Tables ImageRefusal). ReadsImagePart tables result read) (image_read bytes image is same) e
 
-pub refused_from : (bytes : List ℕ) (result : Result declared.Image ImageError) → Reads tables result (reading bytes) → IfErr result (IsRefusalOf bytes)
+pub refused_from : (bytes : List ℕ) (result : Result declared.Image ImageError) → ReadsImagePart tables result (image_reading bytes) → IfErr result (IsRefusalOf bytes)
 refused_from bytes (Ok image) e = tt
 refused_from bytes (Err errors.OutOfMemory) e = tt
 refused_from bytes (Err (errors.Refused refusal)) e = (λ image is same. clash (tables image) refusal (sym (image_read bytes image is same) ∙ e), e)

@@ -10,9 +10,9 @@ use Rattle.bs_words.specs.declared.types.Comp.{Comp}
 use Rattle.bs_words.specs.declared.types.Ret.{Ret}
 use Rattle.image_form.specs.Tables.{Func, Sym, Desc, func_names, sym_names}
 use Rattle.bs_words.specs.Symbol.{IsSymbol}
-use Rattle.image_form.specs.Image.{le32, le_entry, entry_limit, ret_byte, name_bytes, params_bytes, func_bytes, sym_bytes, ext_bytes, desc_bytes, IsParam, IsResult, IsArgument, IsExtResult, IsRoot, IsEntry, IsNextEntry, end_of, first_return}
-use Rattle.image_form.specs.Seen.{has}
-use Rattle.image_form.specs.Fields.{◌>>=◌, number_at, wide_at, kept, name_at, new_name_at, result_of, ext_result_of, type_at, rows_at, params_at, at_some, at_last, func_offset_at, frame_at, func_at, sym_offset_at, sym_at, root_at, ext_at, is_entry, is_next_entry, entry_at, after_at, size_at, desc_at}
+use Rattle.image_form.specs.Image.{le32, le_entry, entry_limit, ret_byte, name_bytes, params_bytes, func_bytes, sym_bytes, ext_bytes, desc_bytes, IsParam, IsResult, IsArgument, IsExtResult, IsRoot, IsEntry, IsNextEntry, function_end, first_return}
+use Rattle.image_form.specs.Seen.{has_text}
+use Rattle.image_form.specs.Fields.{◌>>=◌, number_at, wide_at, kept, name_at, new_name_at, result_of_byte, ext_result_of, type_at, rows_at, params_at, at_some, at_last, func_offset_at, frame_at, func_at, sym_offset_at, sym_at, root_offset_field, ext_at, is_entry, is_next_entry, entry_at, after_at, frame_size_field, desc_at}
 use Rattle.image_codec.proofs.Takes.{IsBytes, bind_ok, ok_is, Takes, Takes-then, IsField, alike, kept_field, rows_take, rows_again, AllAfter}
 use Rattle.image_codec.proofs.FieldLaws.{some_is, u32_field, wide_field, IsNew, name_field, new_name_field, new_decides, result_field, ext_result_field, AreParams, func_params_field, ext_params_field}
 
@@ -52,14 +52,14 @@ step field spell Fits is bytes k y fits e =
 
 -- ---- functions
 
-func_offset_decides : (before : List Func) (n : ℕ) → Decides (eqb (n % 4) 0 && at_last (λ (f : Func). ltb f.offset n && leb (end_of f) n) before) ((n % 4 ≡ 0) × Last (λ (f : Func). (f.offset < n) × (end_of f ≤ n)) before)
+func_offset_decides : (before : List Func) (n : ℕ) → Decides (eqb (n % 4) 0 && at_last (λ (f : Func). ltb f.offset n && leb (function_end f) n) before) ((n % 4 ≡ 0) × Last (λ (f : Func). (f.offset < n) × (function_end f ≤ n)) before)
 func_offset_decides before n =
-    Decides-and _ _ (Decides-eqb (n % 4) 0) (last_decides (λ (f : Func). ltb f.offset n && leb (end_of f) n) (λ (f : Func). (f.offset < n) × (end_of f ≤ n)) (λ f. Decides-and _ _ (Decides-ltb f.offset n) (leb_decides (end_of f) n)) before)
+    Decides-and _ _ (Decides-eqb (n % 4) 0) (last_decides (λ (f : Func). ltb f.offset n && leb (function_end f) n) (λ (f : Func). (f.offset < n) × (function_end f ≤ n)) (λ f. Decides-and _ _ (Decides-ltb f.offset n) (leb_decides (function_end f) n)) before)
 
 pub record FuncOffset (before : List Func) (n : ℕ) : Type 0 where
   pub fits : n < 2 ^ 32
   pub aligned : n % 4 ≡ 0
-  pub behind : Last (λ (f : Func). (f.offset < n) × (end_of f ≤ n)) before
+  pub behind : Last (λ (f : Func). (f.offset < n) × (function_end f ≤ n)) before
 
 func_offset_field : (before : List Func) → IsField (func_offset_at before) le32 (FuncOffset before)
 unfolding func_offset_at
@@ -87,7 +87,7 @@ func_takes before bytes f rest fits e =
     let c = step (number_at w32) le32 _ u32_field b.rest _ (f, rest) b.takes.rest_fits b.then in
     let d = step frame_at le32 _ frame_field c.rest _ (f, rest) c.takes.rest_fits c.then in
     let p = step (params_at 2) params_bytes _ func_params_field d.rest _ (f, rest) d.takes.rest_fits d.then in
-    let r = step (type_at result_of) (λ x. ret_byte x ∷ []) _ result_field p.rest _ (f, rest) p.takes.rest_fits p.then in
+    let r = step (type_at result_of_byte) (λ x. ret_byte x ∷ []) _ result_field p.rest _ (f, rest) p.takes.rest_fits p.then in
     let made : Func × List ℕ = (record { name = a.value; offset = b.value; words = c.value; frame = d.value; params = p.value; result = r.value }, r.rest) in
     let t4 = Takes-then d.rest (params_bytes p.value) p.rest (ret_byte r.value ∷ []) r.rest p.takes r.takes in
     let t3 = Takes-then c.rest (le32 d.value) d.rest _ r.rest d.takes t4 in
@@ -152,10 +152,10 @@ pub record RootRule (data_len : ℕ) (before : List ℕ) (n : ℕ) : Type 0 wher
   pub cell : IsRoot data_len n
   pub rises : Last (λ (p : ℕ). p < n) before
 
-pub root_field : (data_len : ℕ) (before : List ℕ) → IsField (root_at data_len before) le32 (RootRule data_len before)
-unfolding root_at
+pub root_field : (data_len : ℕ) (before : List ℕ) → IsField (root_offset_field data_len before) le32 (RootRule data_len before)
+unfolding root_offset_field
 root_field data_len before =
-    alike (root_at data_len before) le32 _ (kept_field (number_at w32) le32 _ u32_field _ (λ n. ((n % 8 ≡ 0) × (n + 8 ≤ data_len)) × Last (λ (p : ℕ). p < n) before)
+    alike (root_offset_field data_len before) le32 _ (kept_field (number_at w32) le32 _ u32_field _ (λ n. ((n % 8 ≡ 0) × (n + 8 ≤ data_len)) × Last (λ (p : ℕ). p < n) before)
     (λ n. Decides-and _ _ (Decides-and _ _ (Decides-eqb (n % 8) 0) (leb_decides (n + 8) data_len)) (last_decides (λ (p : ℕ). ltb p n) (λ (p : ℕ). p < n) (λ p. Decides-ltb p n) before)))
     (RootRule data_len before) (λ x h. record { fits = h.0; cell = record { aligned = h.1.0.0; in_data = h.1.0.1 }; rises = h.1.1 }) (λ x h. (h.fits, ((h.cell.aligned, h.cell.in_data), h.rises)))
 
@@ -165,16 +165,16 @@ pub record ExtRule (before : List External) (e : External) : Type 0 where
   pub name : IsSymbol e.name
   pub params : AreParams IsArgument e.params
   pub result : IsExtResult e.result
-  pub new : has (map ext_bytes before) (ext_bytes e) ≡ false
+  pub new : has_text (map ext_bytes before) (ext_bytes e) ≡ false
 
 abbrev ext_of : List ℕ → List Comp → Ret → External
 ext_of name params result = record { name = name; params = params; result = result }
 
 new_ext_field : (before : List External) (name : List ℕ) (params : List Comp)
-    → IsField (kept (λ result. not (has (map ext_bytes before) (ext_bytes (ext_of name params result)))) (type_at ext_result_of)) (λ x. ret_byte x ∷ [])
-    (λ result. IsExtResult result × (has (map ext_bytes before) (ext_bytes (ext_of name params result)) ≡ false))
+    → IsField (kept (λ result. not (has_text (map ext_bytes before) (ext_bytes (ext_of name params result)))) (type_at ext_result_of)) (λ x. ret_byte x ∷ [])
+    (λ result. IsExtResult result × (has_text (map ext_bytes before) (ext_bytes (ext_of name params result)) ≡ false))
 new_ext_field before name params =
-    kept_field (type_at ext_result_of) (λ x. ret_byte x ∷ []) IsExtResult ext_result_field _ _ (λ result. new_decides (has (map ext_bytes before) (ext_bytes (ext_of name params result))))
+    kept_field (type_at ext_result_of) (λ x. ret_byte x ∷ []) IsExtResult ext_result_field _ _ (λ result. new_decides (has_text (map ext_bytes before) (ext_bytes (ext_of name params result))))
 
 -- the bytes of a row, opened
 ext_opened : (e : External) → ext_bytes e ≡ name_bytes e.name ++ (params_bytes e.params ++ ret_byte e.result ∷ [])
@@ -248,10 +248,10 @@ pub record SizeRule (version n : ℕ) : Type 0 where
   pub aligned : n % 16 ≡ 0
   pub nonempty : 16 ≤ n
 
-size_field : (version : ℕ) → IsField (size_at version) (le_entry version) (SizeRule version)
-unfolding size_at
+size_field : (version : ℕ) → IsField (frame_size_field version) (le_entry version) (SizeRule version)
+unfolding frame_size_field
 size_field version =
-    alike (size_at version) (le_entry version) _ (kept_field (wide_at version) (le_entry version) _ (wide_field version) _ (λ n. (n % 16 ≡ 0) × (16 ≤ n)) (λ n. Decides-and _ _ (Decides-eqb (n % 16) 0) (leb_decides 16 n)))
+    alike (frame_size_field version) (le_entry version) _ (kept_field (wide_at version) (le_entry version) _ (wide_field version) _ (λ n. (n % 16 ≡ 0) × (16 ≤ n)) (λ n. Decides-and _ _ (Decides-eqb (n % 16) 0) (leb_decides 16 n)))
     (SizeRule version) (λ x h. record { fits = h.0; aligned = h.1.0; nonempty = h.1.1 }) (λ x h. (h.fits, (h.aligned, h.nonempty)))
 
 pub record DescRule (version code_len : ℕ) (before : List Desc) (d : Desc) : Type 0 where
@@ -264,7 +264,7 @@ desc_takes : (version code_len : ℕ) (before : List Desc) (bytes : List ℕ) (x
 unfolding desc_at desc_bytes
 desc_takes version code_len before bytes x rest fits e =
     let a = step (after_at code_len before) le32 _ (after_field code_len before) bytes _ (x, rest) fits e in
-    let b = step (size_at version) (le_entry version) _ (size_field version) a.rest _ (x, rest) a.takes.rest_fits a.then in
+    let b = step (frame_size_field version) (le_entry version) _ (size_field version) a.rest _ (x, rest) a.takes.rest_fits a.then in
     let c = step (wide_at version) (le_entry version) _ (wide_field version) b.rest _ (x, rest) b.takes.rest_fits b.then in
     let d = bind_ok (rows_at (entry_at version b.value) [] c.value c.rest) _ (x, rest) c.then in
     let r = rows_take (entry_at version b.value) (le_entry version) (EntryRule version b.value) (entry_field version b.value) [] c.value c.rest d.0.0 d.0.1 c.takes.rest_fits d.1 in

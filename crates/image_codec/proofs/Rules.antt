@@ -7,8 +7,8 @@ use Rattle.std.proofs.lemmas.List.{append-nil, map_push}
 use Rattle.std.proofs.lemmas.Slice.Eq.{bytes_eq-Decides}
 use Rattle.bs_words.specs.External.{External}
 use Rattle.image_form.specs.Tables.{Func, Sym, Desc, func_names, sym_names}
-use Rattle.image_form.specs.Image.{First, EachNext, IsFunc, IsBehind, IsSym, IsRoot, IsExt, IsDesc, IsEntry, IsNextEntry, entry_limit, end_of, ext_bytes}
-use Rattle.image_form.specs.Seen.{has}
+use Rattle.image_form.specs.Image.{First, EachNext, IsFunc, IsBehind, IsSym, IsRoot, IsExt, IsDesc, IsEntry, IsNextEntry, entry_limit, function_end, ext_bytes}
+use Rattle.image_form.specs.Seen.{has_text}
 use Rattle.image_form.specs.Fields.{ext_at}
 use Rattle.image_form.proofs.Differ.{AllDiffer}
 use Rattle.image_form.proofs.Lengths.{entry_fits}
@@ -56,16 +56,16 @@ no_last P x e = absurd cc
 -- each text is new when it comes
 abbrev pub AllNew : List (List ℕ) → List (List ℕ) → Type 0
 AllNew names [] = Unit {0}
-AllNew names (k ∷ ks) = (has names k ≡ false) × AllNew (names ++ k ∷ []) ks
+AllNew names (k ∷ ks) = (has_text names k ≡ false) × AllNew (names ++ k ∷ []) ks
 
-pub new_from : {A : Type 0} (key : A → List ℕ) (names : List (List ℕ)) (before xs : List A) → AllAfter (λ b x. has (names ++ map key b) (key x) ≡ false) before xs → AllNew (names ++ map key before) (map key xs)
+pub new_from : {A : Type 0} (key : A → List ℕ) (names : List (List ℕ)) (before xs : List A) → AllAfter (λ b x. has_text (names ++ map key b) (key x) ≡ false) before xs → AllNew (names ++ map key before) (map key xs)
 new_from key names before [] all = tt
 new_from key names before (x ∷ xs) all =
     let h = new_from key names (before ++ x ∷ []) xs all.1 in
     let e : names ++ map key (before ++ x ∷ []) ≡ (names ++ map key before) ++ key x ∷ [] = rw map_push (sym (append_assoc names (map key before) (key x ∷ []))) in
     (all.0, subst (λ ns. AllNew ns (map key xs)) e h)
 
-pub new_to : {A : Type 0} (key : A → List ℕ) (names : List (List ℕ)) (before xs : List A) → AllNew (names ++ map key before) (map key xs) → AllAfter (λ b x. has (names ++ map key b) (key x) ≡ false) before xs
+pub new_to : {A : Type 0} (key : A → List ℕ) (names : List (List ℕ)) (before xs : List A) → AllNew (names ++ map key before) (map key xs) → AllAfter (λ b x. has_text (names ++ map key b) (key x) ≡ false) before xs
 new_to key names before [] all = tt
 new_to key names before (x ∷ xs) all =
     let e : (names ++ map key before) ++ key x ∷ [] ≡ names ++ map key (before ++ x ∷ []) = rw map_push (append_assoc names (map key before) (key x ∷ [])) in
@@ -83,10 +83,10 @@ new_parts names (k ∷ ks) ls all =
     ((all.0, h.0), subst (λ ns. AllNew ns ls) (append_assoc names (k ∷ []) ks) h.1)
 
 -- new beside one more name: another than that name, and new among the others
-more_from : (names : List (List ℕ)) (k : List ℕ) (ks : List (List ℕ)) → AllByRecursion (λ l. has (names ++ k ∷ []) l ≡ false) ks → AllByRecursion (λ l. k ≢ l) ks × AllByRecursion (λ l. has names l ≡ false) ks
+more_from : (names : List (List ℕ)) (k : List ℕ) (ks : List (List ℕ)) → AllByRecursion (λ l. has_text (names ++ k ∷ []) l ≡ false) ks → AllByRecursion (λ l. k ≢ l) ks × AllByRecursion (λ l. has_text names l ≡ false) ks
 more_from names k [] all = (tt, tt)
 more_from names k (l ∷ ks) all =
-    let p = or_parts (bytes_eq l k) (has names l) (sym (has_more names k l) ∙ all.0) in
+    let p = or_parts (bytes_eq l k) (has_text names l) (sym (has_more names k l) ∙ all.0) in
     let h = more_from names k ks all.1 in
     let ne : k ≢ l = λ e. clash (bytes_eq l k) p.0 ((bytes_eq-Decides l k).1 (sym e)) in
     ((ne, h.0), (p.1, h.1))
@@ -94,28 +94,28 @@ more_from names k (l ∷ ks) all =
     clash : (b : Bool) → b ≡ false → b ≡ true → ⊥
     clash b p q = absurd cc
 
-more_to : (names : List (List ℕ)) (k : List ℕ) (ks : List (List ℕ)) → AllByRecursion (λ l. k ≢ l) ks → AllByRecursion (λ l. has names l ≡ false) ks → AllByRecursion (λ l. has (names ++ k ∷ []) l ≡ false) ks
+more_to : (names : List (List ℕ)) (k : List ℕ) (ks : List (List ℕ)) → AllByRecursion (λ l. k ≢ l) ks → AllByRecursion (λ l. has_text names l ≡ false) ks → AllByRecursion (λ l. has_text (names ++ k ∷ []) l ≡ false) ks
 more_to names k [] ne new = tt
 more_to names k (l ∷ ks) ne new =
     let other : bytes_eq l k ≡ false = false_from_ne_true (bytes_eq l k) (λ e. ne.0 (sym ((bytes_eq-Decides l k).0 e))) in
-    (has_more names k l ∙ or_from (bytes_eq l k) (has names l) other new.0, more_to names k ks ne.1 new.1)
+    (has_more names k l ∙ or_from (bytes_eq l k) (has_text names l) other new.0, more_to names k ks ne.1 new.1)
 
-differ_from' : (names ks : List (List ℕ)) → AllNew names ks → AllDiffer ks × AllByRecursion (λ l. has names l ≡ false) ks
+differ_from' : (names ks : List (List ℕ)) → AllNew names ks → AllDiffer ks × AllByRecursion (λ l. has_text names l ≡ false) ks
 differ_from' names [] all = (tt, tt)
 differ_from' names (k ∷ ks) all =
     let h = differ_from' (names ++ k ∷ []) ks all.1 in
     let m = more_from names k ks h.1 in
     ((m.0, h.0), (all.0, m.1))
 
-differ_to' : (names ks : List (List ℕ)) → AllDiffer ks → AllByRecursion (λ l. has names l ≡ false) ks → AllNew names ks
+differ_to' : (names ks : List (List ℕ)) → AllDiffer ks → AllByRecursion (λ l. has_text names l ≡ false) ks → AllNew names ks
 differ_to' names [] differ new = tt
 differ_to' names (k ∷ ks) differ new = (new.0, differ_to' (names ++ k ∷ []) ks differ.1 (more_to names k ks differ.0 new.1))
 
 pub differ_from : (ks : List (List ℕ)) → AllNew [] ks → AllDiffer ks
 differ_from ks all = (differ_from' [] ks all).0
 
-none_has : (ks : List (List ℕ)) → AllByRecursion (λ l. has [] l ≡ false) ks
-unfolding has
+none_has : (ks : List (List ℕ)) → AllByRecursion (λ l. has_text [] l ≡ false) ks
+unfolding has_text
 none_has [] = tt
 none_has (k ∷ ks) = (refl, none_has ks)
 
@@ -133,10 +133,10 @@ pub funcs_from : (funcs : List Func) → AllAfter FuncRule [] funcs → FuncsRea
 funcs_from funcs all = record {
   each = each_from IsFunc [] funcs (weaker FuncRule (λ _ f. IsFunc f) (λ b f r. record { name = r.name.name; aligned = r.offset.aligned; frame = r.frame.1; frame_fits = r.frame.0; few = r.params.few; params = r.params.each; result = r.result }) [] funcs all);
   in_order = (order_from IsBehind [] funcs (weaker FuncRule (λ b f. Last (λ p. IsBehind p f) b) (λ b f r p e. let h = r.offset.behind p e in record { rises = h.0; apart = h.1 }) [] funcs all)).1;
-  names = new_from (λ (f : Func). f.name) [] [] funcs (weaker FuncRule (λ b f. has ([] ++ map (λ (g : Func). g.name) b) f.name ≡ false) (λ b f r. r.name.new) [] funcs all);
+  names = new_from (λ (f : Func). f.name) [] [] funcs (weaker FuncRule (λ b f. has_text ([] ++ map (λ (g : Func). g.name) b) f.name ≡ false) (λ b f r. r.name.new) [] funcs all);
 }
 
-func_rule : (limit : ℕ) → limit < 2 ^ 32 → (before : List Func) (f : Func) → ((IsFunc f × (end_of f ≤ limit)) × (Last (λ p. IsBehind p f) before × (has ([] ++ map (λ (g : Func). g.name) before) f.name ≡ false))) → FuncRule before f
+func_rule : (limit : ℕ) → limit < 2 ^ 32 → (before : List Func) (f : Func) → ((IsFunc f × (function_end f ≤ limit)) × (Last (λ p. IsBehind p f) before × (has_text ([] ++ map (λ (g : Func). g.name) before) f.name ≡ false))) → FuncRule before f
 func_rule limit small before f h = record {
   name = record { name = h.0.0.name; new = h.1.1 };
   offset = record { fits = omega arith; aligned = h.0.0.aligned; behind = λ p e. let k = h.1.0 p e in (k.rises, k.apart) };
@@ -146,13 +146,13 @@ func_rule limit small before f h = record {
   result = h.0.0.result;
 }
 
-pub funcs_to : (limit : ℕ) (funcs : List Func) → limit < 2 ^ 32 → FuncsRead funcs → AllByRecursion (λ f. end_of f ≤ limit) funcs → AllAfter FuncRule [] funcs
+pub funcs_to : (limit : ℕ) (funcs : List Func) → limit < 2 ^ 32 → FuncsRead funcs → AllByRecursion (λ f. function_end f ≤ limit) funcs → AllAfter FuncRule [] funcs
 funcs_to limit funcs small read inside =
-    let own = both (λ _ f. IsFunc f) (λ _ f. end_of f ≤ limit) [] funcs (each_to IsFunc [] funcs read.each) (each_to (λ f. end_of f ≤ limit) [] funcs inside) in
+    let own = both (λ _ f. IsFunc f) (λ _ f. function_end f ≤ limit) [] funcs (each_to IsFunc [] funcs read.each) (each_to (λ f. function_end f ≤ limit) [] funcs inside) in
     let order = order_to IsBehind [] funcs (no_last _) read.in_order in
     let names = new_to (λ (f : Func). f.name) [] [] funcs read.names in
-    let others = both (λ b f. Last (λ p. IsBehind p f) b) (λ b f. has ([] ++ map (λ (g : Func). g.name) b) f.name ≡ false) [] funcs order names in
-    weaker _ FuncRule (func_rule limit small) [] funcs (both (λ _ f. IsFunc f × (end_of f ≤ limit)) (λ b f. Last (λ p. IsBehind p f) b × (has ([] ++ map (λ (g : Func). g.name) b) f.name ≡ false)) [] funcs own others)
+    let others = both (λ b f. Last (λ p. IsBehind p f) b) (λ b f. has_text ([] ++ map (λ (g : Func). g.name) b) f.name ≡ false) [] funcs order names in
+    weaker _ FuncRule (func_rule limit small) [] funcs (both (λ _ f. IsFunc f × (function_end f ≤ limit)) (λ b f. Last (λ p. IsBehind p f) b × (has_text ([] ++ map (λ (g : Func). g.name) b) f.name ≡ false)) [] funcs own others)
 
 -- ---- symbols
 
@@ -165,10 +165,10 @@ pub syms_from : (names : List (List ℕ)) (data_len : ℕ) (syms : List Sym) →
 syms_from names data_len syms all = record {
   each = each_from (IsSym data_len) [] syms (weaker (SymRule names data_len) (λ _ s. IsSym data_len s) (λ b s r. record { name = r.name.name; in_data = r.offset.in_data }) [] syms all);
   in_order = (order_from (λ (a b : Sym). a.offset ≤ b.offset) [] syms (weaker (SymRule names data_len) (λ b s. Last (λ (p : Sym). p.offset ≤ s.offset) b) (λ b s r. r.offset.in_order) [] syms all)).1;
-  new = subst (λ ns. AllNew ns (sym_names syms)) (append-nil names) (new_from (λ (s : Sym). s.name) names [] syms (weaker (SymRule names data_len) (λ b s. has (names ++ map (λ (g : Sym). g.name) b) s.name ≡ false) (λ b s r. r.name.new) [] syms all));
+  new = subst (λ ns. AllNew ns (sym_names syms)) (append-nil names) (new_from (λ (s : Sym). s.name) names [] syms (weaker (SymRule names data_len) (λ b s. has_text (names ++ map (λ (g : Sym). g.name) b) s.name ≡ false) (λ b s r. r.name.new) [] syms all));
 }
 
-sym_rule : (names : List (List ℕ)) (data_len : ℕ) → data_len < 2 ^ 32 → (before : List Sym) (s : Sym) → (IsSym data_len s × (Last (λ (p : Sym). p.offset ≤ s.offset) before × (has (names ++ map (λ (g : Sym). g.name) before) s.name ≡ false))) → SymRule names data_len before s
+sym_rule : (names : List (List ℕ)) (data_len : ℕ) → data_len < 2 ^ 32 → (before : List Sym) (s : Sym) → (IsSym data_len s × (Last (λ (p : Sym). p.offset ≤ s.offset) before × (has_text (names ++ map (λ (g : Sym). g.name) before) s.name ≡ false))) → SymRule names data_len before s
 sym_rule names data_len small before s h = record {
   name = record { name = h.0.name; new = h.1.1 };
   offset = record { fits = omega arith; in_data = h.0.in_data; in_order = h.1.0 };
@@ -179,8 +179,8 @@ syms_to names data_len syms small read =
     let own = each_to (IsSym data_len) [] syms read.each in
     let order = order_to (λ (a b : Sym). a.offset ≤ b.offset) [] syms (no_last _) read.in_order in
     let new = new_to (λ (s : Sym). s.name) names [] syms (subst (λ ns. AllNew ns (sym_names syms)) (sym (append-nil names)) read.new) in
-    let others = both (λ b s. Last (λ (p : Sym). p.offset ≤ s.offset) b) (λ b s. has (names ++ map (λ (g : Sym). g.name) b) s.name ≡ false) [] syms order new in
-    weaker _ (SymRule names data_len) (sym_rule names data_len small) [] syms (both (λ _ s. IsSym data_len s) (λ b s. Last (λ (p : Sym). p.offset ≤ s.offset) b × (has (names ++ map (λ (g : Sym). g.name) b) s.name ≡ false)) [] syms own others)
+    let others = both (λ b s. Last (λ (p : Sym). p.offset ≤ s.offset) b) (λ b s. has_text (names ++ map (λ (g : Sym). g.name) b) s.name ≡ false) [] syms order new in
+    weaker _ (SymRule names data_len) (sym_rule names data_len small) [] syms (both (λ _ s. IsSym data_len s) (λ b s. Last (λ (p : Sym). p.offset ≤ s.offset) b × (has_text (names ++ map (λ (g : Sym). g.name) b) s.name ≡ false)) [] syms own others)
 
 -- ---- root cells
 
@@ -220,7 +220,7 @@ all_differ_map key (x ∷ xs) all = (differ_map key x xs all.0, all_differ_map k
 -- rows of the same bytes are the same row
 same_ext : (x y : External) → IsExt x → IsExt y → ext_bytes x ≡ ext_bytes y → x ≡ y
 same_ext x y is-x is-y e =
-    let rule : (z : External) → IsExt z → ExtRule [] z = λ z is. record { name = is.name; params = record { few = is.few; each = is.params }; result = is.result; new = unfold has in refl } in
+    let rule : (z : External) → IsExt z → ExtRule [] z = λ z is. record { name = is.name; params = record { few = is.few; each = is.params }; result = is.result; new = unfold has_text in refl } in
     let read-x = (ext_field []).again x [] (rule x is-x) in
     let read-y = (ext_field []).again y [] (rule y is-y) in
     ap (λ (p : External × List ℕ). p.0) (ok_is (x, []) (y, []) (sym read-x ∙ ap (λ (t : List ℕ). ext_at [] (t ++ [])) e ∙ read-y))
@@ -236,7 +236,7 @@ exts_differ (x ∷ xs) all differ = (ext_differ x xs all.0 all.1 differ.0, exts_
 pub extcs_from : (extcs : List External) → AllAfter ExtRule [] extcs → ExtcsRead extcs
 extcs_from extcs all = record {
   each = each_from IsExt [] extcs (weaker ExtRule (λ _ x. IsExt x) (λ b x r. record { name = r.name; few = r.params.few; params = r.params.each; result = r.result }) [] extcs all);
-  differ = all_differ_map ext_bytes extcs (differ_from (map ext_bytes extcs) (new_from ext_bytes [] [] extcs (weaker ExtRule (λ b x. has ([] ++ map ext_bytes b) (ext_bytes x) ≡ false) (λ b x r. r.new) [] extcs all)));
+  differ = all_differ_map ext_bytes extcs (differ_from (map ext_bytes extcs) (new_from ext_bytes [] [] extcs (weaker ExtRule (λ b x. has_text ([] ++ map ext_bytes b) (ext_bytes x) ≡ false) (λ b x r. r.new) [] extcs all)));
 }
 
 pub extcs_to : (extcs : List External) → ExtcsRead extcs → AllAfter ExtRule [] extcs
@@ -244,7 +244,7 @@ extcs_to extcs read =
     let own = each_to IsExt [] extcs read.each in
     let new = new_to ext_bytes [] [] extcs (differ_to (map ext_bytes extcs) (exts_differ extcs read.each read.differ)) in
     weaker _ ExtRule (λ b x h. record { name = h.0.name; params = record { few = h.0.few; each = h.0.params }; result = h.0.result; new = h.1 }) [] extcs
-    (both (λ _ x. IsExt x) (λ b x. has ([] ++ map ext_bytes b) (ext_bytes x) ≡ false) [] extcs own new)
+    (both (λ _ x. IsExt x) (λ b x. has_text ([] ++ map ext_bytes b) (ext_bytes x) ≡ false) [] extcs own new)
 
 -- ---- descriptors
 

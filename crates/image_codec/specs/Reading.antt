@@ -15,17 +15,17 @@ use Rattle.image_form.specs.declared.fault.ImageError.TheVariants as errors
 use Rattle.image_codec.specs.declared.reading.Limits.{Limits}
 use Rattle.image_form.specs.Tables.{Func, Tables, func_names}
 use Rattle.image_form.specs.declared.image.Image as declared
-use Rattle.image_form.specs.Image.{IsImage, image_bytes, end_of, magic, stub_words, table_limit, code_limit}
-use Rattle.image_form.specs.Fields.{◌>>=◌, func_at, sym_at, root_at, ext_at, desc_at, table_at, words_at}
+use Rattle.image_form.specs.Image.{IsImage, image_bytes, function_end, magic, stub_words, table_limit, code_limit}
+use Rattle.image_form.specs.Fields.{◌>>=◌, func_at, sym_at, root_offset_field, ext_at, desc_at, table_at, words_of_body}
 
 -- What a function of the code returned, seen by view, is what reading gives, unless memory ran out.
 abbrev pub Refuses : {Y : Type 0} → ImageError → Result Y ImageRefusal → Type 0
 Refuses errors.OutOfMemory read = Unit {0}
 Refuses (errors.Refused refusal) read = read ≡ Err refusal
 
-abbrev pub Reads : {X Y : Type 0} → (X → Y) → Result X ImageError → Result Y ImageRefusal → Type 0
-Reads view (Ok x) read = read ≡ Ok (view x)
-Reads view (Err e) read = Refuses e read
+abbrev pub ReadsImagePart : {X Y : Type 0} → (X → Y) → Result X ImageError → Result Y ImageRefusal → Type 0
+ReadsImagePart view (Ok x) read = read ≡ Ok (view x)
+ReadsImagePart view (Err e) read = Refuses e read
 
 -- the fault at the first of the bytes that are left of so many
 abbrev pub refused : ImageFault → ℕ → List ℕ → ImageRefusal
@@ -38,8 +38,8 @@ whole_at total n bytes =
     (take n bytes, drop n bytes)
 
 -- the bytes after the mark, which is to be here
-unfoldable pub mark_at : ℕ → ImageFault → List ℕ → List ℕ → Result (List ℕ) ImageRefusal
-mark_at total fault mark bytes = do
+unfoldable pub after_mark : ℕ → ImageFault → List ℕ → List ℕ → Result (List ℕ) ImageRefusal
+after_mark total fault mark bytes = do
   front ← whole_at total (length mark) bytes
   if bytes_eq front.0 mark then Ok front.1 else Err (refused fault total bytes)
 
@@ -53,18 +53,18 @@ version_at total bytes = do
   if is_version (from_le_bytes w32 front.0) then Ok (from_le_bytes w32 front.0, front.1) else Err (refused faults.Version total bytes)
 
 -- the length of a body, within its limits
-abbrev pub is_within : Limits → ℕ → Bool
-is_within limits n = (n % limits.step == 0) && (nat_le limits.least n && nat_le n limits.most)
+abbrev pub is_within_limits : Limits → ℕ → Bool
+is_within_limits limits n = (n % limits.step == 0) && (nat_le limits.least n && nat_le n limits.most)
 
 unfoldable pub length_at : ℕ → Limits → List ℕ → Result (ℕ × List ℕ) ImageRefusal
 length_at total limits bytes = do
   front ← whole_at total 4 bytes
-  if is_within limits (from_le_bytes w32 front.0) then Ok (from_le_bytes w32 front.0, front.1) else Err (refused faults.Table total bytes)
+  if is_within_limits limits (from_le_bytes w32 front.0) then Ok (from_le_bytes w32 front.0, front.1) else Err (refused faults.Table total bytes)
 
 -- the body of the section of that name, and the bytes after it
 unfoldable pub section_at : ℕ → List ℕ → Limits → List ℕ → Result (List ℕ × List ℕ) ImageRefusal
 section_at total name limits bytes = do
-  rest ← mark_at total faults.Section name bytes
+  rest ← after_mark total faults.Section name bytes
   n ← length_at total limits rest
   whole_at total n.0 n.1
 
@@ -99,22 +99,22 @@ data_limits = record { least = 8; most = data_limit; step = 1 }
 
 -- the code holds the stub, and each function
 unfoldable pub code_least : List Func → ℕ
-code_least funcs = fold (λ n f. max n (end_of f)) (4 * stub_words) funcs
+code_least funcs = fold (λ n f. max n (function_end f)) (4 * stub_words) funcs
 
 abbrev pub code_limits : List Func → Limits
 code_limits funcs = record { least = code_least funcs; most = code_limit; step = 4 }
 
 -- ---- the whole
 
-unfoldable pub reading : List ℕ → Result Tables ImageRefusal
-reading bytes = do
-  behind_magic ← mark_at (length bytes) faults.Magic magic bytes
+unfoldable pub image_reading : List ℕ → Result Tables ImageRefusal
+image_reading bytes = do
+  behind_magic ← after_mark (length bytes) faults.Magic magic bytes
   front ← version_at (length bytes) behind_magic
   funcs ← part_at (length bytes) (codes "FUNC") table_limits (table_at func_at) front.1
-  code ← part_at (length bytes) (codes "CODE") (code_limits funcs.0) words_at funcs.1
+  code ← part_at (length bytes) (codes "CODE") (code_limits funcs.0) words_of_body funcs.1
   data_ ← part_at (length bytes) (codes "DATA") data_limits Ok code.1
   syms ← part_at (length bytes) (codes "SYMS") table_limits (table_at (sym_at (func_names funcs.0) (length data_.0))) data_.1
-  roots ← part_at (length bytes) (codes "ROOT") table_limits (table_at (root_at (length data_.0))) syms.1
+  roots ← part_at (length bytes) (codes "ROOT") table_limits (table_at (root_offset_field (length data_.0))) syms.1
   extcs ← part_at (length bytes) (codes "EXTC") table_limits (table_at ext_at) roots.1
   descs ← part_at (length bytes) (codes "DESC") table_limits (table_at (desc_at front.0 (4 * length code.0))) extcs.1
   if length descs.1 == 0
@@ -137,4 +137,4 @@ NoImage bytes = (image : declared.Image) → IsImage image → image_bytes image
 -- What is refused is no image, and the fault reported is the first.
 abbrev pub IsRefusalOf : List ℕ → ImageError → Type 0
 IsRefusalOf bytes errors.OutOfMemory = Unit {0}
-IsRefusalOf bytes (errors.Refused refusal) = NoImage bytes × (reading bytes ≡ Err refusal)
+IsRefusalOf bytes (errors.Refused refusal) = NoImage bytes × (image_reading bytes ≡ Err refusal)

@@ -2,26 +2,9 @@
 ghost use Rattle.std.specs.Prelude.{◌≡◌, List, ℕ, [], ◌*◌, ◌<◌, length, map, codes, IfOk, IfErr, Ok};
 ghost use Rattle.image_form.specs.Tables.{tables, func, sym, ext, desc, func_names};
 ghost use Rattle.image_form.specs.Image.{IsImage, image_bytes};
-ghost use Rattle.image_form.specs.Seen.{Holds};
-ghost use Rattle.image_form.specs.Fields.{func_at, sym_at, root_at, ext_at, desc_at, table_at, words_at};
-ghost use Rattle.image_codec.specs.Reading.{
-  IsRefusalOf,
-  Reads,
-  refused,
-  whole_at,
-  mark_at,
-  version_at,
-  is_within,
-  length_at,
-  section_at,
-  placed_result,
-  part_at,
-  table_limits,
-  data_limits,
-  code_limits,
-  code_least,
-  reading,
-};
+ghost use Rattle.image_form.specs.Seen.{HoldsTexts};
+ghost use Rattle.image_form.specs.Fields.{func_at, sym_at, root_offset_field, ext_at, desc_at, table_at, words_of_body};
+ghost use Rattle.image_codec.specs.Reading.{IsRefusalOf, ReadsImagePart, refused, whole_at, after_mark, version_at, is_within_limits, length_at, section_at, placed_result, part_at, table_limits, data_limits, code_limits, code_least, image_reading};
 ghost use Rattle.image_form.specs.declared.fault.ImageError.TheVariants.{Refused};
 
 use crate::rows::{desc_table, end_of, ext_table, func_table, root_table, sym_table, words};
@@ -63,7 +46,7 @@ fn refusal(fault: ImageFault, total: usize, rest: &[u8]) -> ImageError
 /// The first bytes. Where they are not all there, the fault is at the end of the image.
 #[tactic(auto, unfolding(crate::specs::Reading::whole_at))]
 fn whole_from(total: usize, count: usize, bytes: &[u8]) -> Result<(&[u8], &[u8]), ImageError>
-    ensures reads { Reads (λ x. (x.0.now, x.1.now)) result (whole_at total count bytes.now) }
+    ensures reads { ReadsImagePart (λ x. (x.0.now, x.1.now)) result (whole_at total count bytes.now) }
     ensures len { IfOk result (λ x. length x.0.now ≡ count) }
 {
     if bytes.len() < count {
@@ -75,14 +58,14 @@ fn whole_from(total: usize, count: usize, bytes: &[u8]) -> Result<(&[u8], &[u8])
     Ok(bytes.split_at(count))
 }
 
-#[tactic(auto, unfolding(crate::specs::Reading::mark_at))]
+#[tactic(auto, unfolding(crate::specs::Reading::after_mark))]
 fn mark_from<'a>(
     total: usize,
     fault: ImageFault,
     mark: &[u8],
     bytes: &'a [u8],
 ) -> Result<&'a [u8], ImageError>
-    ensures { Reads (λ x. x.now) result (mark_at total fault mark.now bytes.now) }
+    ensures { ReadsImagePart (λ x. x.now) result (after_mark total fault mark.now bytes.now) }
 {
     let (front, rest) = whole_from(total, mark.len(), bytes)?;
     if front == mark {
@@ -95,7 +78,7 @@ fn mark_from<'a>(
 /// The version, 1 or 2.
 #[tactic(auto, unfolding(crate::specs::Reading::version_at))]
 fn version_from(total: usize, bytes: &[u8]) -> Result<(u32, &[u8]), ImageError>
-    ensures { Reads (λ x. (x.0, x.1.now)) result (version_at total bytes.now) }
+    ensures { ReadsImagePart (λ x. (x.0, x.1.now)) result (version_at total bytes.now) }
 {
     let (front, rest) = whole_from(total, 4, bytes)?;
     let version = u32::from_le_bytes([front[0], front[1], front[2], front[3]]);
@@ -108,7 +91,7 @@ fn version_from(total: usize, bytes: &[u8]) -> Result<(u32, &[u8]), ImageError>
 
 fn is_within(limits: Limits, len: u32) -> bool
     requires { 0 < limits.step }
-    ensures { result ≡ is_within limits len }
+    ensures { result ≡ is_within_limits limits len }
 {
     let len = len as u64;
     len % limits.step == 0 && limits.least <= len && len <= limits.most
@@ -117,7 +100,7 @@ fn is_within(limits: Limits, len: u32) -> bool
 #[tactic(auto, unfolding(crate::specs::Reading::length_at))]
 fn length_from(total: usize, limits: Limits, bytes: &[u8]) -> Result<(usize, &[u8]), ImageError>
     requires { 0 < limits.step }
-    ensures { Reads (λ x. (x.0, x.1.now)) result (length_at total limits bytes.now) }
+    ensures { ReadsImagePart (λ x. (x.0, x.1.now)) result (length_at total limits bytes.now) }
 {
     let (front, rest) = whole_from(total, 4, bytes)?;
     let len = u32::from_le_bytes([front[0], front[1], front[2], front[3]]);
@@ -137,7 +120,7 @@ fn section_from<'a>(
     bytes: &'a [u8],
 ) -> Result<(&'a [u8], &'a [u8]), ImageError>
     requires { 0 < limits.step }
-    ensures { Reads (λ x. (x.0.now, x.1.now)) result (section_at total name.now limits bytes.now) }
+    ensures { ReadsImagePart (λ x. (x.0.now, x.1.now)) result (section_at total name.now limits bytes.now) }
 {
     let rest = mark_from(total, ImageFault::Section, name, bytes)?;
     let (len, rest) = length_from(total, limits, rest)?;
@@ -170,10 +153,10 @@ fn func_part<'a>(
     seen: &mut Seen,
     bytes: &'a [u8],
 ) -> Result<(Vec<FuncRow>, &'a [u8]), ImageError>
-    requires { Holds seen.old [] }
-    ensures reads { Reads (λ x. (map func x.0.items, x.1.now)) result
+    requires { HoldsTexts seen.old [] }
+    ensures reads { ReadsImagePart (λ x. (map func x.0.items, x.1.now)) result
         (part_at total (codes "FUNC") table_limits (table_at func_at) bytes.now) }
-    ensures seen { IfOk result (λ x. Holds seen.new (func_names (map func x.0.items))) }
+    ensures seen { IfOk result (λ x. HoldsTexts seen.new (func_names (map func x.0.items))) }
 {
     let (body, rest) = section_from(total, b"FUNC", TABLE, bytes)?;
     let rows = placed(total, rest, func_table(alloc, seen, body))?;
@@ -199,8 +182,8 @@ fn code_part<'a>(
     funcs: &[FuncRow],
     bytes: &'a [u8],
 ) -> Result<(Vec<u32>, &'a [u8]), ImageError>
-    ensures { Reads (λ x. (x.0.items, x.1.now)) result
-        (part_at total (codes "CODE") (code_limits (map func funcs.now)) words_at bytes.now) }
+    ensures { ReadsImagePart (λ x. (x.0.items, x.1.now)) result
+        (part_at total (codes "CODE") (code_limits (map func funcs.now)) words_of_body bytes.now) }
 {
     let limits = Limits {
         least: code_least(funcs),
@@ -214,7 +197,7 @@ fn code_part<'a>(
 
 #[tactic(auto, unfolding(crate::specs::Reading::part_at))]
 fn data_part(alloc: Global, total: usize, bytes: &[u8]) -> Result<(Vec<u8>, &[u8]), ImageError>
-    ensures { Reads (λ x. (x.0.items, x.1.now)) result
+    ensures { ReadsImagePart (λ x. (x.0.items, x.1.now)) result
         (part_at total (codes "DATA") data_limits Ok bytes.now) }
 {
     let (body, rest) = section_from(total, b"DATA", DATA, bytes)?;
@@ -230,8 +213,8 @@ fn sym_part<'a>(
     bytes: &'a [u8],
 ) -> Result<(Vec<SymRow>, &'a [u8]), ImageError>
     ensures { (names : List (List ℕ))
-        → Holds seen.old names
-        → Reads (λ x. (map sym x.0.items, x.1.now)) result
+        → HoldsTexts seen.old names
+        → ReadsImagePart (λ x. (map sym x.0.items, x.1.now)) result
         (part_at total (codes "SYMS") table_limits (table_at (sym_at names data_len))
         bytes.now) }
 {
@@ -247,8 +230,8 @@ fn root_part(
     data_len: usize,
     bytes: &[u8],
 ) -> Result<(Vec<u32>, &[u8]), ImageError>
-    ensures { Reads (λ x. (x.0.items, x.1.now)) result
-        (part_at total (codes "ROOT") table_limits (table_at (root_at data_len)) bytes.now) }
+    ensures { ReadsImagePart (λ x. (x.0.items, x.1.now)) result
+        (part_at total (codes "ROOT") table_limits (table_at (root_offset_field data_len)) bytes.now) }
 {
     let (body, rest) = section_from(total, b"ROOT", TABLE, bytes)?;
     let rows = placed(total, rest, root_table(alloc, data_len, body))?;
@@ -257,7 +240,7 @@ fn root_part(
 
 #[tactic(auto, unfolding(crate::specs::Reading::part_at))]
 fn ext_part(alloc: Global, total: usize, bytes: &[u8]) -> Result<(Vec<ExtRow>, &[u8]), ImageError>
-    ensures { Reads (λ x. (map ext x.0.items, x.1.now)) result
+    ensures { ReadsImagePart (λ x. (map ext x.0.items, x.1.now)) result
         (part_at total (codes "EXTC") table_limits (table_at ext_at) bytes.now) }
 {
     let (body, rest) = section_from(total, b"EXTC", TABLE, bytes)?;
@@ -273,7 +256,7 @@ fn desc_part(
     code_len: usize,
     bytes: &[u8],
 ) -> Result<(Vec<DescRow>, &[u8]), ImageError>
-    ensures { Reads (λ x. (map desc x.0.items, x.1.now)) result
+    ensures { ReadsImagePart (λ x. (map desc x.0.items, x.1.now)) result
         (part_at total (codes "DESC") table_limits (table_at (desc_at version code_len))
         bytes.now) }
 {
@@ -282,9 +265,9 @@ fn desc_part(
     Ok((rows, rest))
 }
 
-#[tactic(auto, unfolding(crate::specs::Reading::reading))]
+#[tactic(auto, unfolding(crate::specs::Reading::image_reading))]
 fn image_from(alloc: Global, bytes: &[u8]) -> Result<Image, ImageError>
-    ensures { Reads tables result (reading bytes.now) }
+    ensures { ReadsImagePart tables result (image_reading bytes.now) }
 {
     let total = bytes.len();
     let rest = mark_from(total, ImageFault::Magic, b"CMMRV64\n", bytes)?;
@@ -326,7 +309,7 @@ pub fn read_image(alloc: Global, bytes: &[u8]) -> Result<Image, ImageError>
     ensures only { (image : Image)
         → IsImage image
         → image_bytes image ≡ bytes.now
-        → Reads tables result (Ok (tables image)) }
+        → ReadsImagePart tables result (Ok (tables image)) }
     // What is refused is no image's bytes, and the fault is the first.
     ensures refused { IfErr result (IsRefusalOf bytes.now) }
 {

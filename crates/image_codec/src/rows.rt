@@ -3,30 +3,9 @@ ghost use Rattle.std.specs.Prelude.{◌≡◌, List, ℕ, [], ◌∷◌, ◌++�
 ghost use Rattle.std.specs.Int.{w32};
 ghost use Rattle.bs_words.specs.External.{External};
 ghost use Rattle.image_form.specs.Tables.{func, sym, ext, desc, func_names, sym_names};
-ghost use Rattle.image_form.specs.Image.{end_of, ext_bytes};
-ghost use Rattle.image_form.specs.Seen.{Holds};
-ghost use Rattle.image_form.specs.Fields.{
-  Gives,
-  number_at,
-  rows_at,
-  at_last,
-  func_offset_at,
-  frame_at,
-  func_at,
-  sym_offset_at,
-  sym_at,
-  root_at,
-  ext_at,
-  is_entry,
-  is_next_entry,
-  entry_at,
-  is_return,
-  after_at,
-  size_at,
-  desc_at,
-  table_at,
-  words_at,
-};
+ghost use Rattle.image_form.specs.Image.{function_end, ext_bytes};
+ghost use Rattle.image_form.specs.Seen.{HoldsTexts};
+ghost use Rattle.image_form.specs.Fields.{GivesField, number_at, rows_at, at_last, func_offset_at, frame_at, func_at, sym_offset_at, sym_at, root_offset_field, ext_at, is_entry, is_next_entry, entry_at, is_return, after_at, frame_size_field, desc_at, table_at, words_of_body};
 
 use crate::writing::ext_text;
 use bs_words::Name;
@@ -39,13 +18,13 @@ use std::alloc::Global;
 
 /// The bytes of code before the end of the function.
 pub(crate) fn end_of(row: &FuncRow) -> u64
-    ensures { result ≡ end_of (func row.now) }
+    ensures { result ≡ function_end (func row.now) }
 {
     u64::from(row.offset) + 4 * u64::from(row.words)
 }
 
 fn is_behind(row: &FuncRow, offset: u32) -> bool
-    ensures { result ≡ (nat_lt row.now.offset offset && nat_le (end_of (func row.now)) offset) }
+    ensures { result ≡ (nat_lt row.now.offset offset && nat_le (function_end (func row.now)) offset) }
 {
     row.offset < offset && end_of(row) <= offset as u64
 }
@@ -53,7 +32,7 @@ fn is_behind(row: &FuncRow, offset: u32) -> bool
 /// Whether a function at the offset begins after the last of those before it, and not inside it.
 fn begins_behind(before: &[FuncRow], offset: u32) -> bool
     ensures { result
-        ≡ at_last (λ f. nat_lt f.offset offset && nat_le (end_of f) offset) (map func before.now) }
+        ≡ at_last (λ f. nat_lt f.offset offset && nat_le (function_end f) offset) (map func before.now) }
 {
     match before.last() {
         None => true,
@@ -63,7 +42,7 @@ fn begins_behind(before: &[FuncRow], offset: u32) -> bool
 
 #[tactic(auto, unfolding(image_form::specs::Fields::func_offset_at, image_form::specs::Fields::kept))]
 fn func_offset_from<'a>(before: &[FuncRow], bytes: &'a [u8]) -> Result<(u32, &'a [u8]), Stop>
-    ensures { Gives (λ x. (x.0, x.1.now)) result (func_offset_at (map func before.now) bytes.now) }
+    ensures { GivesField (λ x. (x.0, x.1.now)) result (func_offset_at (map func before.now) bytes.now) }
 {
     let (offset, rest) = u32_from(bytes)?;
     if offset % 4 != 0 || !begins_behind(before, offset) {
@@ -74,7 +53,7 @@ fn func_offset_from<'a>(before: &[FuncRow], bytes: &'a [u8]) -> Result<(u32, &'a
 
 #[tactic(auto, unfolding(image_form::specs::Fields::frame_at, image_form::specs::Fields::kept))]
 fn frame_from(bytes: &[u8]) -> Result<(u32, &[u8]), Stop>
-    ensures { Gives (λ x. (x.0, x.1.now)) result (frame_at bytes.now) }
+    ensures { GivesField (λ x. (x.0, x.1.now)) result (frame_at bytes.now) }
 {
     let (frame, rest) = u32_from(bytes)?;
     if frame % 16 != 0 {
@@ -90,11 +69,11 @@ fn func_from<'a>(
     before: &[FuncRow],
     bytes: &'a [u8],
 ) -> Result<(FuncRow, &'a [u8]), Stop>
-    requires { Holds seen.old (func_names (map func before.now)) }
-    ensures gives { Gives (λ x.
+    requires { HoldsTexts seen.old (func_names (map func before.now)) }
+    ensures gives { GivesField (λ x.
         (func x.0, x.1.now)) result (func_at (map func before.now) bytes.now) }
     ensures seen { IfOk result (λ x.
-        Holds seen.new (func_names (map func before.now) ++ x.0.name ∷ [])) }
+        HoldsTexts seen.new (func_names (map func before.now) ++ x.0.name ∷ [])) }
 {
     let (name, rest) = new_name_from(alloc, seen, bytes)?;
     let (offset, rest) = func_offset_from(before, rest)?;
@@ -119,10 +98,10 @@ fn funcs_from<'a>(
     count: u32,
     bytes: &'a [u8],
 ) -> Result<(Vec<FuncRow>, &'a [u8]), Stop>
-    requires { Holds seen.old [] }
-    ensures gives { Gives (λ x.
+    requires { HoldsTexts seen.old [] }
+    ensures gives { GivesField (λ x.
         (map func x.0.items, x.1.now)) result (rows_at func_at [] count bytes.now) }
-    ensures seen { IfOk result (λ x. Holds seen.new (func_names (map func x.0.items))) }
+    ensures seen { IfOk result (λ x. HoldsTexts seen.new (func_names (map func x.0.items))) }
 {
     let mut rows = Vec::new(alloc);
     let mut rest = bytes;
@@ -137,9 +116,9 @@ fn funcs_from<'a>(
 /// The functions, of all of a body.
 #[tactic(auto, unfolding(image_form::specs::Fields::table_at))]
 pub(crate) fn func_table(alloc: Global, seen: &mut Seen, body: &[u8]) -> Result<Vec<FuncRow>, Stop>
-    requires { Holds seen.old [] }
-    ensures gives { Gives (λ rows. map func rows.items) result (table_at func_at body.now) }
-    ensures seen { IfOk result (λ rows. Holds seen.new (func_names (map func rows.items))) }
+    requires { HoldsTexts seen.old [] }
+    ensures gives { GivesField (λ rows. map func rows.items) result (table_at func_at body.now) }
+    ensures seen { IfOk result (λ rows. HoldsTexts seen.new (func_names (map func rows.items))) }
 {
     let (count, rest) = u32_from(body)?;
     let (rows, rest) = funcs_from(alloc, seen, count, rest)?;
@@ -150,7 +129,7 @@ pub(crate) fn func_table(alloc: Global, seen: &mut Seen, body: &[u8]) -> Result<
 }
 
 fn numbers_from(alloc: Global, count: usize, bytes: &[u8]) -> Result<(Vec<u32>, &[u8]), Stop>
-    ensures { Gives (λ x.
+    ensures { GivesField (λ x.
         (x.0.items, x.1.now)) result (rows_at (λ _. number_at w32) [] count bytes.now) }
 {
     let mut numbers = Vec::new(alloc);
@@ -164,9 +143,9 @@ fn numbers_from(alloc: Global, count: usize, bytes: &[u8]) -> Result<(Vec<u32>, 
 }
 
 /// The words of the code, of all of a body.
-#[tactic(auto, unfolding(image_form::specs::Fields::words_at))]
+#[tactic(auto, unfolding(image_form::specs::Fields::words_of_body))]
 pub(crate) fn words(alloc: Global, body: &[u8]) -> Result<Vec<u32>, Stop>
-    ensures { Gives (λ words. words.items) result (words_at body.now) }
+    ensures { GivesField (λ words. words.items) result (words_of_body body.now) }
 {
     let (words, _) = numbers_from(alloc, body.len() / 4, body)?;
     Ok(words)
@@ -188,7 +167,7 @@ fn sym_offset_from<'a>(
     before: &[SymRow],
     bytes: &'a [u8],
 ) -> Result<(u32, &'a [u8]), Stop>
-    ensures { Gives (λ x.
+    ensures { GivesField (λ x.
         (x.0, x.1.now)) result (sym_offset_at data_len (map sym before.now) bytes.now) }
 {
     let (offset, rest) = u32_from(bytes)?;
@@ -208,13 +187,13 @@ fn sym_from<'a>(
     bytes: &'a [u8],
 ) -> Result<(SymRow, &'a [u8]), Stop>
     ensures gives { (names : List (List ℕ))
-        → Holds seen.old (names ++ sym_names (map sym before.now))
-        → Gives (λ x. (sym x.0, x.1.now)) result
+        → HoldsTexts seen.old (names ++ sym_names (map sym before.now))
+        → GivesField (λ x. (sym x.0, x.1.now)) result
         (sym_at names data_len (map sym before.now) bytes.now) }
     ensures seen { (names : List (List ℕ))
-        → Holds seen.old (names ++ sym_names (map sym before.now))
+        → HoldsTexts seen.old (names ++ sym_names (map sym before.now))
         → IfOk result
-        (λ x. Holds seen.new ((names ++ sym_names (map sym before.now)) ++ x.0.name ∷ [])) }
+        (λ x. HoldsTexts seen.new ((names ++ sym_names (map sym before.now)) ++ x.0.name ∷ [])) }
 {
     let (name, rest) = new_name_from(alloc, seen, bytes)?;
     let (offset, rest) = sym_offset_from(data_len, before, rest)?;
@@ -233,8 +212,8 @@ fn syms_from<'a>(
     bytes: &'a [u8],
 ) -> Result<(Vec<SymRow>, &'a [u8]), Stop>
     ensures { (names : List (List ℕ))
-        → Holds seen.old names
-        → Gives (λ x. (map sym x.0.items, x.1.now)) result
+        → HoldsTexts seen.old names
+        → GivesField (λ x. (map sym x.0.items, x.1.now)) result
         (rows_at (sym_at names data_len) [] count bytes.now) }
 {
     let mut rows = Vec::new(alloc);
@@ -256,8 +235,8 @@ pub(crate) fn sym_table(
     body: &[u8],
 ) -> Result<Vec<SymRow>, Stop>
     ensures { (names : List (List ℕ))
-        → Holds seen.old names
-        → Gives (λ rows. map sym rows.items) result (table_at (sym_at names data_len) body.now) }
+        → HoldsTexts seen.old names
+        → GivesField (λ rows. map sym rows.items) result (table_at (sym_at names data_len) body.now) }
 {
     let (count, rest) = u32_from(body)?;
     let (rows, rest) = syms_from(alloc, seen, data_len, count, rest)?;
@@ -284,9 +263,9 @@ fn is_cell(data_len: usize, offset: u32) -> bool
     offset % 8 == 0 && u64::from(offset) + 8 <= data_len as u64
 }
 
-#[tactic(auto, unfolding(image_form::specs::Fields::root_at, image_form::specs::Fields::kept))]
+#[tactic(auto, unfolding(image_form::specs::Fields::root_offset_field, image_form::specs::Fields::kept))]
 fn root_from<'a>(data_len: usize, before: &[u32], bytes: &'a [u8]) -> Result<(u32, &'a [u8]), Stop>
-    ensures { Gives (λ x. (x.0, x.1.now)) result (root_at data_len before.now bytes.now) }
+    ensures { GivesField (λ x. (x.0, x.1.now)) result (root_offset_field data_len before.now bytes.now) }
 {
     let (root, rest) = u32_from(bytes)?;
     if !is_cell(data_len, root) || !rises(before, root) {
@@ -301,8 +280,8 @@ fn roots_from(
     count: u32,
     bytes: &[u8],
 ) -> Result<(Vec<u32>, &[u8]), Stop>
-    ensures { Gives (λ x.
-        (x.0.items, x.1.now)) result (rows_at (root_at data_len) [] count bytes.now) }
+    ensures { GivesField (λ x.
+        (x.0.items, x.1.now)) result (rows_at (root_offset_field data_len) [] count bytes.now) }
 {
     let mut rows = Vec::new(alloc);
     let mut rest = bytes;
@@ -317,7 +296,7 @@ fn roots_from(
 /// The root cells, of all of a body.
 #[tactic(auto, unfolding(image_form::specs::Fields::table_at))]
 pub(crate) fn root_table(alloc: Global, data_len: usize, body: &[u8]) -> Result<Vec<u32>, Stop>
-    ensures { Gives (λ rows. rows.items) result (table_at (root_at data_len) body.now) }
+    ensures { GivesField (λ rows. rows.items) result (table_at (root_offset_field data_len) body.now) }
 {
     let (count, rest) = u32_from(body)?;
     let (rows, rest) = roots_from(alloc, data_len, count, rest)?;
@@ -331,11 +310,11 @@ pub(crate) fn root_table(alloc: Global, data_len: usize, body: &[u8]) -> Result<
 #[tactic(auto, unfolding(image_form::specs::Fields::ext_at, image_form::specs::Fields::kept))]
 fn ext_from<'a>(alloc: Global, seen: &mut Seen, bytes: &'a [u8]) -> Result<(ExtRow, &'a [u8]), Stop>
     ensures gives { (before : List External)
-        → Holds seen.old (map ext_bytes before)
-        → Gives (λ x. (ext x.0, x.1.now)) result (ext_at before bytes.now) }
+        → HoldsTexts seen.old (map ext_bytes before)
+        → GivesField (λ x. (ext x.0, x.1.now)) result (ext_at before bytes.now) }
     ensures seen { (before : List External)
-        → Holds seen.old (map ext_bytes before)
-        → IfOk result (λ x. Holds seen.new (map ext_bytes before ++ ext_bytes (ext x.0) ∷ [])) }
+        → HoldsTexts seen.old (map ext_bytes before)
+        → IfOk result (λ x. HoldsTexts seen.new (map ext_bytes before ++ ext_bytes (ext x.0) ∷ [])) }
 {
     let (name, rest) = name_from(bytes)?;
     let name = Vec::from_slice(alloc, name)?;
@@ -359,8 +338,8 @@ fn extcs_from<'a>(
     count: u32,
     bytes: &'a [u8],
 ) -> Result<(Vec<ExtRow>, &'a [u8]), Stop>
-    requires { Holds seen.old [] }
-    ensures { Gives (λ x. (map ext x.0.items, x.1.now)) result (rows_at ext_at [] count bytes.now) }
+    requires { HoldsTexts seen.old [] }
+    ensures { GivesField (λ x. (map ext x.0.items, x.1.now)) result (rows_at ext_at [] count bytes.now) }
 {
     let mut rows = Vec::new(alloc);
     let mut rest = bytes;
@@ -375,7 +354,7 @@ fn extcs_from<'a>(
 /// The external calls, of all of a body.
 #[tactic(auto, unfolding(image_form::specs::Fields::table_at))]
 pub(crate) fn ext_table(alloc: Global, body: &[u8]) -> Result<Vec<ExtRow>, Stop>
-    ensures { Gives (λ rows. map ext rows.items) result (table_at ext_at body.now) }
+    ensures { GivesField (λ rows. map ext rows.items) result (table_at ext_at body.now) }
 {
     let (count, rest) = u32_from(body)?;
     let mut seen = Seen::new(alloc);
@@ -418,7 +397,7 @@ fn entry_from<'a>(
     before: &[u32],
     bytes: &'a [u8],
 ) -> Result<(u32, &'a [u8]), Stop>
-    ensures { Gives (λ x. (x.0, x.1.now)) result (entry_at version size before.now bytes.now) }
+    ensures { GivesField (λ x. (x.0, x.1.now)) result (entry_at version size before.now bytes.now) }
 {
     let (entry, rest) = wide_from(version, bytes)?;
     if !is_entry(size, entry) || !continues(before, entry) {
@@ -434,7 +413,7 @@ fn entries_from(
     count: u32,
     bytes: &[u8],
 ) -> Result<(Vec<u32>, &[u8]), Stop>
-    ensures { Gives (λ x. (x.0.items, x.1.now)) result
+    ensures { GivesField (λ x. (x.0.items, x.1.now)) result
         (rows_at (entry_at version size) [] count bytes.now) }
 {
     let mut entries = Vec::new(alloc);
@@ -470,7 +449,7 @@ fn after_from<'a>(
     before: &[DescRow],
     bytes: &'a [u8],
 ) -> Result<(u32, &'a [u8]), Stop>
-    ensures { Gives (λ x.
+    ensures { GivesField (λ x.
         (x.0, x.1.now)) result (after_at code_len (map desc before.now) bytes.now) }
 {
     let (offset, rest) = u32_from(bytes)?;
@@ -480,9 +459,9 @@ fn after_from<'a>(
     Ok((offset, rest))
 }
 
-#[tactic(auto, unfolding(image_form::specs::Fields::size_at, image_form::specs::Fields::kept))]
+#[tactic(auto, unfolding(image_form::specs::Fields::frame_size_field, image_form::specs::Fields::kept))]
 fn size_from(version: u32, bytes: &[u8]) -> Result<(u32, &[u8]), Stop>
-    ensures { Gives (λ x. (x.0, x.1.now)) result (size_at version bytes.now) }
+    ensures { GivesField (λ x. (x.0, x.1.now)) result (frame_size_field version bytes.now) }
 {
     let (size, rest) = wide_from(version, bytes)?;
     if size % 16 != 0 || size < 16 {
@@ -499,7 +478,7 @@ fn desc_from<'a>(
     before: &[DescRow],
     bytes: &'a [u8],
 ) -> Result<(DescRow, &'a [u8]), Stop>
-    ensures { Gives (λ x. (desc x.0, x.1.now)) result
+    ensures { GivesField (λ x. (desc x.0, x.1.now)) result
         (desc_at version code_len (map desc before.now) bytes.now) }
 {
     let (after, rest) = after_from(code_len, before, bytes)?;
@@ -521,7 +500,7 @@ fn descs_from(
     count: u32,
     bytes: &[u8],
 ) -> Result<(Vec<DescRow>, &[u8]), Stop>
-    ensures { Gives (λ x. (map desc x.0.items, x.1.now)) result
+    ensures { GivesField (λ x. (map desc x.0.items, x.1.now)) result
         (rows_at (desc_at version code_len) [] count bytes.now) }
 {
     let mut rows = Vec::new(alloc);
@@ -542,7 +521,7 @@ pub(crate) fn desc_table(
     code_len: usize,
     body: &[u8],
 ) -> Result<Vec<DescRow>, Stop>
-    ensures { Gives (λ rows.
+    ensures { GivesField (λ rows.
         map desc rows.items) result (table_at (desc_at version code_len) body.now) }
 {
     let (count, rest) = u32_from(body)?;

@@ -3,28 +3,7 @@ ghost use Rattle.std.specs.Prelude.{◌≡◌, ◌<◌, ◌≤◌, ◌^◌, ◌+
 ghost use Rattle.std.specs.List.{flat_map, AllByRecursion};
 ghost use Rattle.bs_words.specs.Contents.{contents};
 ghost use Rattle.image_form.specs.Tables.{func, sym, ext, desc};
-ghost use Rattle.image_form.specs.Image.{
-  IsImage,
-  IsFunc,
-  IsSym,
-  IsExt,
-  IsDesc,
-  image_bytes,
-  le16,
-  le32,
-  le_entry,
-  entry_limit,
-  comp_byte,
-  ret_byte,
-  name_bytes,
-  params_bytes,
-  func_bytes,
-  sym_bytes,
-  ext_bytes,
-  desc_bytes,
-  table_bytes,
-  section_bytes,
-};
+ghost use Rattle.image_form.specs.Image.{IsImage, IsFunc, IsSym, IsExt, IsDesc, image_bytes, le16, le32, le_entry, entry_limit, comp_byte, ret_byte, name_bytes, params_bytes, func_bytes, sym_bytes, ext_bytes, desc_bytes, table_bytes, section_bytes};
 
 use bs_words::{Comp, List, Name, Ret};
 use image_form::{DescRow, ExtRow, FuncRow, Image, SymRow};

@@ -7,7 +7,7 @@ use Rattle.std.specs.BTreeSet.{insert_key}
 use Rattle.std.specs.List.{list_any}
 use Rattle.std.specs.Str.{bytes_eq}
 use Rattle.std.proofs.lemmas.Slice.Eq.{bytes_eq-Decides}
-use Rattle.image_form.specs.Seen.{has}
+use Rattle.image_form.specs.Seen.{has_text}
 
 or_same : (b h : Bool) → (b || h) ≡ (b || (b || h))
 or_same true h = refl
@@ -27,8 +27,8 @@ list_any-append p (x ∷ xs) ys = ap (λ (b : Bool). p x || b) (list_any-append 
     or_assoc false b c = refl
 
 module _ {K : Type 0} (items : K → List ℕ) (cmp : K → K → Ordering) (same : (x y : K) → is_eq (cmp x y) ≡ bytes_eq (items x) (items y)) where
-  pub among : (k : K) (ks : List K) → list_any (λ y. is_eq (cmp k y)) ks ≡ has (map items ks) (items k)
-  unfolding has
+  pub among : (k : K) (ks : List K) → list_any (λ y. is_eq (cmp k y)) ks ≡ has_text (map items ks) (items k)
+  unfolding has_text
   among k [] = refl
   among k (x ∷ ks) = rw (same k x, among k ks) refl
 
@@ -36,19 +36,19 @@ module _ {K : Type 0} (items : K → List ℕ) (cmp : K → K → Ordering) (sam
   equal_items k x e = (bytes_eq-Decides (items k) (items x)).0 (sym (same k x) ∙ e)
 
   inserted : (k x : K) (ks after : List K) (text : List ℕ) (o : Ordering) → o ≡ cmp k x
-      → has (map items after) text ≡ (bytes_eq text (items k) || has (map items ks) text)
-      → has (map items (match_ordering o (k ∷ x ∷ ks) (x ∷ ks) (x ∷ after))) text ≡ (bytes_eq text (items k) || has (map items (x ∷ ks)) text)
-  unfolding has
+      → has_text (map items after) text ≡ (bytes_eq text (items k) || has_text (map items ks) text)
+      → has_text (map items (match_ordering o (k ∷ x ∷ ks) (x ∷ ks) (x ∷ after))) text ≡ (bytes_eq text (items k) || has_text (map items (x ∷ ks)) text)
+  unfolding has_text
   inserted k x ks after text Less e h = refl
   inserted k x ks after text Equal e h = rw (equal_items k x (ap is_eq (sym e))) (or_same (bytes_eq text (items x)) _)
   inserted k x ks after text Greater e h = rw h (or_swap (bytes_eq text (items x)) (bytes_eq text (items k)) _)
 
-  pub has_insert : (ks : List K) (k : K) (text : List ℕ) → has (map items (insert_key cmp ks k)) text ≡ (bytes_eq text (items k) || has (map items ks) text)
-  has_insert [] k text = unfold has in refl
+  pub has_insert : (ks : List K) (k : K) (text : List ℕ) → has_text (map items (insert_key cmp ks k)) text ≡ (bytes_eq text (items k) || has_text (map items ks) text)
+  has_insert [] k text = unfold has_text in refl
   has_insert (x ∷ ks) k text = inserted k x ks (insert_key cmp ks k) text (cmp k x) refl (has_insert ks k text)
 
 -- one more text at the end
-pub has_more : (texts : List (List ℕ)) (new text : List ℕ) → has (texts ++ new ∷ []) text ≡ (bytes_eq text new || has texts text)
-unfolding has
+pub has_more : (texts : List (List ℕ)) (new text : List ℕ) → has_text (texts ++ new ∷ []) text ≡ (bytes_eq text new || has_text texts text)
+unfolding has_text
 has_more [] new text = refl
-has_more (x ∷ texts) new text = rw (has_more texts new text) (or_swap (bytes_eq text x) (bytes_eq text new) (has texts text))
+has_more (x ∷ texts) new text = rw (has_more texts new text) (or_swap (bytes_eq text x) (bytes_eq text new) (has_text texts text))

@@ -13,8 +13,8 @@ use Rattle.bs_words.specs.declared.types.Ret.TheVariants as returns
 use Rattle.image_form.specs.declared.fault.Stop.{Stop}
 use Rattle.image_form.specs.declared.fault.Stop.TheVariants as stops
 use Rattle.image_form.specs.Tables.{Func, Sym, Desc, func_names, sym_names}
-use Rattle.image_form.specs.Image.{end_of, ext_bytes, entry_width, first_return}
-use Rattle.image_form.specs.Seen.{has}
+use Rattle.image_form.specs.Image.{function_end, ext_bytes, entry_width, first_return}
+use Rattle.image_form.specs.Seen.{has_text}
 
 infixl 10 ◌>>=◌
 abbrev pub ◌>>=◌ : {A B E : Type 0} → Result A E → (A → Result B E) → Result B E
@@ -26,9 +26,9 @@ abbrev pub Stops : {Y : Type 0} → Stop → Result Y ℕ → Type 0
 Stops stops.Memory read = Unit {0}
 Stops (stops.Left n) read = read ≡ Err n
 
-abbrev pub Gives : {X Y : Type 0} → (X → Y) → Result X Stop → Result Y ℕ → Type 0
-Gives view (Ok x) read = read ≡ Ok (view x)
-Gives view (Err e) read = Stops e read
+abbrev pub GivesField : {X Y : Type 0} → (X → Y) → Result X Stop → Result Y ℕ → Type 0
+GivesField view (Ok x) read = read ≡ Ok (view x)
+GivesField view (Err e) read = Stops e read
 
 -- ---- fields
 
@@ -58,32 +58,32 @@ name_at = kept is_symbol text_at
 
 -- a name that is not among these
 unfoldable pub new_name_at : List (List ℕ) → List ℕ → Result (List ℕ × List ℕ) ℕ
-new_name_at names = kept (λ name. not (has names name)) name_at
+new_name_at names = kept (λ name. not (has_text names name)) name_at
 
 -- the value that a byte stands for
-abbrev pub decoded : {A : Type 0} → Option A → List ℕ → List ℕ → Result (A × List ℕ) ℕ
-decoded (Some x) bytes rest = Ok (x, rest)
-decoded None bytes rest = Err (length bytes)
+abbrev pub decoded_byte : {A : Type 0} → Option A → List ℕ → List ℕ → Result (A × List ℕ) ℕ
+decoded_byte (Some x) bytes rest = Ok (x, rest)
+decoded_byte None bytes rest = Err (length bytes)
 
 -- the types up to that byte: 2 for a parameter of a function, 1 for an argument of an external call
-unfoldable pub comp_of : ℕ → ℕ → Option Comp
-comp_of most b =
+unfoldable pub comp_of_byte : ℕ → ℕ → Option Comp
+comp_of_byte most b =
     if nat_le b most then
     (if b == 0 then Some Int else
     (if b == 1 then Some Val else (if b == 2 then Some Addr else None))) else None
 
-unfoldable pub result_of : ℕ → Option Ret
-result_of b =
+unfoldable pub result_of_byte : ℕ → Option Ret
+result_of_byte b =
     if b == 0 then Some (returns.Comp Int) else
     (if b == 1 then Some (returns.Comp Val) else (if b == 3 then Some returns.Unit else None))
 
 unfoldable pub ext_result_of : ℕ → Option Ret
-ext_result_of b = if b == 2 then Some (returns.Comp Addr) else result_of b
+ext_result_of b = if b == 2 then Some (returns.Comp Addr) else result_of_byte b
 
 unfoldable pub type_at : {A : Type 0} → (ℕ → Option A) → List ℕ → Result (A × List ℕ) ℕ
 type_at of bytes = do
   b ← byte_at bytes
-  decoded (of b.0) bytes b.1
+  decoded_byte (of b.0) bytes b.1
 
 -- as many rows as are left, each read in view of those before it
 unfoldable pub rows_at : {A : Type 0} → (List A → List ℕ → Result (A × List ℕ) ℕ) → List A → ℕ → List ℕ → Result (List A × List ℕ) ℕ
@@ -96,7 +96,7 @@ rows_at row before (suc n) bytes = do
 unfoldable pub params_at : ℕ → List ℕ → Result (List Comp × List ℕ) ℕ
 params_at most bytes = do
   n ← kept (λ n. nat_le n 16) byte_at bytes
-  rows_at (λ _. type_at (comp_of most)) [] n.0 n.1
+  rows_at (λ _. type_at (comp_of_byte most)) [] n.0 n.1
 
 -- ---- rows
 
@@ -110,7 +110,7 @@ at_last p before = at_some p (slice_get before (length before - 1))
 
 unfoldable pub func_offset_at : List Func → List ℕ → Result (ℕ × List ℕ) ℕ
 func_offset_at before =
-    kept (λ n. (n % 4 == 0) && at_last (λ f. nat_lt f.offset n && nat_le (end_of f) n) before)
+    kept (λ n. (n % 4 == 0) && at_last (λ f. nat_lt f.offset n && nat_le (function_end f) n) before)
     (number_at w32)
 
 unfoldable pub frame_at : List ℕ → Result (ℕ × List ℕ) ℕ
@@ -123,7 +123,7 @@ func_at before bytes = do
   words ← number_at w32 offset.1
   frame ← frame_at words.1
   params ← params_at 2 frame.1
-  result ← type_at result_of params.1
+  result ← type_at result_of_byte params.1
   Ok (record { name = name.0; offset = offset.0; words = words.0; frame = frame.0; params = params.0; result = result.0 }, result.1)
 
 unfoldable pub sym_offset_at : ℕ → List Sym → List ℕ → Result (ℕ × List ℕ) ℕ
@@ -137,8 +137,8 @@ sym_at names data_len before bytes = do
   offset ← sym_offset_at data_len before name.1
   Ok (record { name = name.0; offset = offset.0 }, offset.1)
 
-unfoldable pub root_at : ℕ → List ℕ → List ℕ → Result (ℕ × List ℕ) ℕ
-root_at data_len before =
+unfoldable pub root_offset_field : ℕ → List ℕ → List ℕ → Result (ℕ × List ℕ) ℕ
+root_offset_field data_len before =
     kept (λ n. ((n % 8 == 0) && nat_le (n + 8) data_len) && at_last (λ p. nat_lt p n) before)
     (number_at w32)
 
@@ -148,7 +148,7 @@ ext_at before bytes = do
   name ← name_at bytes
   params ← params_at 1 name.1
   result ←
-      kept (λ result. not (has (map ext_bytes before) (ext_bytes (record { name = name.0; params = params.0; result = result }))))
+      kept (λ result. not (has_text (map ext_bytes before) (ext_bytes (record { name = name.0; params = params.0; result = result }))))
       (type_at ext_result_of) params.1
   Ok (record { name = name.0; params = params.0; result = result.0 }, result.1)
 
@@ -174,13 +174,13 @@ unfoldable pub after_at : ℕ → List Desc → List ℕ → Result (ℕ × List
 after_at code_len before =
     kept (λ n. is_return code_len n && at_last (λ d. nat_lt d.after n) before) (number_at w32)
 
-unfoldable pub size_at : ℕ → List ℕ → Result (ℕ × List ℕ) ℕ
-size_at version = kept (λ n. (n % 16 == 0) && nat_le 16 n) (wide_at version)
+unfoldable pub frame_size_field : ℕ → List ℕ → Result (ℕ × List ℕ) ℕ
+frame_size_field version = kept (λ n. (n % 16 == 0) && nat_le 16 n) (wide_at version)
 
 unfoldable pub desc_at : ℕ → ℕ → List Desc → List ℕ → Result (Desc × List ℕ) ℕ
 desc_at version code_len before bytes = do
   after ← after_at code_len before bytes
-  size ← size_at version after.1
+  size ← frame_size_field version after.1
   count ← wide_at version size.1
   entries ← rows_at (entry_at version size.0) [] count.0 count.1
   Ok (record { after = after.0; size = size.0; entries = entries.0 }, entries.1)
@@ -195,7 +195,7 @@ table_at row body = do
   if length rows.1 == 0 then Ok rows.0 else Err (length rows.1)
 
 -- the words of a body
-unfoldable pub words_at : List ℕ → Result (List ℕ) ℕ
-words_at body = do
+unfoldable pub words_of_body : List ℕ → Result (List ℕ) ℕ
+words_of_body body = do
   words ← rows_at (λ _. number_at w32) [] (length body / 4) body
   Ok words.0

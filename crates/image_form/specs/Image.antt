@@ -147,8 +147,8 @@ IsResult (returns.Comp Addr) = ⊥
 IsResult (returns.Comp Float) = ⊥
 
 -- the bytes of code before the end of a function
-abbrev pub end_of : Func → ℕ
-end_of f = f.offset + 4 * f.words
+abbrev pub function_end : Func → ℕ
+function_end f = f.offset + 4 * f.words
 
 pub record IsFunc (f : Func) : Type 0 where
   pub name : IsSymbol f.name
@@ -162,12 +162,12 @@ pub record IsFunc (f : Func) : Type 0 where
 -- g begins after the begin of f, and not inside f, which may have no words
 pub record IsBehind (f g : Func) : Type 0 where
   pub rises : f.offset < g.offset
-  pub apart : end_of f ≤ g.offset
+  pub apart : function_end f ≤ g.offset
 
 pub record AreFuncs (code_len : ℕ) (funcs : List Func) : Type 0 where
   pub each : AllByRecursion IsFunc funcs
   pub in_order : EachNext IsBehind funcs
-  pub in_code : AllByRecursion (λ f. end_of f ≤ code_len) funcs
+  pub in_code : AllByRecursion (λ f. function_end f ≤ code_len) funcs
   pub short : length (table_bytes func_bytes funcs) ≤ table_limit
 
 pub record IsCode (code : List ℕ) : Type 0 where

@@ -6,10 +6,10 @@ use Rattle.std.specs.BTreeSet.{keys}
 use Rattle.image_form.specs.declared.seen.Seen as declared
 
 -- whether the text is among them
-unfoldable pub has : List (List ℕ) → List ℕ → Bool
-has texts text = list_any (bytes_eq text) texts
+unfoldable pub has_text : List (List ℕ) → List ℕ → Bool
+has_text texts text = list_any (bytes_eq text) texts
 
 -- the set holds these texts, in whatever order
-unfoldable pub Holds : declared.Seen → List (List ℕ) → Type 0
-Holds seen texts =
-    (text : List ℕ) → has (map (λ v. v.items) (keys seen.texts)) text ≡ has texts text
+unfoldable pub HoldsTexts : declared.Seen → List (List ℕ) → Type 0
+HoldsTexts seen texts =
+    (text : List ℕ) → has_text (map (λ v. v.items) (keys seen.texts)) text ≡ has_text texts text

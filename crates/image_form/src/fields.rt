@@ -2,22 +2,8 @@
 ghost use Rattle.std.specs.Prelude.{◌≡◌, List, ℕ, [], ◌∷◌, ◌++◌, ◌≤◌, length, IfOk};
 ghost use Rattle.std.specs.Int.{w16, w32};
 ghost use Rattle.bs_words.specs.Symbol.{is_symbol};
-ghost use Rattle.image_form.specs.Seen.{Holds};
-ghost use Rattle.image_form.specs.Fields.{
-  Gives,
-  byte_at,
-  number_at,
-  wide_at,
-  text_at,
-  name_at,
-  new_name_at,
-  comp_of,
-  result_of,
-  ext_result_of,
-  type_at,
-  rows_at,
-  params_at,
-};
+ghost use Rattle.image_form.specs.Seen.{HoldsTexts};
+ghost use Rattle.image_form.specs.Fields.{GivesField, byte_at, number_at, wide_at, text_at, name_at, new_name_at, comp_of_byte, result_of_byte, ext_result_of, type_at, rows_at, params_at};
 
 use crate::fault::Stop;
 use crate::seen::Seen;
@@ -26,7 +12,7 @@ use std::alloc::Global;
 
 #[tactic(auto, unfolding(crate::specs::Fields::byte_at))]
 pub(crate) fn byte_from(bytes: &[u8]) -> Result<(u8, &[u8]), Stop>
-    ensures { Gives (λ x. (x.0, x.1.now)) result (byte_at bytes.now) }
+    ensures { GivesField (λ x. (x.0, x.1.now)) result (byte_at bytes.now) }
 {
     match bytes {
         [] => Err(Stop::Left(0)),
@@ -36,7 +22,7 @@ pub(crate) fn byte_from(bytes: &[u8]) -> Result<(u8, &[u8]), Stop>
 
 #[tactic(auto, unfolding(crate::specs::Fields::number_at))]
 pub(crate) fn u16_from(bytes: &[u8]) -> Result<(u16, &[u8]), Stop>
-    ensures { Gives (λ x. (x.0, x.1.now)) result (number_at w16 bytes.now) }
+    ensures { GivesField (λ x. (x.0, x.1.now)) result (number_at w16 bytes.now) }
 {
     if bytes.len() < 2 {
         return Err(Stop::Left(bytes.len()));
@@ -49,7 +35,7 @@ pub(crate) fn u16_from(bytes: &[u8]) -> Result<(u16, &[u8]), Stop>
 /// four.
 #[tactic(auto, unfolding(crate::specs::Fields::number_at))]
 pub fn u32_from(bytes: &[u8]) -> Result<(u32, &[u8]), Stop>
-    ensures { Gives (λ x. (x.0, x.1.now)) result (number_at w32 bytes.now) }
+    ensures { GivesField (λ x. (x.0, x.1.now)) result (number_at w32 bytes.now) }
 {
     if bytes.len() < 4 {
         return Err(Stop::Left(bytes.len()));
@@ -63,7 +49,7 @@ pub fn u32_from(bytes: &[u8]) -> Result<(u32, &[u8]), Stop>
 /// byte first. The error is how many bytes there are, where they are too few.
 #[tactic(auto, unfolding(crate::specs::Fields::wide_at))]
 pub fn wide_from(version: u32, bytes: &[u8]) -> Result<(u32, &[u8]), Stop>
-    ensures { Gives (λ x. (x.0, x.1.now)) result (wide_at version bytes.now) }
+    ensures { GivesField (λ x. (x.0, x.1.now)) result (wide_at version bytes.now) }
 {
     if version == 1 {
         let (number, rest) = u16_from(bytes)?;
@@ -75,7 +61,7 @@ pub fn wide_from(version: u32, bytes: &[u8]) -> Result<(u32, &[u8]), Stop>
 
 #[tactic(auto, unfolding(crate::specs::Fields::text_at))]
 fn text_from(bytes: &[u8]) -> Result<(&[u8], &[u8]), Stop>
-    ensures { Gives (λ x. (x.0.now, x.1.now)) result (text_at bytes.now) }
+    ensures { GivesField (λ x. (x.0.now, x.1.now)) result (text_at bytes.now) }
 {
     let (len, rest) = u16_from(bytes)?;
     let len = usize::from(len);
@@ -89,7 +75,7 @@ fn text_from(bytes: &[u8]) -> Result<(&[u8], &[u8]), Stop>
 /// that is cut short, or from the length on where the bytes are not those of a symbol.
 #[tactic(auto, unfolding(crate::specs::Fields::name_at, crate::specs::Fields::kept))]
 pub fn name_from(bytes: &[u8]) -> Result<(&[u8], &[u8]), Stop>
-    ensures gives { Gives (λ x. (x.0.now, x.1.now)) result (name_at bytes.now) }
+    ensures gives { GivesField (λ x. (x.0.now, x.1.now)) result (name_at bytes.now) }
     ensures short { IfOk result (λ x. length x.0.now ≤ 255) }
 {
     let (name, rest) = text_from(bytes)?;
@@ -108,11 +94,11 @@ pub fn new_name_from<'a>(
     bytes: &'a [u8],
 ) -> Result<(Vec<u8>, &'a [u8]), Stop>
     ensures gives { (names : List (List ℕ))
-        → Holds seen.old names
-        → Gives (λ x. (x.0.items, x.1.now)) result (new_name_at names bytes.now) }
+        → HoldsTexts seen.old names
+        → GivesField (λ x. (x.0.items, x.1.now)) result (new_name_at names bytes.now) }
     ensures seen { (names : List (List ℕ))
-        → Holds seen.old names
-        → IfOk result (λ x. Holds seen.new (names ++ x.0.items ∷ [])) }
+        → HoldsTexts seen.old names
+        → IfOk result (λ x. HoldsTexts seen.new (names ++ x.0.items ∷ [])) }
 {
     let (name, rest) = name_from(bytes)?;
     let is_new = seen.insert(Vec::from_slice(alloc, name)?)?;
@@ -122,9 +108,9 @@ pub fn new_name_from<'a>(
     Ok((Vec::from_slice(alloc, name)?, rest))
 }
 
-#[tactic(auto, unfolding(crate::specs::Fields::comp_of))]
+#[tactic(auto, unfolding(crate::specs::Fields::comp_of_byte))]
 fn comp_of(most: u8, byte: u8) -> Option<Comp>
-    ensures { result ≡ comp_of most byte }
+    ensures { result ≡ comp_of_byte most byte }
 {
     if byte > most {
         return None;
@@ -139,7 +125,7 @@ fn comp_of(most: u8, byte: u8) -> Option<Comp>
 
 #[tactic(auto, unfolding(crate::specs::Fields::type_at))]
 fn comp_from(most: u8, bytes: &[u8]) -> Result<(Comp, &[u8]), Stop>
-    ensures { Gives (λ x. (x.0, x.1.now)) result (type_at (comp_of most) bytes.now) }
+    ensures { GivesField (λ x. (x.0, x.1.now)) result (type_at (comp_of_byte most) bytes.now) }
 {
     let (byte, rest) = byte_from(bytes)?;
     match comp_of(most, byte) {
@@ -148,9 +134,9 @@ fn comp_from(most: u8, bytes: &[u8]) -> Result<(Comp, &[u8]), Stop>
     }
 }
 
-#[tactic(auto, unfolding(crate::specs::Fields::result_of))]
+#[tactic(auto, unfolding(crate::specs::Fields::result_of_byte))]
 fn result_of(byte: u8) -> Option<Ret>
-    ensures { result ≡ result_of byte }
+    ensures { result ≡ result_of_byte byte }
 {
     match byte {
         0 => Some(Ret::Comp(Comp::Int)),
@@ -174,7 +160,7 @@ fn ext_result_of(byte: u8) -> Option<Ret>
 /// on, where it is another or there is none.
 #[tactic(auto, unfolding(crate::specs::Fields::type_at))]
 pub fn result_from(bytes: &[u8]) -> Result<(Ret, &[u8]), Stop>
-    ensures { Gives (λ x. (x.0, x.1.now)) result (type_at result_of bytes.now) }
+    ensures { GivesField (λ x. (x.0, x.1.now)) result (type_at result_of_byte bytes.now) }
 {
     let (byte, rest) = byte_from(bytes)?;
     match result_of(byte) {
@@ -187,7 +173,7 @@ pub fn result_from(bytes: &[u8]) -> Result<(Ret, &[u8]), Stop>
 /// left from it on, where it is another or there is none.
 #[tactic(auto, unfolding(crate::specs::Fields::type_at))]
 pub fn ext_result_from(bytes: &[u8]) -> Result<(Ret, &[u8]), Stop>
-    ensures { Gives (λ x. (x.0, x.1.now)) result (type_at ext_result_of bytes.now) }
+    ensures { GivesField (λ x. (x.0, x.1.now)) result (type_at ext_result_of bytes.now) }
 {
     let (byte, rest) = byte_from(bytes)?;
     match ext_result_of(byte) {
@@ -197,8 +183,8 @@ pub fn ext_result_from(bytes: &[u8]) -> Result<(Ret, &[u8]), Stop>
 }
 
 fn comps_from(alloc: Global, most: u8, count: u8, bytes: &[u8]) -> Result<(Vec<Comp>, &[u8]), Stop>
-    ensures gives { Gives (λ x. (x.0.items, x.1.now)) result
-        (rows_at (λ _. type_at (comp_of most)) [] count bytes.now) }
+    ensures gives { GivesField (λ x. (x.0.items, x.1.now)) result
+        (rows_at (λ _. type_at (comp_of_byte most)) [] count bytes.now) }
     ensures few { IfOk result (λ x. length x.0.items ≤ count) }
 {
     let mut comps = Vec::new(alloc);
@@ -215,7 +201,7 @@ fn comps_from(alloc: Global, most: u8, count: u8, bytes: &[u8]) -> Result<(Vec<C
 /// how many bytes of the body are left from the first byte on that is another or missing, or want of memory.
 #[tactic(auto, unfolding(crate::specs::Fields::params_at, crate::specs::Fields::kept))]
 pub fn params_from(alloc: Global, most: u8, bytes: &[u8]) -> Result<(Vec<Comp>, &[u8]), Stop>
-    ensures gives { Gives (λ x. (x.0.items, x.1.now)) result (params_at most bytes.now) }
+    ensures gives { GivesField (λ x. (x.0.items, x.1.now)) result (params_at most bytes.now) }
     ensures few { IfOk result (λ x. length x.0.items ≤ 16) }
 {
     let (count, rest) = byte_from(bytes)?;

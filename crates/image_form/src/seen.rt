@@ -1,6 +1,6 @@
 //! Which texts came before, so that each is found to be new or not.
 ghost use Rattle.std.specs.Prelude.{◌≡◌, List, ℕ, [], ◌∷◌, ◌++◌, not, IfOk};
-ghost use Rattle.image_form.specs.Seen.{has, Holds};
+ghost use Rattle.image_form.specs.Seen.{has_text, HoldsTexts};
 
 use std::alloc::{AllocError, Global};
 use std::collections::BTreeSet;
@@ -14,7 +14,7 @@ pub struct Seen {
 impl Seen {
     /// None came before.
     pub fn new(alloc: Global) -> Self
-        ensures { Holds result [] }
+        ensures { HoldsTexts result [] }
     {
         Seen {
             texts: BTreeSet::new(alloc),
@@ -25,12 +25,12 @@ impl Seen {
     pub fn insert(&mut self, text: Vec<u8>) -> Result<bool, AllocError>
         ensures new { IfOk result (λ added.
             (texts : List (List ℕ))
-            → Holds self.old texts
-            → added ≡ not (has texts text.items)) }
+            → HoldsTexts self.old texts
+            → added ≡ not (has_text texts text.items)) }
         ensures holds { IfOk result (λ added.
             (texts : List (List ℕ))
-            → Holds self.old texts
-            → Holds self.new (texts ++ text.items ∷ [])) }
+            → HoldsTexts self.old texts
+            → HoldsTexts self.new (texts ++ text.items ∷ [])) }
     {
         Ok(self.texts.insert(text)?)
     }

@@ -1,7 +1,7 @@
 //! The text of the words of code.
 ghost use Rattle.std.specs.Prelude.{◌≡◌, ◌<◌, ◌+◌, ◌*◌, ◌^◌, length, IfOk};
 ghost use Rattle.bs_words.specs.Contents.{contents};
-ghost use Rattle.mach_ir.specs.Pages.{Adds};
+ghost use Rattle.mach_ir.specs.Pages.{AddsText};
 ghost use Rattle.image_form.specs.Image.{IsImage};
 ghost use Rattle.image_form.specs.Tables.{tables};
 ghost use Rattle.image_listings.specs.Texts.{word_line, words_text, code_text};
@@ -27,7 +27,7 @@ pub fn code_text(alloc: Global, image: &Image) -> Result<List<u8>, AllocError>
 /// The words from an address on.
 fn put_words(page: &mut Page, start: u32, words: &[u32]) -> Result<(), AllocError>
     requires { start + 4 * length words.now < 2 ^ 32 }
-    ensures { IfOk result (λ _. Adds page.old page.new (words_text start words.now)) }
+    ensures { IfOk result (λ _. AddsText page.old page.new (words_text start words.now)) }
 {
     let mut address = start;
     for word in words {
@@ -39,7 +39,7 @@ fn put_words(page: &mut Page, start: u32, words: &[u32]) -> Result<(), AllocErro
 
 #[tactic(auto, unfolding(crate::specs::Texts::word_line))]
 fn put_word(page: &mut Page, address: u32, word: u32) -> Result<(), AllocError>
-    ensures { IfOk result (λ _. Adds page.old page.new (word_line address word)) }
+    ensures { IfOk result (λ _. AddsText page.old page.new (word_line address word)) }
 {
     put_eight_digits(page, address)?;
     page.put(b" ")?;

@@ -2,7 +2,7 @@
 ghost use Rattle.std.specs.Prelude.{◌≡◌, ◌<◌, ◌^◌, ℕ, map, IfOk};
 ghost use Rattle.std.specs.List.{AllByRecursion, flat_map};
 ghost use Rattle.bs_words.specs.Contents.{contents};
-ghost use Rattle.mach_ir.specs.Pages.{Adds};
+ghost use Rattle.mach_ir.specs.Pages.{AddsText};
 ghost use Rattle.image_form.specs.Image.{IsImage, IsEntry, IsDesc};
 ghost use Rattle.image_form.specs.Tables.{desc, tables};
 ghost use Rattle.image_listings.specs.Texts.{entry_text, entries_text, desc_line, frames_text};
@@ -29,7 +29,7 @@ fn put_lines(page: &mut Page, rows: &[DescRow]) -> Result<(), AllocError>
     requires { (version : ℕ) × (limit : ℕ)
         × AllByRecursion (IsDesc version limit) (map desc rows.now)
         × limit < 2 ^ 31 }
-    ensures { IfOk result (λ _. Adds page.old page.new (flat_map desc_line (map desc rows.now))) }
+    ensures { IfOk result (λ _. AddsText page.old page.new (flat_map desc_line (map desc rows.now))) }
 {
     for row in rows {
         put_line(page, row)?;
@@ -41,7 +41,7 @@ fn put_lines(page: &mut Page, rows: &[DescRow]) -> Result<(), AllocError>
 fn put_line(page: &mut Page, row: &DescRow) -> Result<(), AllocError>
     requires near { row.now.after < 2 ^ 31 }
     requires entries { AllByRecursion (IsEntry row.now.size) (contents row.now.entries) }
-    ensures { IfOk result (λ _. Adds page.old page.new (desc_line (desc row.now))) }
+    ensures { IfOk result (λ _. AddsText page.old page.new (desc_line (desc row.now))) }
 {
     put_eight_digits(page, CODE_START as u32 + row.after)?;
     page.put(b" ")?;
@@ -52,7 +52,7 @@ fn put_line(page: &mut Page, row: &DescRow) -> Result<(), AllocError>
 
 fn put_entries(page: &mut Page, entries: &[u32]) -> Result<(), AllocError>
     requires { (size : ℕ) × AllByRecursion (IsEntry size) entries.now }
-    ensures { IfOk result (λ _. Adds page.old page.new (entries_text entries.now)) }
+    ensures { IfOk result (λ _. AddsText page.old page.new (entries_text entries.now)) }
 {
     for entry in entries {
         page.put(b" ")?;
@@ -64,7 +64,7 @@ fn put_entries(page: &mut Page, entries: &[u32]) -> Result<(), AllocError>
 #[tactic(auto, unfolding(crate::specs::Texts::entry_text))]
 fn put_entry(page: &mut Page, entry: u32) -> Result<(), AllocError>
     requires { (size : ℕ) × IsEntry size entry }
-    ensures { IfOk result (λ _. Adds page.old page.new (entry_text entry)) }
+    ensures { IfOk result (λ _. AddsText page.old page.new (entry_text entry)) }
 {
     if entry % 2 == 1 {
         page.put_register((entry / 2) as u8)

@@ -10,12 +10,12 @@ use Rattle.bs_words.specs.declared.types.Ret.{Ret}
 use Rattle.cmm_tree.specs.Tree.{FileTree}
 use Rattle.image_form.proofs.Differ.{AllDiffer}
 use Rattle.image_form.specs.Image.{comp_byte, ret_byte}
-use Rattle.layout_rules.specs.Externals.{same_row, is_among, firsts_behind, externals, all_calls}
+use Rattle.layout_rules.specs.Externals.{same_row, is_among_externals, firsts_behind, externals, all_calls}
 
 -- the firsts of two lists, one after the other
 pub firsts_append : (before xs ys : List External) → firsts_behind before (xs ++ ys) ≡ firsts_behind (firsts_behind before xs) ys
 firsts_append before [] ys = refl
-firsts_append before (x ∷ xs) ys = firsts_append (cond (is_among before x) before (before ++ x ∷ [])) xs ys
+firsts_append before (x ∷ xs) ys = firsts_append (cond (is_among_externals before x) before (before ++ x ∷ [])) xs ys
 
 -- ---- no row occurs twice
 
@@ -45,10 +45,10 @@ row_same a b e =
     (subst (λ (ps : List Comp). bytes_eq (map comp_byte a.params) (map comp_byte ps) ≡ true) params (bytes_same (map comp_byte a.params)))
     (subst (λ (r : Ret). (ret_byte a.result == ret_byte r) ≡ true) results (number_same (ret_byte a.result)))
 
-others : (rows : List External) (e : External) → is_among rows e ≡ false → AllByRecursion (λ x. x ≢ e) rows
+others : (rows : List External) (e : External) → is_among_externals rows e ≡ false → AllByRecursion (λ x. x ≢ e) rows
 others [] e none = tt
 others (x ∷ rows) e none =
-    let both = or_parts (same_row x e) (is_among rows e) none in
+    let both = or_parts (same_row x e) (is_among_externals rows e) none in
     (λ same. true≢false (sym (row_same x e same) ∙ both.0), others rows e both.1)
 
 all_then : {A : Type 0} (P : A → Type 0) (xs : List A) (y : A) → AllByRecursion P xs → P y → AllByRecursion P (xs ++ y ∷ [])
@@ -59,7 +59,7 @@ differ_then : {A : Type 0} (xs : List A) (y : A) → AllDiffer xs → AllByRecur
 differ_then [] y differ none = (tt, tt)
 differ_then (x ∷ xs) y differ none = (all_then (λ z. x ≢ z) xs y differ.0 none.0, differ_then xs y differ.1 none.1)
 
-one_more : (known : Bool) (before : List External) (e : External) → is_among before e ≡ known → AllDiffer before →
+one_more : (known : Bool) (before : List External) (e : External) → is_among_externals before e ≡ known → AllDiffer before →
     AllDiffer (cond known before (before ++ e ∷ []))
 one_more true before e is differ = differ
 one_more false before e is differ = differ_then before e differ (others before e is)
@@ -67,7 +67,7 @@ one_more false before e is differ = differ_then before e differ (others before e
 firsts_differ : (before es : List External) → AllDiffer before → AllDiffer (firsts_behind before es)
 firsts_differ before [] differ = differ
 firsts_differ before (e ∷ es) differ =
-    firsts_differ (cond (is_among before e) before (before ++ e ∷ [])) es (one_more (is_among before e) before e refl differ)
+    firsts_differ (cond (is_among_externals before e) before (before ++ e ∷ [])) es (one_more (is_among_externals before e) before e refl differ)
 
 pub rows_differ : (file : FileTree) → AllDiffer (externals file)
 rows_differ file = firsts_differ [] (all_calls file) tt

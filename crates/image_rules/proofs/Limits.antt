@@ -8,7 +8,7 @@ use Rattle.bs_fault.specs.declared.large.Section.{Section}
 use Rattle.bs_fault.specs.declared.large.Section.TheVariants.{Func, Code, Data, Syms, Root, Extc, Desc}
 use Rattle.image_form.specs.Image.{le32, func_bytes, sym_bytes, ext_bytes, desc_bytes, table_bytes, table_limit, code_limit}
 use Rattle.image_form.specs.Tables.{Tables}
-use Rattle.layout_rules.specs.TooLarge.{sections, section_bytes_of, limit_of, passes_limit, first_too_large}
+use Rattle.layout_rules.specs.TooLarge.{sections, section_bytes_of, section_limit, section_passes_limit, first_too_large}
 
 -- The sections keep their limits.
 pub record AreShort (t : Tables) : Type 0 where
@@ -35,13 +35,13 @@ of_none f (Some x) e = cc
 
 pub are_short : (t : Tables) → first_too_large t ≡ None → AreShort t
 are_short t none =
-    let all = none_found (passes_limit t) sections (of_none (λ (section : Section). record { section = section; bytes = section_bytes_of t section }) (find (passes_limit t) sections) none) in
+    let all = none_found (section_passes_limit t) sections (of_none (λ (section : Section). record { section = section; bytes = section_bytes_of t section }) (find (section_passes_limit t) sections) none) in
     record {
-      funcs = ltb-false (limit_of Func) (section_bytes_of t Func) all.0;
-      code = ltb-false (limit_of Code) (section_bytes_of t Code) all.1.0;
-      bytes = ltb-false (limit_of Data) (section_bytes_of t Data) all.1.1.0;
-      syms = ltb-false (limit_of Syms) (section_bytes_of t Syms) all.1.1.1.0;
-      roots = ltb-false (limit_of Root) (section_bytes_of t Root) all.1.1.1.1.0;
-      extcs = ltb-false (limit_of Extc) (section_bytes_of t Extc) all.1.1.1.1.1.0;
-      descs = ltb-false (limit_of Desc) (section_bytes_of t Desc) all.1.1.1.1.1.1.0;
+      funcs = ltb-false (section_limit Func) (section_bytes_of t Func) all.0;
+      code = ltb-false (section_limit Code) (section_bytes_of t Code) all.1.0;
+      bytes = ltb-false (section_limit Data) (section_bytes_of t Data) all.1.1.0;
+      syms = ltb-false (section_limit Syms) (section_bytes_of t Syms) all.1.1.1.0;
+      roots = ltb-false (section_limit Root) (section_bytes_of t Root) all.1.1.1.1.0;
+      extcs = ltb-false (section_limit Extc) (section_bytes_of t Extc) all.1.1.1.1.1.0;
+      descs = ltb-false (section_limit Desc) (section_bytes_of t Desc) all.1.1.1.1.1.1.0;
     }

@@ -12,20 +12,20 @@ use Rattle.cmm_data.specs.Contents.{statics, root_cells}
 use Rattle.cmm_data.specs.Placement.{DataSymbolTree, symbols_of, data_end, data_bytes}
 use Rattle.cmm_tree.specs.Tree.{FunctionTree, FileTree, functions}
 use Rattle.image_form.proofs.Differ.{apart}
-use Rattle.image_form.specs.Image.{First, EachNext, IsBehind, IsSym, IsRoot, AreTables, end_of, stub, stub_words}
+use Rattle.image_form.specs.Image.{First, EachNext, IsBehind, IsSym, IsRoot, AreTables, function_end, stub, stub_words}
 use Rattle.image_form.specs.Tables.{Sym, func_names, sym_names}
 use Rattle.image_rules.proofs.Externals.{rows_differ}
 use Rattle.image_rules.proofs.Limits.{are_short}
 use Rattle.image_rules.proofs.Placed.{Lie, CellsLie, data_length, data_nonempty, symbols_in_data, roots_in_data}
 use Rattle.layout_rules.specs.declared.form.Form.{Form}
 use Rattle.layout_rules.specs.declared.form.Form.TheVariants.{Near, Middle, Far}
-use Rattle.layout_rules.specs.Conditions.{LeadsTo, IsFunctionLaid, CanBeLaid}
+use Rattle.layout_rules.specs.Conditions.{HasAlignedTarget, IsFunctionLaid, CanBeLaid}
 use Rattle.layout_rules.specs.Externals.{externals}
-use Rattle.layout_rules.specs.Forms.{words_of, total_words, place_of}
-use Rattle.layout_rules.specs.Laid.{address_of_place, entries_from, names_at, function_words, code_from, row_at, rows_from, cell_bytes, data_of, sym_of, laid_out, AllReach}
+use Rattle.layout_rules.specs.Forms.{piece_words, total_words, label_word_offset}
+use Rattle.layout_rules.specs.Laid.{address_of_place, function_entries_from, addresses_named_at, function_words, code_from, row_at, rows_from, cell_bytes, data_of, sym_of, laid_out, AllReach}
 use Rattle.rv_pieces.specs.Named.{PieceFits, has_words}
 use Rattle.layout_rules.specs.TooLarge.{first_too_large}
-use Rattle.layout_rules.specs.Words.{Named, target_of, words_from, code_of}
+use Rattle.layout_rules.specs.Words.{NameAddresses, target_of, words_from, instructions_of_piece}
 use Rattle.layout_rules.proofs.Functions.{forms_length, names_lead, function_length}
 use Rattle.layout_rules.proofs.Rules.{each_func, each_desc, descs_in_order, all_words, all_append}
 use Rattle.layout_rules.proofs.Standing.{code_fits}
@@ -45,14 +45,14 @@ encoded_below : (is : List Instr) → AllByRecursion InstrFits is → AllByRecur
 encoded_below [] fit = tt
 encoded_below (i ∷ is) fit = (encoded-below i fit.0, encoded_below is fit.1)
 
-words_below : (file : FileTree) (n : Named) (at : ℕ) (ps : List Piece) (fs : List Form) → at % 4 ≡ 0 → at + 4 * total_words ps fs + 4 < 2 ^ 32 → AllByRecursion PieceFits ps →
-    ((p : Piece) → LeadsTo (target_of n p) p) → AllByRecursion (λ w. w < 2 ^ 32) (words_from n at ps fs)
+words_below : (file : FileTree) (n : NameAddresses) (at : ℕ) (ps : List Piece) (fs : List Form) → at % 4 ≡ 0 → at + 4 * total_words ps fs + 4 < 2 ^ 32 → AllByRecursion PieceFits ps →
+    ((p : Piece) → HasAlignedTarget (target_of n p) p) → AllByRecursion (λ w. w < 2 ^ 32) (words_from n at ps fs)
 words_below file n at [] fs aligned low fits leads = tt
 words_below file n at (p ∷ ps) [] aligned low fits leads = tt
 words_below file n at (p ∷ ps) (f ∷ fs) aligned low fits leads =
-    let next = at + 4 * words_of p f in
-    all_append (λ w. w < 2 ^ 32) (map encoded (code_of n at p f)) (words_from n next ps fs)
-    (encoded_below (code_of n at p f) (code_fits at (target_of n p) p f fits.0 aligned (omega (arith, low)) (leads p)))
+    let next = at + 4 * piece_words p f in
+    all_append (λ w. w < 2 ^ 32) (map encoded (instructions_of_piece n at p f)) (words_from n next ps fs)
+    (encoded_below (instructions_of_piece n at p f) (code_fits at (target_of n p) p f fits.0 aligned (omega (arith, low)) (leads p)))
     (words_below file n next ps fs (omega (arith, aligned)) (omega (arith, low)) fits.1 leads)
 
 pub all_length : (file : FileTree) (entries : List ℕ) (at : ℕ) (ps : List Pieces) (forms : List (List Form)) → length (code_from file entries at ps forms) ≡ all_words ps forms
@@ -69,12 +69,12 @@ code_below file entries at (p ∷ ps) [] laid low = tt
 code_below file entries at (p ∷ ps) (f ∷ forms) laid low =
     let next = at + total_words p.code f in
     all_append (λ w. w < 2 ^ 32) (function_words file entries at p.code f) (code_from file entries next ps forms)
-    (words_below file (names_at file entries at p.code f) (address_of_place at) p.code f (omega arith) (omega (arith, low)) laid.0.fits (names_lead file entries at p.code f))
+    (words_below file (addresses_named_at file entries at p.code f) (address_of_place at) p.code f (omega arith) (omega (arith, low)) laid.0.fits (names_lead file entries at p.code f))
     (code_below file entries next ps forms laid.1 (omega (arith, low)))
 
 -- ---- functions
 
-pub some_words : (p : Piece) (f : Form) → has_words p ≡ true → 1 ≤ words_of p f
+pub some_words : (p : Piece) (f : Form) → has_words p ≡ true → 1 ≤ piece_words p f
 some_words (Known i) f some = omega arith
 some_words (Label l) f some = cc
 some_words (Branch c a b l) Near some = omega arith
@@ -98,13 +98,13 @@ some_words (Descriptor d) f some = cc
 abbrev one_if : Bool → ℕ
 one_if b = cond b 1 0
 
-count_step : (p : Piece) (ps : List Piece) (f : Form) (words : ℕ) → count_by has_words ps ≤ words → count_by has_words (p ∷ ps) ≤ words_of p f + words
+count_step : (p : Piece) (ps : List Piece) (f : Form) (words : ℕ) → count_by has_words ps ≤ words → count_by has_words (p ∷ ps) ≤ piece_words p f + words
 count_step p ps f words h = by (has_words p) refl
   where
     one : count_by has_words (p ∷ ps) ≡ one_if (has_words p) + count_by has_words ps
     one = sum_by-cons (λ (q : Piece). cond (has_words q) 1 0) p ps
 
-    by : (some : Bool) → has_words p ≡ some → count_by has_words (p ∷ ps) ≤ words_of p f + words
+    by : (some : Bool) → has_words p ≡ some → count_by has_words (p ∷ ps) ≤ piece_words p f + words
     by true e = let own = some_words p f e in let is = ap one_if e in omega (arith, one, is, own, h)
     by false e = let is = ap one_if e in omega (arith, one, is, h)
 
@@ -126,12 +126,12 @@ funcs_in_order file at [] ps forms are laid = tt
 funcs_in_order file at (f ∷ fs) [] forms are laid = tt
 funcs_in_order file at (f ∷ fs) (p ∷ ps) [] are laid = tt
 funcs_in_order file at (f ∷ fs) (p ∷ ps) (k ∷ forms) are laid =
-    let long = forms_length (place_of p.code k) 0 p.code k are.0 in
+    let long = forms_length (label_word_offset p.code k) 0 p.code k are.0 in
     let some = total_some p.code k long in
     (first_behind at f p k fs ps forms (omega (arith, some, laid.0.nonempty)), funcs_in_order file (at + total_words p.code k) fs ps forms are.1 laid.1)
 
 funcs_in_code : (len at : ℕ) (fs : List FunctionTree) (ps : List Pieces) (forms : List (List Form)) → 4 * (at + all_words ps forms) ≤ len →
-    AllByRecursion (λ row. end_of row ≤ len) (rows_from at fs ps forms)
+    AllByRecursion (λ row. function_end row ≤ len) (rows_from at fs ps forms)
 funcs_in_code len at [] ps forms fits = tt
 funcs_in_code len at (f ∷ fs) [] forms fits = tt
 funcs_in_code len at (f ∷ fs) (p ∷ ps) [] fits = tt
@@ -205,7 +205,7 @@ length_of_data file entries =
 pub is_image : (file : FileTree) (ps : List Pieces) (forms : List (List Form)) → CanBeLaid file ps → AllReach ps forms → first_too_large (laid_out file ps forms) ≡ None →
     AreTables (laid_out file ps forms)
 is_image file ps forms can are none =
-    let entries = entries_from stub_words ps forms in
+    let entries = function_entries_from stub_words ps forms in
     let code = code_from file entries stub_words ps forms in
     let bytes = data_of file entries in
     let short = are_short (laid_out file ps forms) none in

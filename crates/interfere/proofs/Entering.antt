@@ -11,7 +11,7 @@ use Rattle.mach_ir.specs.declared.reg.Reg.{Reg}
 use Rattle.mach_ir.specs.declared.mach.Instr.{Instr}
 use Rattle.mach_ir.specs.declared.mach.Mach.{Mach}
 use Rattle.bs_words.proofs.Lists.{none_in, first_in, in_cons}
-use Rattle.interfere.specs.Registers.{IsAt, HasOne, Enters, AreRegisters}
+use Rattle.interfere.specs.Registers.{IsRegisterAt, HasOne, Enters, AreNumberedRegisters}
 
 abbrev pub Table : Type 0
 Table = List (Option Reg)
@@ -54,7 +54,7 @@ enter_one : (t : Table) (r : Reg) → r.number < length t → Enters t (set t r.
 enter_one t r lt =
     record {
       len = length-set t r.number (Some r);
-      kept = λ n h. ⊎_elim (λ (e : n ≡ r.number). record { register = r; there = subst (λ k. IsAt made k r) (sym e) same })
+      kept = λ n h. ⊎_elim (λ (e : n ≡ r.number). record { register = r; there = subst (λ k. IsRegisterAt made k r) (sym e) same })
           (λ (ne : n ≢ r.number). record { register = h.register; there = get_or-set_other t r.number n (Some r) None ne ∙ h.there }) (cases_eq n r.number);
       sound = λ n q h.
           ⊎_elim (λ (e : n ≡ r.number).
@@ -70,7 +70,7 @@ enter_one t r lt =
     made : Table
     made = set t r.number (Some r)
 
-    same : IsAt made r.number r
+    same : IsRegisterAt made r.number r
     same = get_or-set_same t r.number (Some r) None lt
 
 pub enter_more : (regs : List Reg) (k : ℕ) (d : Reg) (old now : Table) → k < length regs → (get_or regs k d).number < length old →
@@ -137,7 +137,7 @@ code_all code k old new le h = subst (λ xs. Enters old new (λ r. InCode r xs))
 
 pub registers_made : (m : Mach) (size : ℕ) (empty one two three : Table) (params colours : List Reg) (code : List Instr) →
     params ≡ m.params → colours ≡ m.colours → code ≡ m.code → length empty ≡ size → ((n : ℕ) → get_or empty n None ≡ None) →
-    Enters empty one (Contains params) → Enters one two (Contains colours) → Enters two three (λ r. InCode r code) → AreRegisters m size three
+    Enters empty one (Contains params) → Enters one two (Contains colours) → Enters two three (λ r. InCode r code) → AreNumberedRegisters m size three
 registers_made m size empty one two three params colours code p q s len none first second third =
     record {
       len = all.len ∙ len;

@@ -16,8 +16,8 @@ use Rattle.mach_ir.specs.declared.graph.Node.{Node}
 use Rattle.mach_ir.specs.declared.reg.Reg.{Reg}
 use Rattle.mach_ir.specs.declared.mach.Mach.{Mach}
 use Rattle.bs_words.proofs.Lists.{none_in, first_in, later_in, in_cons}
-use Rattle.interfere.specs.Registers.{IsAt}
-use Rattle.interfere.specs.Tables.{AreTables, AreByNumber, IsNode, IsNodeAt, HasNode, AreNodesBelow}
+use Rattle.interfere.specs.Registers.{IsRegisterAt}
+use Rattle.interfere.specs.Tables.{AreInterferenceTables, AreByNumber, IsInterferenceNode, IsTableNode, HasNode, AreNodesBelow}
 use Rattle.interfere.specs.declared.tables.Tables.{Tables}
 
 Rises : Node → Node → Type 0
@@ -25,7 +25,7 @@ Rises x y = x.reg.number < y.reg.number
 
 -- what was read at a number is there
 read_at : (xs : List (Option Reg)) (n : ℕ) (slot : Option Reg) (r : Reg) → n < length xs → slot ≡ get_or xs n slot →
-    slot ≡ Some r → IsAt xs n r
+    slot ≡ Some r → IsRegisterAt xs n r
 read_at [] n slot r l e f = absurd (omega (arith, l))
 read_at (y ∷ ys) zero slot r l e f = sym e ∙ f
 read_at (y ∷ ys) (suc n) slot r l e f = read_at ys n slot r (omega (arith, l)) e f
@@ -39,48 +39,48 @@ nodes_same t n slot nodes lt read none before =
       each = before.each;
       below = λ x c. let h = before.below x c in omega (arith, h);
       whole = λ k r l h. ⊎_elim (λ less. before.whole k r less h)
-          (λ more. let e : k ≡ n = omega (arith, l, more) in absurd (nothing r (subst (λ k. IsAt t.registers.items k r) e h))) (cases_lt k n);
+          (λ more. let e : k ≡ n = omega (arith, l, more) in absurd (nothing r (subst (λ k. IsRegisterAt t.registers.items k r) e h))) (cases_lt k n);
     }
   where
-    nothing : (r : Reg) → IsAt t.registers.items n r → ⊥
+    nothing : (r : Reg) → IsRegisterAt t.registers.items n r → ⊥
     nothing r h =
         let f : get_or t.registers.items n None ≡ None = ap (get_or t.registers.items n) (sym none) ∙ sym read ∙ none in cc
 
 -- one node more
 pub nodes_more : (t : Tables) (n : ℕ) (slot : Option Reg) (r : Reg) (x : Node) (old new : List Node) → AreByNumber t →
-    n < length t.registers.items → slot ≡ get_or t.registers.items n slot → slot ≡ Some r → IsNode t r x → new ≡ old ++ x ∷ [] →
+    n < length t.registers.items → slot ≡ get_or t.registers.items n slot → slot ≡ Some r → IsInterferenceNode t r x → new ≡ old ++ x ∷ [] →
     AreNodesBelow t n old → AreNodesBelow t (n + 1) new
 nodes_more t n slot r x old new numbers lt read some node made before =
     subst (AreNodesBelow t (n + 1)) (sym made)
     (record {
       order = all_pairs_push (λ (x y : Node). x.reg.number < y.reg.number) old x before.order
           (λ k d l. let h = before.below (get_or old k d) (Contains-get_or old k d l) in subst (λ j. (get_or old k d).reg.number < j) (sym number) h);
-      each = λ y c. by (IsNodeAt t) (λ y d. before.each y d) here y (Contains-append_cases old (x ∷ []) y c);
+      each = λ y c. by (IsTableNode t) (λ y d. before.each y d) here y (Contains-append_cases old (x ∷ []) y c);
       below = λ y c. by (λ (y : Node). y.reg.number < n + 1) (λ y d. let h = before.below y d in omega (arith, h)) last y (Contains-append_cases old (x ∷ []) y c);
       whole = λ k q l h. ⊎_elim (λ less. let y = before.whole k q less h in record { node = y.node; among = Contains-append_left old (x ∷ []) y.node y.among; reg = y.reg })
           (λ more. let e : k ≡ n = omega (arith, l, more) in
-          record { node = x; among = Contains-append_right old (x ∷ []) x (first_in x []); reg = node.reg ∙ same q (subst (λ k. IsAt t.registers.items k q) e h) })
+          record { node = x; among = Contains-append_right old (x ∷ []) x (first_in x []); reg = node.reg ∙ same q (subst (λ k. IsRegisterAt t.registers.items k q) e h) })
           (cases_lt k n);
     })
   where
-    at : IsAt t.registers.items n r
+    at : IsRegisterAt t.registers.items n r
     at = read_at t.registers.items n slot r lt read some
 
     number : x.reg.number ≡ n
     number = ap (λ (r : Reg). r.number) node.reg ∙ numbers.number n r at
 
-    here : IsNodeAt t x
+    here : IsTableNode t x
     here =
         record {
-          there = subst (λ (q : Reg). IsAt t.registers.items q.number q) (sym node.reg)
-              (subst (λ k. IsAt t.registers.items k r) (sym (numbers.number n r at)) at);
-          node = subst (λ q. IsNode t q x) (sym node.reg) node;
+          there = subst (λ (q : Reg). IsRegisterAt t.registers.items q.number q) (sym node.reg)
+              (subst (λ k. IsRegisterAt t.registers.items k r) (sym (numbers.number n r at)) at);
+          node = subst (λ q. IsInterferenceNode t q x) (sym node.reg) node;
         }
 
     last : x.reg.number < n + 1
     last = subst (λ k. k < n + 1) (sym number) (omega arith)
 
-    same : (q : Reg) → IsAt t.registers.items n q → r ≡ q
+    same : (q : Reg) → IsRegisterAt t.registers.items n q → r ≡ q
     same q h = let f : Some r ≡ Some q = sym at ∙ h in cc
 
     by : (P : Node → Type 0) → ((y : Node) → Contains old y → P y) → P x → (y : Node) → Contains old y ⊎ Contains (x ∷ []) y → P y
@@ -94,7 +94,7 @@ has_row t n slot r numbers lt read some =
     subst (λ k. k < length t.joined) (sym (numbers.number n r (read_at t.registers.items n slot r lt read some)))
     (let len = numbers.len in omega (arith, lt, len))
 
-pub by_number : (m : Mach) (t : Tables) → AreTables m t → AreByNumber t
+pub by_number : (m : Mach) (t : Tables) → AreInterferenceTables m t → AreByNumber t
 by_number m t are = record { len = are.registers.len; number = λ n r h. (are.registers.sound n r h).0 }
 
 -- ---- the graph
@@ -112,7 +112,7 @@ of_map (y ∷ ys) r c =
     (λ d. let h = of_map ys r d in record { node = h.node; among = later_in y h.node ys h.among; reg = h.reg })
     (in_cons y.reg r (map (λ (x : Node). x.reg) ys) c)
 
-pub is_graph : (m : Mach) (t : Tables) (g : Graph) (nodes : List Node) → WellFormed m → AreTables m t →
+pub is_graph : (m : Mach) (t : Tables) (g : Graph) (nodes : List Node) → WellFormed m → AreInterferenceTables m t →
     AreNodesBelow t (length t.registers.items) nodes → g.nodes ≡ nodes → IsGraph m g
 is_graph m t g nodes formed are has made =
     record {
@@ -145,7 +145,7 @@ is_graph m t g nodes formed are has made =
     made_of : (P : List Node → Type 0) → P nodes → P g.nodes
     made_of P h = subst P (sym made) h
 
-    node_of : (x : Node) → Contains nodes x → IsNode t x.reg x
+    node_of : (x : Node) → Contains nodes x → IsInterferenceNode t x.reg x
     node_of x c = (has.each x c).node
 
     register : (x : Node) → Contains nodes x → IsRegister m x.reg
@@ -161,7 +161,7 @@ is_graph m t g nodes formed are has made =
         let x = has.whole r.number q (below r.number q one.there) one.there in
         record { node = x.node; among = x.among; reg = x.reg ∙ same }
       where
-        below : (n : ℕ) (q : Reg) → IsAt t.registers.items n q → n < length t.registers.items
+        below : (n : ℕ) (q : Reg) → IsRegisterAt t.registers.items n q → n < length t.registers.items
         below n q at =
             ⊎_elim (λ lt. lt)
             (λ le. let f : get_or t.registers.items n None ≡ None = get_or_past t.registers.items n None le in absurd (cc))

@@ -4,22 +4,22 @@ use Rattle.std.specs.List.{All}
 use Rattle.std.proofs.Math.Seq.{drop-cons}
 use Rattle.std.proofs.lemmas.List.{get_or-map}
 use Rattle.bs_words.specs.Contents.{contents}
-use Rattle.dataflow.specs.Flow.{IsPlace, WellFormed}
+use Rattle.dataflow.specs.Flow.{IsPlace, IsFlowFormed}
 use Rattle.dataflow.specs.declared.flow.Flow as flow
 use Rattle.dataflow.specs.declared.flow.Place as place
-use Rattle.mach_ir.specs.Meaning.{written}
+use Rattle.mach_ir.specs.Meaning.{registers_written}
 use Rattle.mach_ir.specs.declared.mach.Instr.{Instr}
 use Rattle.mach_ir.specs.declared.mach.Mach.{Mach}
-use Rattle.mach_laws.specs.Graph.{numbers, numbers_written, next_places, IsFlowOf}
+use Rattle.mach_laws.specs.Graph.{numbers_of_registers, numbers_written, next_places, IsFlowOf}
 
 -- the node of the instruction at a place
 pub record IsNodeOf (m : Mach) (f : flow.Flow) (p : ℕ) (i : Instr) (node : place.Place) : Type 0 where
   pub at : drop p m.code ≡ i ∷ drop (suc p) m.code
   pub next : contents node.next ≡ next_places m (i ∷ drop (suc p) m.code)
-  pub writes : contents node.writes ≡ numbers (written m i)
+  pub writes : contents node.writes ≡ numbers_of_registers (registers_written m i)
   pub formed : IsPlace (length (contents f.places)) f.bound node
 
-pub node_read : (m : Mach) (f : flow.Flow) (p : ℕ) (code : List Instr) (i : Instr) (node : place.Place) → IsFlowOf m f → WellFormed f →
+pub node_read : (m : Mach) (f : flow.Flow) (p : ℕ) (code : List Instr) (i : Instr) (node : place.Place) → IsFlowOf m f → IsFlowFormed f →
     code ≡ m.code → p < length code → i ≡ get_or code p i → node ≡ get_or (contents f.places) p node → IsNodeOf m f p i node
 node_read m f p code i node is formed same lt read there =
     record {

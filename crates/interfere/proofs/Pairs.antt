@@ -6,11 +6,11 @@ use Rattle.std.specs.Prelude.{Option}
 use Rattle.std.proofs.lemmas.List.{take_more, take_all}
 use Rattle.std.proofs.lemmas.List.Elements.{Contains-get_or, Contains-append_left, Contains-append_right, Contains-append_cases}
 use Rattle.bs_bits.specs.Set.{has}
-use Rattle.dataflow.specs.Rows.{row}
+use Rattle.dataflow.specs.Rows.{set_in_row}
 use Rattle.bs_words.proofs.Lists.{none_in, first_in, in_cons}
 use Rattle.interfere.specs.Members.{AreMembers}
-use Rattle.interfere.specs.Moves.{is_from_to}
-use Rattle.interfere.specs.Pairs.{Table, EitherWay, one_way, other_way, Adds, ForOne, Meeting, MeetsSet}
+use Rattle.interfere.specs.Moves.{is_move_from_to}
+use Rattle.interfere.specs.Pairs.{Table, EitherWay, one_way, other_way, AddsPairs, ForOne, Meeting, MeetsSet}
 use Rattle.interfere.specs.Pairs.{MeetsPlaces}
 use Rattle.interfere.specs.declared.moves.Move.{Move}
 
@@ -31,7 +31,7 @@ either_none none n k (other_way ne h) = none k n h
 
 -- ---- tables
 
-pub adds_none : (t : Table) (R : ℕ → ℕ → Type 0) → ((n k : ℕ) → R n k → ⊥) → Adds t t R
+pub adds_none : (t : Table) (R : ℕ → ℕ → Type 0) → ((n k : ℕ) → R n k → ⊥) → AddsPairs t t R
 adds_none t R none =
     record {
       len = refl;
@@ -41,8 +41,8 @@ adds_none t R none =
     }
 
 -- two relations, and one that says either
-pub adds_then : (x y z : Table) (P Q R : ℕ → ℕ → Type 0) → Adds x y P → Adds y z Q → ((n k : ℕ) → R n k → P n k ⊎ Q n k) →
-    ((n k : ℕ) → P n k → R n k) → ((n k : ℕ) → Q n k → R n k) → Adds x z R
+pub adds_then : (x y z : Table) (P Q R : ℕ → ℕ → Type 0) → AddsPairs x y P → AddsPairs y z Q → ((n k : ℕ) → R n k → P n k ⊎ Q n k) →
+    ((n k : ℕ) → P n k → R n k) → ((n k : ℕ) → Q n k → R n k) → AddsPairs x z R
 adds_then x y z P Q R one two split left right =
     record {
       len = two.len ∙ one.len;
@@ -54,8 +54,8 @@ adds_then x y z P Q R one two split left right =
           ⊎_elim (λ p. two.kept n k (one.whole n k p)) (λ q. two.whole n k q) (either_split split n k h);
     }
 
-pub adds_same : (x y : Table) (P R : ℕ → ℕ → Type 0) → Adds x y P → ((n k : ℕ) → P n k → R n k) → ((n k : ℕ) → R n k → P n k) →
-    Adds x y R
+pub adds_same : (x y : Table) (P R : ℕ → ℕ → Type 0) → AddsPairs x y P → ((n k : ℕ) → P n k → R n k) → ((n k : ℕ) → R n k → P n k) →
+    AddsPairs x y R
 adds_same x y P R h to from =
     record {
       len = h.len;
@@ -71,11 +71,11 @@ module _ {A : Type 0} (R : A → ℕ → ℕ → Type 0) where
   none_taken [] y c = none_in y c
   none_taken (x ∷ xs) y c = none_in y c
 
-  pub one_none : (xs : List A) (t : Table) → Adds t t (ForOne R (take 0 xs))
+  pub one_none : (xs : List A) (t : Table) → AddsPairs t t (ForOne R (take 0 xs))
   one_none xs t = adds_none t (ForOne R (take 0 xs)) (λ n k h. none_taken xs h.item h.among)
 
-  pub one_more : (xs : List A) (i : ℕ) (d : A) (x y z : Table) → i < length xs → Adds x y (ForOne R (take i xs)) →
-      Adds y z (R (get_or xs i d)) → Adds x z (ForOne R (take (i + 1) xs))
+  pub one_more : (xs : List A) (i : ℕ) (d : A) (x y z : Table) → i < length xs → AddsPairs x y (ForOne R (take i xs)) →
+      AddsPairs y z (R (get_or xs i d)) → AddsPairs x z (ForOne R (take (i + 1) xs))
   one_more xs i d x y z lt before here =
       adds_then x y z (ForOne R (take i xs)) (R new) (ForOne R (take (i + 1) xs)) before here
       (λ n k h. by n k h (Contains-append_cases (take i xs) (new ∷ []) h.item (subst (λ ys. Contains ys h.item) taken h.among)))
@@ -94,23 +94,23 @@ module _ {A : Type 0} (R : A → ℕ → ℕ → Type 0) where
       by n k h (inr c) =
           ⊎_elim (λ e. inr (subst (λ x. R x n k) (sym e) h.there)) (λ z. absurd (none_in h.item z)) (in_cons new h.item [] c)
 
-  pub one_all : (xs : List A) (i : ℕ) (x y : Table) → length xs ≤ i → Adds x y (ForOne R (take i xs)) → Adds x y (ForOne R xs)
-  one_all xs i x y le h = subst (λ ys. Adds x y (ForOne R ys)) (take_all i xs le) h
+  pub one_all : (xs : List A) (i : ℕ) (x y : Table) → length xs ≤ i → AddsPairs x y (ForOne R (take i xs)) → AddsPairs x y (ForOne R xs)
+  one_all xs i x y le h = subst (λ ys. AddsPairs x y (ForOne R ys)) (take_all i xs le) h
 
 -- ---- one pair
 
-pub not_joined : (t : Table) (moved : Option Move) (number other : ℕ) → is_from_to moved other number ≡ true →
-    Adds t t (Meeting moved number other)
+pub not_joined : (t : Table) (moved : Option Move) (number other : ℕ) → is_move_from_to moved other number ≡ true →
+    AddsPairs t t (Meeting moved number other)
 not_joined t moved number other e =
     adds_none t (Meeting moved number other)
     (λ n k h.
-    let f : is_from_to moved other number ≡ false =
-    subst (λ n. is_from_to moved other n ≡ false) (sym h.written) (subst (λ k. is_from_to moved k n ≡ false) (sym h.live) h.no_move) in
+    let f : is_move_from_to moved other number ≡ false =
+    subst (λ n. is_move_from_to moved other n ≡ false) (sym h.written) (subst (λ k. is_move_from_to moved k n ≡ false) (sym h.live) h.no_move) in
     cc)
 
 -- with each of a list of members is with the set
 pub with_set : (x y : Table) (moved : Option Move) (set : List Bool) (members : List ℕ) (number : ℕ) → AreMembers set members →
-    Adds x y (ForOne (Meeting moved number) members) → Adds x y (MeetsSet moved set number)
+    AddsPairs x y (ForOne (Meeting moved number) members) → AddsPairs x y (MeetsSet moved set number)
 with_set x y moved set members number are h =
     adds_same x y (ForOne (Meeting moved number) members) (MeetsSet moved set number) h
     (λ n k p. let t = p.there in record {
@@ -134,17 +134,17 @@ members_small bound len set members lent are same below e =
 
 -- the same with the list as it was lent
 pub with_lent : (x y : Table) (moved : Option Move) (set : List Bool) (members lent : List ℕ) (number : ℕ) → AreMembers set members →
-    lent ≡ members → Adds x y (ForOne (Meeting moved number) lent) → Adds x y (MeetsSet moved set number)
+    lent ≡ members → AddsPairs x y (ForOne (Meeting moved number) lent) → AddsPairs x y (MeetsSet moved set number)
 with_lent x y moved set members lent number are same h =
-    with_set x y moved set members number are (subst (λ ks. Adds x y (ForOne (Meeting moved number) ks)) same h)
+    with_set x y moved set members number are (subst (λ ks. AddsPairs x y (ForOne (Meeting moved number) ks)) same h)
 
 -- one place more where control goes on, with lists as they were lent
 pub place_more : (moved : Option Move) (live : Table) (writes places : List ℕ) (lent_writes lent_places : List ℕ) (i : ℕ) (set : List Bool)
-    (x y z : Table) → lent_writes ≡ writes → lent_places ≡ places → i < length lent_places → set ≡ row live (get_or lent_places i 0) →
-    Adds x y (MeetsPlaces moved live writes (take i places)) → Adds y z (ForOne (MeetsSet moved set) lent_writes) →
-    Adds x z (MeetsPlaces moved live writes (take (i + 1) places))
+    (x y z : Table) → lent_writes ≡ writes → lent_places ≡ places → i < length lent_places → set ≡ set_in_row live (get_or lent_places i 0) →
+    AddsPairs x y (MeetsPlaces moved live writes (take i places)) → AddsPairs y z (ForOne (MeetsSet moved set) lent_writes) →
+    AddsPairs x z (MeetsPlaces moved live writes (take (i + 1) places))
 place_more moved live writes places lent_writes lent_places i set x y z w p lt same before here =
     let le : length lent_places ≡ length places = ap length p in
-    one_more (λ q. ForOne (MeetsSet moved (row live q)) writes) places i 0 x y z (omega (arith, lt, le)) before
-    (subst (λ ns. Adds y z (ForOne (MeetsSet moved (row live (get_or places i 0))) ns)) w
-    (subst (λ s. Adds y z (ForOne (MeetsSet moved s) lent_writes)) (same ∙ ap (λ ps. row live (get_or ps i 0)) p) here))
+    one_more (λ q. ForOne (MeetsSet moved (set_in_row live q)) writes) places i 0 x y z (omega (arith, lt, le)) before
+    (subst (λ ns. AddsPairs y z (ForOne (MeetsSet moved (set_in_row live (get_or places i 0))) ns)) w
+    (subst (λ s. AddsPairs y z (ForOne (MeetsSet moved s) lent_writes)) (same ∙ ap (λ ps. set_in_row live (get_or ps i 0)) p) here))

@@ -43,9 +43,9 @@ move_between _ _ = None
 abbrev pub move_of : Instr → Option Move
 move_of i = cond (is_move i.op) (move_between i.args i.results) None
 
-abbrev pub is_from_to : Option Move → ℕ → ℕ → Bool
-is_from_to None from to = false
-is_from_to (Some x) from to = nat_eq x.from from && nat_eq x.to to
+abbrev pub is_move_from_to : Option Move → ℕ → ℕ → Bool
+is_move_from_to None from to = false
+is_move_from_to (Some x) from to = nat_eq x.from from && nat_eq x.to to
 
 -- the registers that a move takes this one from or to
 abbrev pub partners_of : ℕ → Option Move → List ℕ

@@ -25,7 +25,7 @@ pub fn graph(alloc: Global, mach: &Mach, live: &LiveMap, flow: &Flow) -> Result<
     requires countable { IsCountable mach.now }
     requires live { IsLiveMap mach.now live.now }
     requires flow { IsFlowOf mach.now flow.now }
-    requires edges { flows.WellFormed flow.now }
+    requires edges { flows.IsFlowFormed flow.now }
     ensures { IfOk result (IsGraph mach.now) }
 {
     let tables = Tables::of_function(alloc, mach, live, flow)?;

@@ -2,12 +2,12 @@
 ghost use Rattle.std.specs.Prelude.{◌≡◌, ◌↔◌, ◌<◌, ℕ, true, None, All, length, IfOk};
 ghost use Rattle.bs_bits.specs.Set.{has};
 ghost use Rattle.bs_words.specs.Contents.{contents};
-ghost use Rattle.dataflow.specs.Flow.{WellFormed};
+ghost use Rattle.dataflow.specs.Flow.{IsFlowFormed};
 ghost use Rattle.mach_ir.specs.Graph.{IsLiveMap};
 ghost use Rattle.mach_ir.specs.Walks.{IsRegister, Joined};
 ghost use Rattle.mach_ir.specs.declared.reg.Reg.{Reg};
 ghost use Rattle.mach_laws.specs.Graph.{IsFlowOf};
-ghost use Rattle.interfere.specs.Pairs.{Has, Adds, ForOne, Meeting, MeetsSet, MeetsPlaces, AreBelow};
+ghost use Rattle.interfere.specs.Pairs.{Has, AddsPairs, ForOne, Meeting, MeetsSet, MeetsPlaces, AreBelow};
 
 use crate::matrix::Matrix;
 use crate::members::members_of;
@@ -21,7 +21,7 @@ use std::alloc::{AllocError, Global};
 fn join_one(joined: &mut Matrix, moved: Option<Move>, number: u32, other: u32)
     requires number { number < length joined.old }
     requires other { other < length joined.old }
-    ensures { Adds joined.old joined.new (Meeting moved number other) }
+    ensures { AddsPairs joined.old joined.new (Meeting moved number other) }
 {
     if !is_from_to(moved, other, number) {
         joined.join(number, other);
@@ -32,7 +32,7 @@ fn join_one(joined: &mut Matrix, moved: Option<Move>, number: u32, other: u32)
 fn join_others(joined: &mut Matrix, moved: Option<Move>, number: u32, others: &[u32])
     requires number { number < length joined.old }
     requires others { All (λ k. k < length joined.old) others.now }
-    ensures { Adds joined.old joined.new (ForOne (Meeting moved number) others.now) }
+    ensures { AddsPairs joined.old joined.new (ForOne (Meeting moved number) others.now) }
 {
     for other in others {
         join_one(joined, moved, number, *other);
@@ -50,7 +50,7 @@ fn join_set(
     requires numbers { All (λ n. n < length joined.old) numbers.now }
     requires set { (k : ℕ) → has set.now k ≡ true → k < length joined.old }
     ensures { IfOk result (λ _.
-        Adds joined.old joined.new (ForOne (MeetsSet moved set.now) numbers.now)) }
+        AddsPairs joined.old joined.new (ForOne (MeetsSet moved set.now) numbers.now)) }
 {
     if numbers.is_empty() {
         return Ok(());
@@ -74,7 +74,7 @@ fn join_writes(
     requires numbers { All (λ n. n < length joined.old) (contents node.now.writes) }
     requires live { AreBelow (length joined.old) live.now.before.rows.items }
     requires places { All (λ q. q < length live.now.before.rows.items) (contents node.now.next) }
-    ensures { IfOk result (λ _. Adds joined.old joined.new
+    ensures { IfOk result (λ _. AddsPairs joined.old joined.new
         (MeetsPlaces moved live.now.before.rows.items (contents node.now.writes)
         (contents node.now.next))) }
 {
@@ -95,7 +95,7 @@ fn join_params(
 ) -> Result<(), AllocError>
     requires params { All (λ (r : Reg). r.number < length joined.old) params.now }
     requires set { (k : ℕ) → has set.now k ≡ true → k < length joined.old }
-    ensures { IfOk result (λ _. Adds joined.old joined.new
+    ensures { IfOk result (λ _. AddsPairs joined.old joined.new
         (ForOne (λ (r : Reg). MeetsSet None set.now r.number) params.now)) }
 {
     let others = members_of(alloc, set)?;
@@ -115,7 +115,7 @@ pub fn joined_in(
     size: u32,
 ) -> Result<Matrix, AllocError>
     requires flow { IsFlowOf mach.now flow.now }
-    requires formed { WellFormed flow.now }
+    requires formed { IsFlowFormed flow.now }
     requires live { IsLiveMap mach.now live.now }
     requires numbers { (r : Reg) → IsRegister mach.now r → r.number < size }
     ensures len { IfOk result (λ joined. length joined ≡ size) }

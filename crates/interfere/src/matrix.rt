@@ -1,8 +1,8 @@
 //! Which registers are joined, as a square of bits.
 ghost use Rattle.std.specs.Prelude.{◌≡◌, ◌<◌, ℕ, false, length, IfOk};
 ghost use Rattle.bs_bits.specs.Set.{has};
-ghost use Rattle.dataflow.specs.Rows.{row};
-ghost use Rattle.interfere.specs.Pairs.{Adds, Puts, IsPair};
+ghost use Rattle.dataflow.specs.Rows.{set_in_row};
+ghost use Rattle.interfere.specs.Pairs.{AddsPairs, PutsPair, IsPair};
 
 use bs_bits::Bits;
 use std::alloc::{AllocError, Global};
@@ -31,7 +31,7 @@ impl Matrix {
     /// No pairs, of numbers below `size`. The only error is want of memory.
     pub fn new(alloc: Global, size: u32) -> Result<Self, AllocError>
         ensures len { IfOk result (λ matrix. length matrix ≡ size) }
-        ensures none { IfOk result (λ matrix. (n k : ℕ) → has (row matrix n) k ≡ false) }
+        ensures none { IfOk result (λ matrix. (n k : ℕ) → has (set_in_row matrix n) k ≡ false) }
     {
         let mut rows = Vec::with_capacity(alloc, size as usize)?;
         for _number in 0..size {
@@ -44,7 +44,7 @@ impl Matrix {
     fn put(&mut self, number: u32, other: u32)
         requires number { number < length self.old }
         requires other { other < length self.old }
-        ensures { Puts self.old self.new number other }
+        ensures { PutsPair self.old self.new number other }
     {
         let row = &mut self.rows[number as usize];
         row.insert(other);
@@ -54,7 +54,7 @@ impl Matrix {
     pub fn join(&mut self, number: u32, other: u32)
         requires number { number < length self.old }
         requires other { other < length self.old }
-        ensures { Adds self.old self.new (IsPair number other) }
+        ensures { AddsPairs self.old self.new (IsPair number other) }
     {
         if number != other {
             self.put(number, other);
@@ -65,7 +65,7 @@ impl Matrix {
     /// The registers that this one is joined with.
     pub fn row(&self, number: u32) -> &Bits
         requires { number < length self.now }
-        ensures { result.now ≡ row self.now number }
+        ensures { result.now ≡ set_in_row self.now number }
     {
         &self.rows[number as usize]
     }

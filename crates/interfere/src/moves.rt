@@ -1,7 +1,7 @@
 //! Moves between registers.
 ghost use Rattle.std.specs.Prelude.{◌≡◌};
 ghost use Rattle.interfere.specs.Moves.{is_move_kind, is_move_pure, is_move_op, is_move, move_between, move_of};
-ghost use Rattle.interfere.specs.Moves.{is_from_to};
+ghost use Rattle.interfere.specs.Moves.{is_move_from_to};
 
 use mach_ir::{CopyKind, Instr, MachOp, Op, Pure, Reg};
 
@@ -81,7 +81,7 @@ pub fn move_of(instr: &Instr) -> Option<Move>
 
 /// Whether it is a move from the one register to the other.
 pub fn is_from_to(moved: Option<Move>, from: u32, to: u32) -> bool
-    ensures { result ≡ is_from_to moved from to }
+    ensures { result ≡ is_move_from_to moved from to }
 {
     match moved {
         None => false,

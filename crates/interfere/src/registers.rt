@@ -2,7 +2,7 @@
 ghost use Rattle.std.specs.Prelude.{◌≡◌, ◌<◌, ℕ, Some, None, All, Contains, length, slice_index_or, IfOk};
 ghost use Rattle.mach_ir.specs.Walks.{IsRegister, InCode};
 ghost use Rattle.mach_ir.specs.declared.reg.Reg.{Reg};
-ghost use Rattle.interfere.specs.Registers.{Enters, AreRegisters};
+ghost use Rattle.interfere.specs.Registers.{Enters, AreNumberedRegisters};
 
 use mach_ir::{Instr, Mach, Reg};
 use std::alloc::{AllocError, Global};
@@ -43,7 +43,7 @@ fn enter_code(table: &mut Vec<Option<Reg>>, code: &[Instr])
 /// The only error is want of memory.
 pub fn registers_of(alloc: Global, mach: &Mach, size: u32) -> Result<Vec<Option<Reg>>, AllocError>
     requires { (r : Reg) → IsRegister mach.now r → r.number < size }
-    ensures { IfOk result (λ table. AreRegisters mach.now size table.items) }
+    ensures { IfOk result (λ table. AreNumberedRegisters mach.now size table.items) }
 {
     let mut table = no_registers(alloc, size)?;
     enter(&mut table, mach.params.as_slice());

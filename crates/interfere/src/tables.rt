@@ -1,11 +1,11 @@
 //! What is known of each register of a function, by number.
 ghost use Rattle.std.specs.Prelude.{◌≡◌, ◌+◌, ◌<◌, length, slice_index, IfOk};
-ghost use Rattle.dataflow.specs.Flow.{WellFormed};
+ghost use Rattle.dataflow.specs.Flow.{IsFlowFormed};
 ghost use Rattle.mach_ir.specs.Graph.{IsLiveMap};
 ghost use Rattle.mach_ir.specs.Sizes.{IsCountable};
 ghost use Rattle.mach_laws.specs.Graph.{IsFlowOf};
 ghost use Rattle.interfere.specs.Partners.{partners_in};
-ghost use Rattle.interfere.specs.Tables.{AreTables, IsNode, AreByNumber, AreNodesBelow};
+ghost use Rattle.interfere.specs.Tables.{AreInterferenceTables, IsInterferenceNode, AreByNumber, AreNodesBelow};
 
 use crate::joining::joined_in;
 use crate::matrix::Matrix;
@@ -63,8 +63,8 @@ impl Tables {
         requires countable { IsCountable mach.now }
         requires live { IsLiveMap mach.now live.now }
         requires flow { IsFlowOf mach.now flow.now }
-        requires edges { WellFormed flow.now }
-        ensures { IfOk result (AreTables mach.now) }
+        requires edges { IsFlowFormed flow.now }
+        ensures { IfOk result (AreInterferenceTables mach.now) }
     {
         let size = first_free(mach);
         let code = mach.code.as_slice();
@@ -83,7 +83,7 @@ impl Tables {
     /// The node of a register.
     fn node(&self, alloc: Global, reg: Reg) -> Result<Node, AllocError>
         requires { reg.number < length self.now.joined }
-        ensures { IfOk result (IsNode self.now reg) }
+        ensures { IfOk result (IsInterferenceNode self.now reg) }
     {
         let neighbours = members_of(alloc, self.joined.row(reg.number))?;
         let mut moves = Vec::new(alloc);

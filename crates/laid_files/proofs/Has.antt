@@ -7,8 +7,8 @@ use Rattle.image_form.specs.Tables.{Tables, Func}
 use Rattle.image_rules.proofs.Whole.{total_some}
 use Rattle.layout_rules.specs.declared.form.Form.{Form}
 use Rattle.layout_rules.specs.Conditions.{CanBeLaid, IsFunctionLaid}
-use Rattle.layout_rules.specs.Forms.{total_words, place_of}
-use Rattle.layout_rules.specs.Laid.{entries_from, function_words, code_from, rows_from, AllReach, IsLaid}
+use Rattle.layout_rules.specs.Forms.{total_words, label_word_offset}
+use Rattle.layout_rules.specs.Laid.{function_entries_from, function_words, code_from, rows_from, AllReach, IsLaid}
 use Rattle.layout_rules.proofs.Functions.{forms_length, function_length}
 use Rattle.moving_laws.specs.Values.{HasFunctions, function_at}
 use Rattle.rv_machine.specs.Memory.{code_start}
@@ -26,7 +26,7 @@ begins_inside file entries at (g ∷ fs) (p ∷ ps) (k ∷ forms) zero are laid 
     omega (
       arith,
       some,
-      total_some p.code k (forms_length (place_of p.code k) 0 p.code k are.0),
+      total_some p.code k (forms_length (label_word_offset p.code k) 0 p.code k are.0),
       function_length file entries at p k,
       length-append (function_words file entries at p.code k) (code_from file entries next ps forms),
     )
@@ -42,7 +42,7 @@ has_functions file ps image laid can tables = record { tables = tables; inside =
     forms = laid.forms
 
     entries : List ℕ
-    entries = entries_from stub_words ps laid.forms
+    entries = function_entries_from stub_words ps laid.forms
 
     inside : (f : ℕ) → f < length image.funcs → function_at image.funcs f < code_start + 4 * length image.code
     inside f lt =

@@ -20,25 +20,25 @@ use Rattle.cmm_types.specs.Types.{with_parameters}
 use Rattle.cmm_types.proofs.Containing.{contains_none, contains_cases}
 use Rattle.emit_rules.specs.Emitted.{emitted}
 use Rattle.emit_rules.specs.Named.{IsLabelOf, IsExternalOf}
-use Rattle.emit_rules.specs.Traversal.{Each, each_more}
+use Rattle.emit_rules.specs.Traversal.{EachPiece, each_more}
 use Rattle.emit_rules.proofs.Names.{numbers_fit, labels_are_named, symbols_are_named, externals_are_named, places_are_labels, named_labels_stand}
 use Rattle.image_form.specs.Image.{comp_byte, ret_byte}
-use Rattle.layout_rules.specs.Conditions.{IsNamed, IsFunctionLaid}
-use Rattle.layout_rules.specs.Externals.{calls_in_function, all_calls, same_row, is_among, firsts_behind, externals}
-use Rattle.layout_rules.specs.Forms.{is_label}
+use Rattle.layout_rules.specs.Conditions.{AreNamesPresent, IsFunctionLaid}
+use Rattle.layout_rules.specs.Externals.{calls_in_function, all_calls, same_row, is_among_externals, firsts_behind, externals}
+use Rattle.layout_rules.specs.Forms.{is_label_piece}
 use Rattle.lin_ir.specs.Descriptors.{NamesLives}
-use Rattle.lin_ir.specs.Keeps.{IsNamedIn, Keeps}
+use Rattle.lin_ir.specs.Keeps.{IsNamedIn, LinearKeeps}
 use Rattle.lin_ir.specs.Meaning.{NamedAt}
 use Rattle.lin_ir.specs.Walks.{at_entry, by_walk}
 use Rattle.lin_ir.specs.declared.descr.Descr.{Descr}
 use Rattle.lin_ir.specs.declared.lin.Lin.{Lin}
 use Rattle.made_functions.specs.Chained.{IsChained}
-use Rattle.mach_ir.specs.Acts.{row_of}
+use Rattle.mach_ir.specs.Acts.{external_row}
 use Rattle.mach_ir.specs.Keeps.{NamesSymbol, NamesExternal, calls_out}
 use Rattle.mach_ir.specs.declared.op.Calling.TheVariants as calling
 use Rattle.mach_ir.specs.declared.op.External as declared
 use Rattle.mach_ir.specs.declared.op.Op.TheVariants as op
-use Rattle.rv_pieces.specs.Named.{place_in, places_in}
+use Rattle.rv_pieces.specs.Named.{labels_of_piece, places_in}
 use Rattle.rv_pieces.specs.declared.piece.Piece.{Piece}
 use Rattle.rv_pieces.specs.declared.piece.Piece.TheVariants as piece
 use Rattle.rv_pieces.specs.declared.piece.Pieces.{Pieces}
@@ -55,7 +55,7 @@ occurs : ℕ → List ℕ → ℕ
 occurs l [] = 0
 occurs l (x ∷ xs) = cond (x == l) 1 0 + occurs l xs
 
-one_place : (l : ℕ) (p : Piece) (rest : List ℕ) → cond (is_label l p) 1 0 + occurs l rest ≡ occurs l (place_in p ++ rest)
+one_place : (l : ℕ) (p : Piece) (rest : List ℕ) → cond (is_label_piece l p) 1 0 + occurs l rest ≡ occurs l (labels_of_piece p ++ rest)
 unfolding occurs
 one_place l (piece.Known j) rest = omega arith
 one_place l (piece.Label k) rest = refl
@@ -69,13 +69,13 @@ one_place l (piece.SymbolAddress r name) rest = omega arith
 one_place l (piece.ExternalNumber r row) rest = omega arith
 one_place l (piece.Descriptor d) rest = omega arith
 
-label_count : (l : ℕ) (ps : List Piece) → count_by (is_label l) ps ≡ occurs l (places_in ps)
+label_count : (l : ℕ) (ps : List Piece) → count_by (is_label_piece l) ps ≡ occurs l (places_in ps)
 unfolding occurs
 label_count l [] = refl
 label_count l (p ∷ ps) =
     let later = label_count l ps in
     let own = one_place l p (places_in ps) in
-    omega (arith, later, own, sum_by-cons (λ (q : Piece). cond (is_label l q) 1 0) p ps)
+    omega (arith, later, own, sum_by-cons (λ (q : Piece). cond (is_label_piece l q) 1 0) p ps)
 
 none_occurs : (l x : ℕ) (xs : List ℕ) → x ≡ l → AllByRecursion (λ y. x ≢ y) xs → occurs l xs ≡ 0
 unfolding occurs
@@ -157,17 +157,17 @@ row_is a b e =
     let result : a.result ≡ b.result = ret_same a.result b.result (eqb-true (ret_byte a.result) (ret_byte b.result) parts.2) in
     λ i. record { name = name i; params = params i; result = result i }
 
-among_in : (rows : List External) (e : External) → is_among rows e ≡ true → Contains rows e
+among_in : (rows : List External) (e : External) → is_among_externals rows e ≡ true → Contains rows e
 among_in [] e h = absurd (let z : false ≡ true = h in cc)
 among_in (x ∷ rows) e h = by (same_row x e) refl h (λ h. among_in rows e h)
   where
-    by : (b : Bool) → same_row x e ≡ b → (b || is_among rows e) ≡ true → (is_among rows e ≡ true → Contains rows e) → Contains (x ∷ rows) e
+    by : (b : Bool) → same_row x e ≡ b → (b || is_among_externals rows e) ≡ true → (is_among_externals rows e ≡ true → Contains rows e) → Contains (x ∷ rows) e
     by true is h later = (0, omega arith, row_is x e is)
     by false is h later = Contains-append_right (x ∷ []) rows e (later h)
 
 kept_in : (before es : List External) (x : External) → Contains before x → Contains (firsts_behind before es) x
 kept_in before [] x c = c
-kept_in before (e ∷ es) x c = kept_in (cond (is_among before e) before (before ++ e ∷ [])) es x (by (is_among before e))
+kept_in before (e ∷ es) x c = kept_in (cond (is_among_externals before e) before (before ++ e ∷ [])) es x (by (is_among_externals before e))
   where
     by : (b : Bool) → Contains (cond b before (before ++ e ∷ [])) x
     by true = c
@@ -176,10 +176,10 @@ kept_in before (e ∷ es) x c = kept_in (cond (is_among before e) before (before
 first_in : (before es : List External) (x : External) → Contains es x → Contains (firsts_behind before es) x
 first_in before [] x c = absurd (contains_none x c)
 first_in before (e ∷ es) x c =
-    ⊎_elim (λ same. kept_in (cond (is_among before e) before (before ++ e ∷ [])) es x (subst (λ y. Contains (cond (is_among before e) before (before ++ e ∷ [])) y) same (by (is_among before e) refl)))
-    (λ c. first_in (cond (is_among before e) before (before ++ e ∷ [])) es x c) (contains_cases e es x c)
+    ⊎_elim (λ same. kept_in (cond (is_among_externals before e) before (before ++ e ∷ [])) es x (subst (λ y. Contains (cond (is_among_externals before e) before (before ++ e ∷ [])) y) same (by (is_among_externals before e) refl)))
+    (λ c. first_in (cond (is_among_externals before e) before (before ++ e ∷ [])) es x c) (contains_cases e es x c)
   where
-    by : (b : Bool) → is_among before e ≡ b → Contains (cond b before (before ++ e ∷ [])) e
+    by : (b : Bool) → is_among_externals before e ≡ b → Contains (cond b before (before ++ e ∷ [])) e
     by true is = among_in before e is
     by false is = Contains-append_right before (e ∷ []) e (0, omega arith, refl)
 
@@ -191,18 +191,18 @@ called_in (g ∷ fs) f x c h =
 
 -- ---- the whole
 
-each_is : {P : Piece → Type 0} (ps : List Piece) → Each P ps → AllByRecursion P ps
+each_is : {P : Piece → Type 0} (ps : List Piece) → EachPiece P ps → AllByRecursion P ps
 each_is [] all = tt
 each_is (p ∷ ps) (each_more h hs) = (h, each_is ps hs)
 
-all_named : (file : FileTree) (whole : List Piece) {A B C : Piece → Type 0} (ps : List Piece) → ((p : Piece) → A p → B p → C p → IsNamed file whole p) → Each A ps → Each B ps → Each C ps →
-    AllByRecursion (IsNamed file whole) ps
+all_named : (file : FileTree) (whole : List Piece) {A B C : Piece → Type 0} (ps : List Piece) → ((p : Piece) → A p → B p → C p → AreNamesPresent file whole p) → EachPiece A ps → EachPiece B ps → EachPiece C ps →
+    AllByRecursion (AreNamesPresent file whole) ps
 all_named file whole [] make a b c = tt
 all_named file whole (p ∷ ps) make (each_more a as') (each_more b bs) (each_more c cs) = (make p a b c, all_named file whole ps make as' bs cs)
 
 module _ (text : List ℕ) (file : FileTree) (is : IsFileOf text file) (tree : FunctionTree) (among : Contains (functions file) tree) (m : Lin) (ds : List Descr) (pieces : Pieces)
     (chained : IsChained tree m ds pieces) (named : NamedAt) (lives : NamesLives m named) where
-  kept : Keeps (selected tree) m named
+  kept : LinearKeeps (selected tree) m named
   kept = chained.lines.keeps named lives
 
   symbol_known : (name : List ℕ) → IsNamedIn (NamesSymbol name) m → IsSome (value_of_symbol file name)
@@ -211,15 +211,15 @@ module _ (text : List ℕ) (file : FileTree) (is : IsFileOf text file) (tree : F
       (named_defined (definitions file) (with_parameters tree.params []) [] tree.body name (left (right (front_accepts text file is tree among).typed))
       ((front_selects text file is tree among).symbols name (kept.symbols name n)))
 
-  external_known : (row : declared.External) → IsExternalOf m row → Contains (externals file) (row_of row)
+  external_known : (row : declared.External) → IsExternalOf m row → Contains (externals file) (external_row row)
   external_known row n =
-      let calls : IsNamedIn (NamesExternal (row_of row)) m =
+      let calls : IsNamedIn (NamesExternal (external_row row)) m =
       record { line = n.line; among = n.among; op = op.Calling (calling.External row n.frame); is = n.is; named = calls_out refl } in
-      first_in [] (all_calls file) (row_of row)
-      (called_in (functions file) tree (row_of row) among
-      (named_called (with_parameters tree.params []) tree.body (row_of row) ((front_selects text file is tree among).externals (row_of row) (kept.externals (row_of row) calls))))
+      first_in [] (all_calls file) (external_row row)
+      (called_in (functions file) tree (external_row row) among
+      (named_called (with_parameters tree.params []) tree.body (external_row row) ((front_selects text file is tree among).externals (external_row row) (kept.externals (external_row row) calls))))
 
-  label_once : (traps : ℕ → ℕ) (l : ℕ) → IsLabelOf m l → count_by (is_label l) (emitted m traps ds).code ≡ 1
+  label_once : (traps : ℕ → ℕ) (l : ℕ) → IsLabelOf m l → count_by (is_label_piece l) (emitted m traps ds).code ≡ 1
   label_once traps l n =
       label_count l (emitted m traps ds).code
       ∙ once l (places_in (emitted m traps ds).code) (subst (AllPairs (λ j k. j ≢ k)) (sym (places_are_labels m traps ds)) chained.lines.regular.well.labels)

@@ -2,7 +2,7 @@
 use Rattle.std.proofs.Common.{◌≡◌, ℕ, ◌+◌, ◌%◌, ◌^◌, ◌<◌, Bool, true, false, not, ◌||◌, ◌&&◌, List, [], ◌∷◌, map, Option, Some, refl, ◌∙◌, ap}
 use Rattle.std.specs.List.{AllByRecursion}
 use Rattle.std.proofs.Math.Bool.{and-false, or-false}
-use Rattle.layout_rules.specs.Conditions.{LeadsTo}
+use Rattle.layout_rules.specs.Conditions.{HasAlignedTarget}
 use Rattle.layout_rules.specs.Words.{code_to}
 use Rattle.layout_rules.specs.declared.form.Form.{Form}
 use Rattle.layout_rules.specs.declared.form.Form.TheVariants.{Near, Middle, Far}
@@ -17,10 +17,10 @@ use Rattle.rv_isa.proofs.RoundTrip.{decoded-encoded}
 use Rattle.rv_pieces.specs.Named.{PieceFits}
 use Rattle.rv_pieces.specs.declared.piece.Piece.{Piece}
 use Rattle.rv_pieces.specs.declared.piece.Piece.TheVariants as piece
-use Rattle.linear_rules.specs.Lowered.{is_among}
+use Rattle.linear_rules.specs.Lowered.{is_among_numbers}
 use Rattle.laid_parts.specs.Decoded.{NamesAs, Decodes}
 use Rattle.laid_parts.specs.Laid.{is_reserved}
-use Rattle.laid_parts.specs.Named.{sources, targets, piece_sources}
+use Rattle.laid_parts.specs.Named.{sources, destination_registers, piece_sources}
 use Rattle.laid_parts.proofs.Registers.{is-apart, hits}
 
 -- ---- truth values: whether a register that is written or read is the one that is asked for
@@ -102,19 +102,19 @@ jump_names at to l Far = record { reads = λ n e. by_t1_reads n e; writes = λ n
 branch_names : (at to : ℕ) (c : Condition) (a b : Register) (l : ℕ) (f : Form) →
     NamesAs (piece.Branch c a b l) (code_to at to (piece.Branch c a b l) f)
 branch_names at to c a b l Near = record {
-  reads = λ n e. or-false (is_among n (piece_sources (piece.Branch c a b l)));
+  reads = λ n e. or-false (is_among_numbers n (piece_sources (piece.Branch c a b l)));
   writes = λ n e. refl;
   known = λ j h. absurd (cc);
   memory = λ e. refl;
 }
 branch_names at to c a b l Middle = record {
-  reads = λ n e. then_nothing (is_among n (piece_sources (piece.Branch c a b l))) _ (near_reads (hits n Zero));
+  reads = λ n e. then_nothing (is_among_numbers n (piece_sources (piece.Branch c a b l))) _ (near_reads (hits n Zero));
   writes = λ n e. near_writes (hits n Zero) (is-apart n e).zero;
   known = λ j h. absurd (cc);
   memory = λ e. refl;
 }
 branch_names at to c a b l Far = record {
-  reads = λ n e. then_nothing (is_among n (piece_sources (piece.Branch c a b l))) _ (by_t1_reads n e);
+  reads = λ n e. then_nothing (is_among_numbers n (piece_sources (piece.Branch c a b l))) _ (by_t1_reads n e);
   writes = λ n e. no_t1 n e;
   known = λ j h. absurd (cc);
   memory = λ e. refl;
@@ -162,8 +162,8 @@ tail_call_names at to name Far = record {
 
 pub names_as : (at to : ℕ) (p : Piece) (f : Form) → NamesAs p (code_to at to p f)
 names_as at to (piece.Known j) f = record {
-  reads = λ n e. then_nothing (is_among n (sources j)) _ (and-false (not (is_among n (targets j))));
-  writes = λ n e. or-false (is_among n (targets j));
+  reads = λ n e. then_nothing (is_among_numbers n (sources j)) _ (and-false (not (is_among_numbers n (destination_registers j))));
+  writes = λ n e. or-false (is_among_numbers n (destination_registers j));
   known = λ i h. cc;
   memory = λ e. absurd (cc);
 }
@@ -201,6 +201,6 @@ each_decodes (j ∷ js) fits =
     ap (λ (o : Option Instr). o ∷ map decoded (map encoded js)) (decoded-encoded j fits.0)
     ∙ ap (λ (os : List (Option Instr)). Some j ∷ os) (each_decodes js fits.1)
 
-pub words_decode : (at to : ℕ) (p : Piece) (f : Form) → PieceFits p → at % 4 ≡ 0 → at + 4 < 2 ^ 32 → LeadsTo to p →
+pub words_decode : (at to : ℕ) (p : Piece) (f : Form) → PieceFits p → at % 4 ≡ 0 → at + 4 < 2 ^ 32 → HasAlignedTarget to p →
     Decodes (map encoded (code_to at to p f)) (code_to at to p f)
 words_decode at to p f fits aligned below leads = each_decodes (code_to at to p f) (code_fits at to p f fits aligned below leads)

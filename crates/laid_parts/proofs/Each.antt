@@ -12,8 +12,8 @@ use Rattle.bs_words.specs.declared.types.Loc.{Loc}
 use Rattle.bs_words.specs.declared.types.Loc.TheVariants as loc
 use Rattle.mach_ir.specs.Forms.{HasForm, constant, operates, allocates, calls, tail_calls, checks, raises, IsRight, a_register, a_constant, IsCallee, by_register, IsTested, holds, fails, signed, unsigned}
 use Rattle.mach_ir.specs.Meaning.{is_temporary}
-use Rattle.mach_ir.specs.Placed.{colours}
-use Rattle.mach_ir.specs.Seats.{AreSeated, InOrder, AfterFirst, in_order, after_first, argument_places, result_places}
+use Rattle.mach_ir.specs.Placed.{colour_numbers}
+use Rattle.mach_ir.specs.Seats.{AreSeated, InOrder, AfterFirst, in_order, after_first, argument_locations, result_locations}
 use Rattle.mach_ir.specs.declared.mach.Test.{Test}
 use Rattle.mach_ir.specs.declared.mach.Test.TheVariants as test
 use Rattle.mach_ir.specs.declared.op.Access.TheVariants as access
@@ -24,8 +24,8 @@ use Rattle.mach_ir.specs.declared.op.Op.TheVariants as op
 use Rattle.mach_ir.specs.declared.op.Pure.TheVariants as pure
 use Rattle.mach_ir.specs.declared.op.Right.{Right}
 use Rattle.mach_ir.specs.declared.op.Right.TheVariants as right
-use Rattle.lin_ir.specs.Formed.{FlowHasForm, IsFormed, formed_op, formed_flow, is_colour, is_slot, IsLocation, is_home, is_spare, IsSelfMove, is_self_move, Locates, comps, places_of, lin_operand_seats, lin_result_seats, WellFormed, Seated}
-use Rattle.lin_ir.specs.Meaning.{same_loc, is_named}
+use Rattle.lin_ir.specs.Formed.{FlowHasForm, IsFormedLine, formed_op, formed_flow, is_colour, is_slot, IsLocation, is_home, is_spare, IsSelfMove, is_self_move, Locates, comps, places_of, lin_operand_seats, lin_result_seats, WellFormed, Seated}
+use Rattle.lin_ir.specs.Meaning.{same_loc, is_named_location}
 use Rattle.lin_ir.specs.declared.descr.Descr.{Descr}
 use Rattle.lin_ir.specs.declared.lin.Flow.{Flow}
 use Rattle.lin_ir.specs.declared.lin.Flow.TheVariants as flow
@@ -34,20 +34,20 @@ use Rattle.lin_ir.specs.declared.lin.LinOp.{LinOp}
 use Rattle.lin_ir.specs.declared.lin.LinOp.TheVariants as lin
 use Rattle.lin_ir.specs.declared.lin.Lin.{Lin}
 use Rattle.lin_ir.specs.declared.lin.Spot.{Spot}
-use Rattle.rv_isa.specs.Registers.{number, register_at}
+use Rattle.rv_isa.specs.Registers.{register_number, register_at}
 use Rattle.rv_pieces.specs.declared.piece.Piece.{Piece}
 use Rattle.rv_pieces.specs.declared.piece.Piece.TheVariants as piece
-use Rattle.emit_rules.specs.Emitted.{part_of}
-use Rattle.emit_rules.specs.Entry.{Frame}
-use Rattle.emit_rules.specs.Slots.{first, second, fetched, copied}
+use Rattle.emit_rules.specs.Emitted.{part_of_line}
+use Rattle.emit_rules.specs.Entry.{FrameLayout}
+use Rattle.emit_rules.specs.Slots.{first_location, second, fetch_pieces, copy_pieces}
 use Rattle.emit_rules.specs.Tests.{right_words}
 use Rattle.emit_rules.specs.Traps.{raise_bound_error, check_part}
 use Rattle.rv_isa.specs.declared.register.Register.TheVariants.{T1}
 use Rattle.lin_laws.proofs.Forms.{length_comps, label_inv, jump_inv, exit_inv, branch_inv, switch_inv, push_inv, pop_inv, enter_inv, same_loc_is}
 use Rattle.mach_ir.proofs.Forms.{symbol_inv, copy_inv, load_inv, store_inv, register_inv}
-use Rattle.linear_rules.specs.Lowered.{is_among}
+use Rattle.linear_rules.specs.Lowered.{is_among_numbers}
 use Rattle.mach_laws.proofs.Instructions.{returns_none}
-use Rattle.laid_parts.specs.Laid.{is_reserved, raises_behind, branches, up_to_branch, NamesRegisters, MovesNothing, CarriesRegisters, moves_nothing, names}
+use Rattle.laid_parts.specs.Laid.{is_reserved, raises_behind, is_branch_piece, up_to_branch, NamesRegisters, MovesNothing, CarriesRegisters, moves_nothing, names}
 use Rattle.laid_parts.specs.Named.{is_source, is_target, piece_targets}
 use Rattle.laid_parts.proofs.Registers.{Names, same, alone, is-apart, IsApart}
 use Rattle.laid_parts.proofs.Operators.{IsNumbered, numbered, in_slot, copied-names}
@@ -57,29 +57,29 @@ use Rattle.laid_parts.proofs.Lines as lines
 
 numbers_agree : List ℕ → Bool
 numbers_agree [] = true
-numbers_agree (r ∷ rs) = cond (nat_eq (number (register_at r)) r) (numbers_agree rs) false
+numbers_agree (r ∷ rs) = cond (nat_eq (register_number (register_at r)) r) (numbers_agree rs) false
 
-agree : (rs : List ℕ) → numbers_agree rs ≡ true → All (λ r. number (register_at r) ≡ r) rs
+agree : (rs : List ℕ) → numbers_agree rs ≡ true → All (λ r. register_number (register_at r) ≡ r) rs
 unfolding numbers_agree
-agree [] e = All-nil (λ r. number (register_at r) ≡ r)
-agree (r ∷ rs) e = by (nat_eq (number (register_at r)) r) refl e (λ h. agree rs h)
+agree [] e = All-nil (λ r. register_number (register_at r) ≡ r)
+agree (r ∷ rs) e = by (nat_eq (register_number (register_at r)) r) refl e (λ h. agree rs h)
   where
-    by : (b : Bool) → nat_eq (number (register_at r)) r ≡ b → cond b (numbers_agree rs) false ≡ true →
-        (numbers_agree rs ≡ true → All (λ r. number (register_at r) ≡ r) rs) → All (λ r. number (register_at r) ≡ r) (r ∷ rs)
-    by true h e rest = All-cons (λ r. number (register_at r) ≡ r) r rs (eqb-true (number (register_at r)) r h) (rest e)
+    by : (b : Bool) → nat_eq (register_number (register_at r)) r ≡ b → cond b (numbers_agree rs) false ≡ true →
+        (numbers_agree rs ≡ true → All (λ r. register_number (register_at r) ≡ r) rs) → All (λ r. register_number (register_at r) ≡ r) (r ∷ rs)
+    by true h e rest = All-cons (λ r. register_number (register_at r) ≡ r) r rs (eqb-true (register_number (register_at r)) r h) (rest e)
     by false h e rest = absurd (cc)
 
-colours_agree : numbers_agree colours ≡ true
+colours_agree : numbers_agree colour_numbers ≡ true
 unfolding numbers_agree
 colours_agree = refl
 
 pub is_numbered : {m : Lin} {l : Loc} → IsLocation m l → IsNumbered l
-is_numbered (is_home (is_colour {n} c)) = numbered (All-contains (λ r. number (register_at r) ≡ r) colours n (agree colours colours_agree) c)
+is_numbered (is_home (is_colour {n} c)) = numbered (All-contains (λ r. register_number (register_at r) ≡ r) colour_numbers n (agree colour_numbers colours_agree) c)
 is_numbered (is_home (is_slot k)) = in_slot
 is_numbered (is_spare e) = subst IsNumbered (sym e) (numbered {r = 5} refl)
 
 module _ (m : Lin) where
-  pub first_numbered : (ss : List Spot) (t : Comp) (ts : List Comp) → comps ss ≡ t ∷ ts → Locates m ss → IsNumbered (first ss)
+  pub first_numbered : (ss : List Spot) (t : Comp) (ts : List Comp) → comps ss ≡ t ∷ ts → Locates m ss → IsNumbered (first_location ss)
   first_numbered [] t ts e h = absurd (cc)
   first_numbered (s ∷ ss) t ts e h = is_numbered (All-head (λ (s : Spot). IsLocation m s.loc) s ss h)
 
@@ -104,7 +104,7 @@ copies_op _ = false
 move_copies : {i : Line} {from to : Spot} → IsSelfMove i from to → copies_op i.op ≡ true
 move_copies (is_self_move e) = refl
 
-move_stays : {i : Line} {from to : Spot} → IsSelfMove i from to → first i.args ≡ first i.results
+move_stays : {i : Line} {from to : Spot} → IsSelfMove i from to → first_location i.args ≡ first_location i.results
 move_stays (is_self_move e) = e
 
 pub no_move : {o : LinOp} {args results : List Spot} → copies_op o ≡ false → MovesNothing (record { op = o; args = args; results = results }) → ⊥
@@ -124,17 +124,17 @@ no_self_copy x y n w h =
 
 -- ---- what a line names, by how many operands it has
 
-pub named_none : (l : Loc) (ss : List Spot) → comps ss ≡ [] → is_named l (places_of ss) ≡ false
+pub named_none : (l : Loc) (ss : List Spot) → comps ss ≡ [] → is_named_location l (places_of ss) ≡ false
 named_none l [] e = refl
 named_none l (s ∷ ss) e = absurd (cc)
 
-pub named_one : (l : Loc) (ss : List Spot) (t : Comp) → comps ss ≡ t ∷ [] → is_named l (places_of ss) ≡ same_loc (first ss) l
+pub named_one : (l : Loc) (ss : List Spot) (t : Comp) → comps ss ≡ t ∷ [] → is_named_location l (places_of ss) ≡ same_loc (first_location ss) l
 named_one l [] t e = absurd (cc)
 named_one l (s ∷ []) t e = or-false (same_loc s.loc l)
 named_one l (s ∷ r ∷ ss) t e = absurd (cc)
 
 pub named_two : (l : Loc) (ss : List Spot) (t u : Comp) → comps ss ≡ t ∷ u ∷ [] →
-    is_named l (places_of ss) ≡ (same_loc (first ss) l || same_loc (second ss) l)
+    is_named_location l (places_of ss) ≡ (same_loc (first_location ss) l || same_loc (second ss) l)
 named_two l [] t u e = absurd (cc)
 named_two l (s ∷ []) t u e = absurd (cc)
 named_two l (s ∷ r ∷ []) t u e = ap (λ (z : Bool). same_loc s.loc l || z) (or-false (same_loc r.loc l))
@@ -145,7 +145,7 @@ named_two l (s ∷ r ∷ q ∷ ss) t u e = absurd (cc)
 -- the part names what these read and write, but for reserved registers
 Plain : List Spot → List Spot → List Piece → Type 0
 Plain args results part =
-    (n : ℕ) → IsApart n → Names n part (is_named (loc.Machine n) (places_of args)) (is_named (loc.Machine n) (places_of results))
+    (n : ℕ) → IsApart n → Names n part (is_named_location (loc.Machine n) (places_of args)) (is_named_location (loc.Machine n) (places_of results))
 
 registers_of : {o : LinOp} {args results : List Spot} {part : List Piece} → ((n : ℕ) → raises_behind o n ≡ false) → Plain args results part →
     NamesRegisters (record { op = o; args = args; results = results }) part
@@ -177,19 +177,19 @@ right_inv g (right.Constant w) xs (a_constant e) = no_right
 module _ (m : Lin) (args : List Spot) (a : Locates m args) (n : ℕ) (apart : IsApart n) (t : ℕ) where
   pub rights : (o : Right) (u : Comp) (xs : List Comp) → comps args ≡ u ∷ xs → RightIs o xs →
       lines.RightNumbered n apart t o args
-      × ((lines.is_at n apart t (first args) || lines.right_at n apart t o args) ≡ is_named (loc.Machine n) (places_of args))
+      × ((lines.is_at n apart t (first_location args) || lines.right_at n apart t o args) ≡ is_named_location (loc.Machine n) (places_of args))
   rights right.Register u xs e (one_right v) =
       (lines.by_register (second_numbered m args u v [] e a), sym (named_two (loc.Machine n) args u v e))
   rights (right.Constant w) u xs e no_right =
-      (lines.by_constant, or-false (same_loc (first args) (loc.Machine n)) ∙ sym (named_one (loc.Machine n) args u e))
+      (lines.by_constant, or-false (same_loc (first_location args) (loc.Machine n)) ∙ sym (named_one (loc.Machine n) args u e))
 
   with_tested : (g : Test) (xs : List Comp) → comps args ≡ xs → IsTested g xs →
-      IsNumbered (first args) × lines.TestNumbered n apart t g args
-      × ((lines.is_at n apart t (first args) || lines.test_at n apart t g args) ≡ is_named (loc.Machine n) (places_of args))
+      IsNumbered (first_location args) × lines.TestNumbered n apart t g args
+      × ((lines.is_at n apart t (first_location args) || lines.test_at n apart t g args) ≡ is_named_location (loc.Machine n) (places_of args))
   with_tested test.Holds xs e (holds {t = u}) =
-      (first_numbered m args u [] e a, lines.alone_holds, or-false (same_loc (first args) (loc.Machine n)) ∙ sym (named_one (loc.Machine n) args u e))
+      (first_numbered m args u [] e a, lines.alone_holds, or-false (same_loc (first_location args) (loc.Machine n)) ∙ sym (named_one (loc.Machine n) args u e))
   with_tested test.Fails xs e (fails {t = u}) =
-      (first_numbered m args u [] e a, lines.alone_fails, or-false (same_loc (first args) (loc.Machine n)) ∙ sym (named_one (loc.Machine n) args u e))
+      (first_numbered m args u [] e a, lines.alone_fails, or-false (same_loc (first_location args) (loc.Machine n)) ∙ sym (named_one (loc.Machine n) args u e))
   with_tested (test.Signed c o) xs e (signed {rest} {left = u} h) =
       let x = rights o u rest e (right_inv _ o rest h) in
       (first_numbered m args u rest e a, lines.with_signed x.0, x.1)
@@ -197,9 +197,9 @@ module _ (m : Lin) (args : List Spot) (a : Locates m args) (n : ℕ) (apart : Is
       let x = rights o u rest e (right_inv _ o rest h) in
       (first_numbered m args u rest e a, lines.with_unsigned x.0, x.1)
 
-module _ (m : Lin) (t : ℕ) (f : Frame) (d : Option Descr) (args results : List Spot) (a : Locates m args) (r : Locates m results) where
+module _ (m : Lin) (t : ℕ) (f : FrameLayout) (d : Option Descr) (args results : List Spot) (a : Locates m args) (r : Locates m results) where
   abbrev Part : LinOp → List Piece
-  Part o = part_of t f d (record { op = o; args = args; results = results })
+  Part o = part_of_line t f d (record { op = o; args = args; results = results })
 
   abbrev PlainPart : LinOp → Type 0
   PlainPart o = Plain args results (Part o)
@@ -278,35 +278,35 @@ module _ (m : Lin) (t : ℕ) (f : Frame) (d : Option Descr) (args results : List
 
 -- ---- registers that conventions hand over
 
-prefix_none : (l : Loc) (ls more : List Loc) → is_named l (ls ++ more) ≡ false → is_named l ls ≡ false
+prefix_none : (l : Loc) (ls more : List Loc) → is_named_location l (ls ++ more) ≡ false → is_named_location l ls ≡ false
 prefix_none l [] more e = refl
 prefix_none l (k ∷ ks) more e =
-    let p = or_parts (same_loc k l) (is_named l (ks ++ more)) e in
-    ap (λ (z : Bool). z || is_named l ks) p.0 ∙ prefix_none l ks more p.1
+    let p = or_parts (same_loc k l) (is_named_location l (ks ++ more)) e in
+    ap (λ (z : Bool). z || is_named_location l ks) p.0 ∙ prefix_none l ks more p.1
 
-pub seated_none : (l : Loc) (places ls : List Loc) → AreSeated (InOrder places) ls → is_named l places ≡ false → is_named l ls ≡ false
-seated_none l places ls (in_order more e) h = prefix_none l ls more (ap (λ (z : List Loc). is_named l z) e ∙ h)
+pub seated_none : (l : Loc) (places ls : List Loc) → AreSeated (InOrder places) ls → is_named_location l places ≡ false → is_named_location l ls ≡ false
+seated_none l places ls (in_order more e) h = prefix_none l ls more (ap (λ (z : List Loc). is_named_location l z) e ∙ h)
 
-pub seated_after : (l : Loc) (places : List Loc) (ss : List Spot) → AreSeated (AfterFirst places) (places_of ss) → is_named l places ≡ false →
-    same_loc (first ss) l ≡ is_named l (places_of ss)
+pub seated_after : (l : Loc) (places : List Loc) (ss : List Spot) → AreSeated (AfterFirst places) (places_of ss) → is_named_location l places ≡ false →
+    same_loc (first_location ss) l ≡ is_named_location l (places_of ss)
 seated_after l places [] s h = elim s [ ]
 seated_after l places (x ∷ ss) (after_first more e) h =
-    let k : is_named l (places_of ss) ≡ false = prefix_none l (places_of ss) more (ap (λ (z : List Loc). is_named l z) e ∙ h) in
+    let k : is_named_location l (places_of ss) ≡ false = prefix_none l (places_of ss) more (ap (λ (z : List Loc). is_named_location l z) e ∙ h) in
     sym (ap (λ (z : Bool). same_loc x.loc l || z) k ∙ or-false (same_loc x.loc l))
 
-no_temporary : (n : ℕ) → is_temporary n ≡ false → is_named (loc.Machine n) result_places ≡ false
+no_temporary : (n : ℕ) → is_temporary n ≡ false → is_named_location (loc.Machine n) result_locations ≡ false
 no_temporary n e = by (nat_eq 10 n) refl
   where
     by : (b : Bool) → nat_eq 10 n ≡ b → (nat_eq 10 n || false) ≡ false
     by true h = let k : 10 ≡ n = eqb-true 10 n h in absurd (let g : is_temporary 10 ≡ false = ap (λ (z : ℕ). is_temporary z) k ∙ e in cc)
     by false h = ap (λ (z : Bool). z || false) h
 
-callee_more : (first more : List Comp) → IsCallee callee.Register first → (t : Comp) × (ts : List Comp) × (first ++ more ≡ t ∷ ts)
-callee_more first more (by_register {t}) = (t, more, refl)
+callee_more : (first_location more : List Comp) → IsCallee callee.Register first_location → (t : Comp) × (ts : List Comp) × (first_location ++ more ≡ t ∷ ts)
+callee_more first_location more (by_register {t}) = (t, more, refl)
 
 pub tail_more : (result : _) (xs ys : List Comp) → HasForm (op.Calling (calling.TailCall callee.Register result)) xs ys →
     (t : Comp) × (ts : List Comp) × (xs ≡ t ∷ ts)
-tail_more result xs ys (tail_calls {first} more is) = callee_more first more is
+tail_more result xs ys (tail_calls {first_location} more is) = callee_more first_location more is
 
 pub check_inv : (o : Right) (xs ys : List Comp) → HasForm (op.Leaving (leaving.Checkbound o)) xs ys →
     (t : Comp) × (ts : List Comp) × (xs ≡ t ∷ ts) × IsRight (operator.CmpU compare.Lt) o ts × (ys ≡ [])
@@ -317,53 +317,53 @@ raise_inv xs ys raises = refl
 
 pub call_more : (result : _) (xs ys : List Comp) → HasForm (op.Calling (calling.Call callee.Register result)) xs ys →
     (t : Comp) × (ts : List Comp) × (xs ≡ t ∷ ts)
-call_more result xs ys (calls {first} more is) = callee_more first more is
+call_more result xs ys (calls {first_location} more is) = callee_more first_location more is
 
 -- what is after a branch is no matter
-targets_up_to : (n : ℕ) (xs : List Piece) (p : Piece) (ys : List Piece) → is_target n xs ≡ false → is_among n (piece_targets p) ≡ false →
-    branches p ≡ true → is_target n (up_to_branch (xs ++ p ∷ ys)) ≡ false
+targets_up_to : (n : ℕ) (xs : List Piece) (p : Piece) (ys : List Piece) → is_target n xs ≡ false → is_among_numbers n (piece_targets p) ≡ false →
+    is_branch_piece p ≡ true → is_target n (up_to_branch (xs ++ p ∷ ys)) ≡ false
 targets_up_to n [] p ys e g k =
-    ap (λ (z : Bool). z || is_target n (cond (branches p) [] (up_to_branch ys))) g
+    ap (λ (z : Bool). z || is_target n (cond (is_branch_piece p) [] (up_to_branch ys))) g
     ∙ ap (λ (z : Bool). is_target n (cond z [] (up_to_branch ys))) k
 targets_up_to n (x ∷ xs) p ys e g k =
     let h = or_parts _ _ e in
-    ap (λ (z : Bool). z || is_target n (cond (branches x) [] (up_to_branch (xs ++ p ∷ ys)))) h.0
-    ∙ by (branches x) (targets_up_to n xs p ys h.1 g k)
+    ap (λ (z : Bool). z || is_target n (cond (is_branch_piece x) [] (up_to_branch (xs ++ p ∷ ys)))) h.0
+    ∙ by (is_branch_piece x) (targets_up_to n xs p ys h.1 g k)
   where
     by : (b : Bool) → is_target n (up_to_branch (xs ++ p ∷ ys)) ≡ false → is_target n (cond b [] (up_to_branch (xs ++ p ∷ ys))) ≡ false
     by true h = refl
     by false h = h
 
-module _ (m : Lin) (t : ℕ) (f : Frame) (d : Option Descr) (args results : List Spot) (a : Locates m args) (r : Locates m results) where
+module _ (m : Lin) (t : ℕ) (f : FrameLayout) (d : Option Descr) (args results : List Spot) (a : Locates m args) (r : Locates m results) where
   abbrev NamesIn : LinOp → Type 0
-  NamesIn o = NamesRegisters (record { op = o; args = args; results = results }) (part_of t f d (record { op = o; args = args; results = results }))
+  NamesIn o = NamesRegisters (record { op = o; args = args; results = results }) (part_of_line t f d (record { op = o; args = args; results = results }))
 
   calling-names : (g : _) → HasForm (op.Calling g) (comps args) (comps results) → AreSeated (lin_operand_seats (lin.Op (op.Calling g))) (places_of args) →
-      AreSeated (InOrder result_places) (places_of results) → NamesIn (lin.Op (op.Calling g))
+      AreSeated (InOrder result_locations) (places_of results) → NamesIn (lin.Op (op.Calling g))
   calling-names (calling.Call (callee.Symbol name) result) h s u = record {
-    reads = λ n e g. (lines.call_line-names n (is-apart n e) t name d args).reads ∙ sym (seated_none (loc.Machine n) argument_places (places_of args) s g);
+    reads = λ n e g. (lines.call_line-names n (is-apart n e) t name d args).reads ∙ sym (seated_none (loc.Machine n) argument_locations (places_of args) s g);
     writes = λ n e g. absurd (cc);
   }
   calling-names (calling.Call callee.Register result) h s u = record {
     reads = λ n e g. let i = call_more result (comps args) (comps results) h in
         (lines.call_register-names n (is-apart n e) t d args (first_numbered m args i.0 i.1 i.2 a)).reads ∙ seated_after
-        (loc.Machine n) argument_places args s g;
+        (loc.Machine n) argument_locations args s g;
     writes = λ n e g. absurd (cc);
   }
   calling-names (calling.TailCall (callee.Symbol name) result) h s u = record {
-    reads = λ n e g. (lines.tail_call-names n (is-apart n e) t f name args).reads ∙ sym (seated_none (loc.Machine n) argument_places (places_of args) s g);
+    reads = λ n e g. (lines.tail_call-names n (is-apart n e) t f name args).reads ∙ sym (seated_none (loc.Machine n) argument_locations (places_of args) s g);
     writes = λ n e g. absurd (cc);
   }
   calling-names (calling.TailCall callee.Register result) h s u = record {
     reads = λ n e g. let i = tail_more result (comps args) (comps results) h in
         (lines.tail_register-names n (is-apart n e) t f args (first_numbered m args i.0 i.1 i.2 a)).reads ∙ seated_after
-        (loc.Machine n) argument_places args s g;
+        (loc.Machine n) argument_locations args s g;
     writes = λ n e g. absurd (cc);
   }
   calling-names (calling.External row frame) h s u = record {
-    reads = λ n e g. (lines.external-names n (is-apart n e) t row frame d).reads ∙ sym (seated_none (loc.Machine n) argument_places (places_of args) s g);
+    reads = λ n e g. (lines.external-names n (is-apart n e) t row frame d).reads ∙ sym (seated_none (loc.Machine n) argument_locations (places_of args) s g);
     writes = λ n e g. (lines.external-names n (is-apart n e) t row frame d).sets
-        ∙ sym (seated_none (loc.Machine n) result_places (places_of results) u (no_temporary n g));
+        ∙ sym (seated_none (loc.Machine n) result_locations (places_of results) u (no_temporary n g));
   }
 
   leaving-names : (g : _) → HasForm (op.Leaving g) (comps args) (comps results) → AreSeated (lin_operand_seats (lin.Op (op.Leaving g))) (places_of args) →
@@ -382,39 +382,39 @@ module _ (m : Lin) (t : ℕ) (f : Frame) (d : Option Descr) (args results : List
   }
     where
       check_writes : (n : ℕ) (z : Bool) → (nat_eq 10 n || false) ≡ z →
-          is_target n (fetched t T1 (first args) ++ right_words t o args) ≡ false →
+          is_target n (fetch_pieces t T1 (first_location args) ++ right_words t o args) ≡ false →
           is_target n (check_part t o args) ≡ (nat_eq 10 n || false) → is_target n (cond z (up_to_branch (check_part t o args)) (check_part t o args)) ≡ false
-      check_writes n true k w v = targets_up_to n (fetched t T1 (first args) ++ right_words t o args) _ raise_bound_error w refl refl
+      check_writes n true k w v = targets_up_to n (fetch_pieces t T1 (first_location args) ++ right_words t o args) _ raise_bound_error w refl refl
       check_writes n false k w v = v ∙ k
   leaving-names leaving.Raise h s = record {
-    reads = λ n e g. (lines.raise-names n (is-apart n e) t).reads ∙ sym (seated_none (loc.Machine n) result_places (places_of args) s g);
+    reads = λ n e g. (lines.raise-names n (is-apart n e) t).reads ∙ sym (seated_none (loc.Machine n) result_locations (places_of args) s g);
     writes = λ n e g. (lines.raise-names n (is-apart n e) t).sets ∙ sym (named_none (loc.Machine n) results (raise_inv (comps args) (comps results) h));
   }
   leaving-names leaving.Return h s = record {
-    reads = λ n e g. (lines.return-names n (is-apart n e) t f).reads ∙ sym (seated_none (loc.Machine n) result_places (places_of args) s g);
+    reads = λ n e g. (lines.return-names n (is-apart n e) t f).reads ∙ sym (seated_none (loc.Machine n) result_locations (places_of args) s g);
     writes = λ n e g. (lines.return-names n (is-apart n e) t f).sets ∙ sym (named_none (loc.Machine n) results (returns_none h));
   }
 
   enter-names : FlowHasForm flow.EnterTrap (comps args) (comps results) → NamesIn (lin.Flow flow.EnterTrap)
   enter-names h = record {
     reads = λ n e g. let i = enter_inv (comps args) (comps results) h in
-        from_a0 n e (same_loc (loc.Machine 10) (first results)) (first_numbered m results i.1.0 [] i.1.1 r) g
+        from_a0 n e (same_loc (loc.Machine 10) (first_location results)) (first_numbered m results i.1.0 [] i.1.1 r) g
         ∙ sym (named_none (loc.Machine n) args i.0);
     writes = λ n e g. absurd (cc);
   }
     where
-      from_a0 : (n : ℕ) → is_reserved n ≡ false → (b : Bool) → IsNumbered (first results) → is_named (loc.Machine n) result_places ≡ false →
-          is_source n (cond b [] (copied t (loc.Machine 10) (first results))) ≡ false
+      from_a0 : (n : ℕ) → is_reserved n ≡ false → (b : Bool) → IsNumbered (first_location results) → is_named_location (loc.Machine n) result_locations ≡ false →
+          is_source n (cond b [] (copy_pieces t (loc.Machine 10) (first_location results))) ≡ false
       from_a0 n e true c g = refl
       from_a0 n e false c g =
-          (copied-names n (is-apart n e) t (loc.Machine 10) (first results) (numbered {r = 10} refl) c).reads ∙ (sym (or-false (nat_eq 10 n)) ∙ g)
+          (copied-names n (is-apart n e) t (loc.Machine 10) (first_location results) (numbered {r = 10} refl) c).reads ∙ (sym (or-false (nat_eq 10 n)) ∙ g)
 
 -- ---- every line
 
-module _ (m : Lin) (t : ℕ) (f : Frame) (d : Option Descr) where
+module _ (m : Lin) (t : ℕ) (f : FrameLayout) (d : Option Descr) where
   abbrev CarriedIn : LinOp → List Spot → List Spot → Type 0
   CarriedIn o args results =
-      CarriesRegisters (record { op = o; args = args; results = results }) (part_of t f d (record { op = o; args = args; results = results }))
+      CarriesRegisters (record { op = o; args = args; results = results }) (part_of_line t f d (record { op = o; args = args; results = results }))
 
   copy-carried : (kind : _) (args results : List Spot) → (u v : Comp) → comps args ≡ u ∷ [] → comps results ≡ v ∷ [] → Locates m args → Locates m results →
       CarriedIn (lin.Op (op.Pure (pure.Copy kind))) args results
@@ -425,7 +425,7 @@ module _ (m : Lin) (t : ℕ) (f : Frame) (d : Option Descr) where
   copy-carried kind (x ∷ []) (y ∷ []) u v e g a r = by (same_loc x.loc y.loc) refl
     where
       by : (b : Bool) → same_loc x.loc y.loc ≡ b →
-          CarriesRegisters (record { op = lin.Op (op.Pure (pure.Copy kind)); args = x ∷ []; results = y ∷ [] }) (cond b [] (copied t x.loc y.loc))
+          CarriesRegisters (record { op = lin.Op (op.Pure (pure.Copy kind)); args = x ∷ []; results = y ∷ [] }) (cond b [] (copy_pieces t x.loc y.loc))
       by true k = moves_nothing (x, y, is_self_move (same_loc_is x.loc y.loc k))
       by false k = names (no_self_copy x y (first_numbered m (x ∷ []) u [] e a) k) (record {
         reads = λ n o w. (copied-names n (is-apart n o) t x.loc y.loc (first_numbered m (x ∷ []) u [] e a) (first_numbered m (y ∷ []) v [] g r)).reads
@@ -434,7 +434,7 @@ module _ (m : Lin) (t : ℕ) (f : Frame) (d : Option Descr) where
             ∙ sym (or-false (same_loc y.loc (loc.Machine n)));
       })
 
-  pub line_carried : (o : LinOp) (args results : List Spot) → IsFormed (record { op = o; args = args; results = results }) →
+  pub line_carried : (o : LinOp) (args results : List Spot) → IsFormedLine (record { op = o; args = args; results = results }) →
       Locates m args → Locates m results → AreSeated (lin_operand_seats o) (places_of args) → AreSeated (lin_result_seats o) (places_of results) →
       CarriedIn o args results
   line_carried (lin.Op (op.Pure (pure.Copy kind))) args results (formed_op h) a r s u =
@@ -466,8 +466,8 @@ module _ (m : Lin) (t : ℕ) (f : Frame) (d : Option Descr) where
 
 -- ---- every line of a function
 
-pub carried : (m : Lin) → WellFormed m → Seated m → (i : Line) → Contains m.code i → (t : ℕ) (f : Frame) (d : Option Descr) →
-    CarriesRegisters i (part_of t f d i)
+pub carried : (m : Lin) → WellFormed m → Seated m → (i : Line) → Contains m.code i → (t : ℕ) (f : FrameLayout) (d : Option Descr) →
+    CarriesRegisters i (part_of_line t f d i)
 carried m w s i c t f d =
     let at = All-contains (λ (i : Line). Locates m i.args × Locates m i.results) m.code i w.locations c in
-    line_carried m t f d i.op i.args i.results (All-contains IsFormed m.code i w.forms c) at.0 at.1 (s.operands i c) (s.results i c)
+    line_carried m t f d i.op i.args i.results (All-contains IsFormedLine m.code i w.forms c) at.0 at.1 (s.operands i c) (s.results i c)

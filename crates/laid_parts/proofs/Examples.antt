@@ -12,9 +12,9 @@ use Rattle.rv_isa.specs.declared.instr.Instr.TheVariants as instr
 use Rattle.rv_isa.specs.declared.register.Register.TheVariants.{T1, A0}
 use Rattle.rv_pieces.specs.declared.piece.Piece.{Piece}
 use Rattle.rv_pieces.specs.declared.piece.Piece.TheVariants as piece
-use Rattle.emit_rules.specs.Slots.{moved}
+use Rattle.emit_rules.specs.Slots.{move_pieces}
 use Rattle.emit_rules.specs.Calls.{call_words}
-use Rattle.emit_rules.specs.Constants.{constant}
+use Rattle.emit_rules.specs.Constants.{constant_pieces}
 use Rattle.emit_rules.specs.Memory.{alloc_part}
 use Rattle.emit_rules.specs.Instructions.{addi, lui, calls_at}
 use Rattle.emit_rules.specs.Tests.{branch_part}
@@ -26,20 +26,20 @@ use Rattle.laid_parts.specs.Named.{is_source, is_target}
 use Rattle.laid_parts.specs.Stack.{at_first, is_loaded, is_stored}
 
 -- with one trap pushed, slot 1 lies 24 bytes from sp
-pub near_slot_is_read : is_loaded at_first 24 (moved 1 (loc.Slot 1) (loc.Machine 10)) ≡ true
+pub near_slot_is_read : is_loaded at_first 24 (move_pieces 1 (loc.Slot 1) (loc.Machine 10)) ≡ true
 unfolding add_word sext_word word_of signed_in
 near_slot_is_read = refl
 
-pub near_slot_alone : is_loaded at_first 16 (moved 1 (loc.Slot 1) (loc.Machine 10)) ≡ false
+pub near_slot_alone : is_loaded at_first 16 (move_pieces 1 (loc.Slot 1) (loc.Machine 10)) ≡ false
 unfolding add_word sext_word word_of signed_in
 near_slot_alone = refl
 
 -- slot 1000 lies 8016 bytes from sp, so that its address is made in t2
-pub far_slot_is_written : is_stored at_first 8016 (moved 1 (loc.Machine 10) (loc.Slot 1000)) ≡ true
+pub far_slot_is_written : is_stored at_first 8016 (move_pieces 1 (loc.Machine 10) (loc.Slot 1000)) ≡ true
 unfolding add_word sext_word word_of signed_in
 far_slot_is_written = refl
 
-pub far_slot_from_register : is_source 10 (moved 1 (loc.Machine 10) (loc.Slot 1000)) ≡ true
+pub far_slot_from_register : is_source 10 (move_pieces 1 (loc.Machine 10) (loc.Slot 1000)) ≡ true
 far_slot_from_register = refl
 
 -- a call by a register reads it
@@ -53,12 +53,12 @@ callee_in_slot_is_read = refl
 -- an allocation writes where the block is to be named, and nothing else
 pub block_is_written : is_target 10
     (alloc_part 0 [] (record { header = 1024; cells = 1 } ∷ []) (record { loc = loc.Machine 10; comp = comp.Val } ∷ [])) ≡ true
-unfolding constant
+unfolding constant_pieces
 block_is_written = refl
 
 pub block_alone : is_target 11
     (alloc_part 0 [] (record { header = 1024; cells = 1 } ∷ []) (record { loc = loc.Machine 10; comp = comp.Val } ∷ [])) ≡ false
-unfolding constant
+unfolding constant_pieces
 block_alone = refl
 
 -- a branch reads both of its operands

@@ -5,7 +5,7 @@ use Rattle.bs_words.specs.declared.types.Comp.{Comp}
 use Rattle.bs_words.specs.declared.types.Loc.{Loc}
 use Rattle.bs_words.specs.declared.types.Loc.TheVariants as loc
 use Rattle.mach_ir.specs.Forms.{HasForm, IsTested, holds, fails, signed, unsigned}
-use Rattle.mach_ir.specs.Seats.{AreSeated, InOrder, argument_places, result_places}
+use Rattle.mach_ir.specs.Seats.{AreSeated, InOrder, argument_locations, result_locations}
 use Rattle.mach_ir.specs.declared.mach.Test.{Test}
 use Rattle.mach_ir.specs.declared.mach.Test.TheVariants as test
 use Rattle.mach_ir.specs.declared.op.Callee.{Callee}
@@ -35,12 +35,12 @@ use Rattle.rv_isa.specs.declared.instr.ShiftOp.TheVariants as shifts
 use Rattle.rv_isa.specs.declared.register.Register.{Register}
 use Rattle.rv_isa.specs.declared.register.Register.TheVariants.{Zero, T0, T1, T2}
 use Rattle.rv_pieces.specs.declared.piece.Piece.TheVariants as piece
-use Rattle.emit_rules.specs.Instructions.{addi, operation, shift, auipc, goes_to, calls_at, ecall}
+use Rattle.emit_rules.specs.Instructions.{addi, alu_operation, shift_piece, auipc, goes_to_address, calls_at, ecall}
 use Rattle.rv_isa.specs.Registers.{register_at}
-use Rattle.emit_rules.specs.Emitted.{part_of}
-use Rattle.emit_rules.specs.Entry.{Frame}
+use Rattle.emit_rules.specs.Emitted.{part_of_line}
+use Rattle.emit_rules.specs.Entry.{FrameLayout}
 use Rattle.emit_rules.specs.Calls.{mark_of, call_words, external_words, external_service}
-use Rattle.emit_rules.specs.Slots.{first, second, register_of, slot_offset}
+use Rattle.emit_rules.specs.Slots.{first_location, second, register_of, slot_offset}
 use Rattle.emit_rules.specs.Tests.{signed_branch, unsigned_branch, right_register, right_words, branch_part, value_words, tests_in_turn, table_of_jumps, switch_part}
 use Rattle.lin_laws.proofs.Forms.{label_inv, jump_inv, exit_inv, branch_inv, switch_inv}
 use Rattle.laid_parts.specs.Laid.{lies_at, lie_at, NamesSlots}
@@ -86,27 +86,27 @@ module _ (c t : ℕ) where
   right-words right.Register args h = fetched-slot c t T2 (second args) is_t2 refl h
   right-words (right.Constant w) args h = either c (nat_eq w 0) (nothing c) (constant-still c T2 w refl)
 
-  pub signed_line : (f : CmpOp) (o : Right) (l : ℕ) (args : List Spot) → IsWithinFrame t (first args) → RightWithin o args →
-      Chunk c (branch_part t (test.Signed f o) l args) (at_slot (first args) || right-slot o args) false
+  pub signed_line : (f : CmpOp) (o : Right) (l : ℕ) (args : List Spot) → IsWithinFrame t (first_location args) → RightWithin o args →
+      Chunk c (branch_part t (test.Signed f o) l args) (at_slot (first_location args) || right-slot o args) false
   signed_line f o l args a h =
-      then_none c (joined c (fetched-slot c t T1 (first args) is_t1 refl a) (right-words o args h))
-      (signed-still f (register_of T1 (first args)) (right_register o args) l)
+      then_none c (joined c (fetched-slot c t T1 (first_location args) is_t1 refl a) (right-words o args h))
+      (signed-still f (register_of T1 (first_location args)) (right_register o args) l)
 
-  pub unsigned_line : (f : CmpOp) (o : Right) (l : ℕ) (args : List Spot) → IsWithinFrame t (first args) → RightWithin o args →
-      Chunk c (branch_part t (test.Unsigned f o) l args) (at_slot (first args) || right-slot o args) false
+  pub unsigned_line : (f : CmpOp) (o : Right) (l : ℕ) (args : List Spot) → IsWithinFrame t (first_location args) → RightWithin o args →
+      Chunk c (branch_part t (test.Unsigned f o) l args) (at_slot (first_location args) || right-slot o args) false
   unsigned_line f o l args a h =
-      then_none c (joined c (fetched-slot c t T1 (first args) is_t1 refl a) (right-words o args h))
-      (unsigned-still f (register_of T1 (first args)) (right_register o args) l)
+      then_none c (joined c (fetched-slot c t T1 (first_location args) is_t1 refl a) (right-words o args h))
+      (unsigned-still f (register_of T1 (first_location args)) (right_register o args) l)
 
-  pub holds_line : (l : ℕ) (args : List Spot) → IsWithinFrame t (first args) → Chunk c (branch_part t test.Holds l args) (at_slot (first args)) false
+  pub holds_line : (l : ℕ) (args : List Spot) → IsWithinFrame t (first_location args) → Chunk c (branch_part t test.Holds l args) (at_slot (first_location args)) false
   holds_line l args a =
-      then_none c (then_none c (fetched-slot c t T1 (first args) is_t1 refl a) (nothing c))
-      (branch-still condition.Bne (register_of T1 (first args)) Zero l)
+      then_none c (then_none c (fetched-slot c t T1 (first_location args) is_t1 refl a) (nothing c))
+      (branch-still condition.Bne (register_of T1 (first_location args)) Zero l)
 
-  pub fails_line : (l : ℕ) (args : List Spot) → IsWithinFrame t (first args) → Chunk c (branch_part t test.Fails l args) (at_slot (first args)) false
+  pub fails_line : (l : ℕ) (args : List Spot) → IsWithinFrame t (first_location args) → Chunk c (branch_part t test.Fails l args) (at_slot (first_location args)) false
   fails_line l args a =
-      then_none c (then_none c (fetched-slot c t T1 (first args) is_t1 refl a) (nothing c))
-      (branch-still condition.Beq (register_of T1 (first args)) Zero l)
+      then_none c (then_none c (fetched-slot c t T1 (first_location args) is_t1 refl a) (nothing c))
+      (branch-still condition.Beq (register_of T1 (first_location args)) Zero l)
 
   -- ---- switches
 
@@ -128,13 +128,13 @@ module _ (c t : ℕ) where
 
   table-still : (ls : List ℕ) → Chunk c (table_of_jumps ls) false false
   table-still ls =
-      joined c {xs = shift shifts.Slli T1 T1 3 ∷ []} (shift-still c shifts.Slli T1 T1 3 refl)
+      joined c {xs = shift_piece shifts.Slli T1 T1 3 ∷ []} (shift-still c shifts.Slli T1 T1 3 refl)
       (joined c {xs = auipc T2 ∷ []} (still c (auipc T2) (λ h. refl) (λ h. refl) refl)
-      (joined c {xs = operation alu.Add T2 T2 T1 ∷ []} (operation-still c alu.Add T2 T2 T1 refl)
-      (joined c {xs = goes_to T2 12 ∷ []} (still c (goes_to T2 12) (λ h. refl) (λ h. refl) refl) (rows-still ls))))
+      (joined c {xs = alu_operation alu.Add T2 T2 T1 ∷ []} (operation-still c alu.Add T2 T2 T1 refl)
+      (joined c {xs = goes_to_address T2 12 ∷ []} (still c (goes_to_address T2 12) (λ h. refl) (λ h. refl) refl) (rows-still ls))))
 
-  pub switch_line-slots : (ls : List ℕ) (args : List Spot) → IsWithinFrame t (first args) → Chunk c (switch_part t ls args) (at_slot (first args)) false
-  switch_line-slots ls args a = then_none c (value-slot (first args) a) (either c (nat_le (length ls) 4) (turns-still ls) (table-still ls))
+  pub switch_line-slots : (ls : List ℕ) (args : List Spot) → IsWithinFrame t (first_location args) → Chunk c (switch_part t ls args) (at_slot (first_location args)) false
+  switch_line-slots ls args a = then_none c (value-slot (first_location args) a) (either c (nat_le (length ls) 4) (turns-still ls) (table-still ls))
 
   -- ---- calls
 
@@ -145,12 +145,12 @@ module _ (c t : ℕ) where
   pub call_line-slots : (name : List ℕ) (args : List Spot) (d : Option Descr) → Chunk c (call_words t (callee.Symbol name) args ++ mark_of d) false false
   call_line-slots name args d = joined c (still c (piece.Call name) (λ h. refl) (λ h. refl) refl) (mark-still d)
 
-  pub call_register-slots : (args : List Spot) (d : Option Descr) → IsWithinFrame t (first args) →
-      Chunk c (call_words t callee.Register args ++ mark_of d) (at_slot (first args)) false
+  pub call_register-slots : (args : List Spot) (d : Option Descr) → IsWithinFrame t (first_location args) →
+      Chunk c (call_words t callee.Register args ++ mark_of d) (at_slot (first_location args)) false
   call_register-slots args d a =
       then_none c
-      (then_none c (fetched-slot c t T1 (first args) is_t1 refl a)
-      (still c (calls_at (register_of T1 (first args))) (λ h. refl) (λ h. refl) refl))
+      (then_none c (fetched-slot c t T1 (first_location args) is_t1 refl a)
+      (still c (calls_at (register_of T1 (first_location args))) (λ h. refl) (λ h. refl) refl))
       (mark-still d)
 
   pub external-slots : (row : External) (frame : Bool) (d : Option Descr) → Chunk c (external_words row frame ++ mark_of d) false false
@@ -162,16 +162,16 @@ module _ (c t : ℕ) where
 
 -- ---- lines
 
-module _ (m : Lin) (t : ℕ) (b : 8 * m.slots + 16 * t < 1073741824) (f : Frame) (d : Option Descr) (args results : List Spot)
+module _ (m : Lin) (t : ℕ) (b : 8 * m.slots + 16 * t < 1073741824) (f : FrameLayout) (d : Option Descr) (args results : List Spot)
     (a : Locates m args) (r : Locates m results) where
   abbrev NamesIn : LinOp → Type 0
-  NamesIn o = NamesSlots f t (record { op = o; args = args; results = results }) (part_of t f d (record { op = o; args = args; results = results }))
+  NamesIn o = NamesSlots f t (record { op = o; args = args; results = results }) (part_of_line t f d (record { op = o; args = args; results = results }))
 
   pub beside : (c : ℕ) (o : Right) (u : Comp) (us : List Comp) → comps args ≡ u ∷ us → RightIs o us →
-      RightWithin c t o args × ((lies_at t c (first args) || right-slot c t o args) ≡ lie_at t c (places_of args))
+      RightWithin c t o args × ((lies_at t c (first_location args) || right-slot c t o args) ≡ lie_at t c (places_of args))
   unfolding RightWithin right-slot
   beside c right.Register u us e (one_right v) = (second_within m t b args u v [] e a, sym (lie_two t c args u v e))
-  beside c (right.Constant w) u us e no_right = (tt, or-false (lies_at t c (first args)) ∙ sym (lie_one t c args u e))
+  beside c (right.Constant w) u us e no_right = (tt, or-false (lies_at t c (first_location args)) ∙ sym (lie_one t c args u e))
 
   branch-slots : (c : ℕ) (g : Test) (l : ℕ) (us : List Comp) → comps args ≡ us → IsTested g us →
       Chunk c (branch_part t g l args) (lie_at t c (places_of args)) false
@@ -199,20 +199,20 @@ module _ (m : Lin) (t : ℕ) (b : 8 * m.slots + 16 * t < 1073741824) (f : Frame)
 
   pub call-named : (whom : Callee) (result : _) → HasForm (op.Calling (calling.Call whom result)) (comps args) (comps results) →
       AreSeated (lin_operand_seats (lin.Op (op.Calling (calling.Call whom result)))) (places_of args) →
-      AreSeated (InOrder result_places) (places_of results) → NamesIn (lin.Op (op.Calling (calling.Call whom result)))
+      AreSeated (InOrder result_locations) (places_of results) → NamesIn (lin.Op (op.Calling (calling.Call whom result)))
   call-named (callee.Symbol name) result h s u =
       slots_of t (λ c n. in_part c (same c (call_line-slots c t name args d)
-      (sym (lie_seated t c argument_places (places_of args) s refl)) (sym (lie_seated t c result_places (places_of results) u refl))))
+      (sym (lie_seated t c argument_locations (places_of args) s refl)) (sym (lie_seated t c result_locations (places_of results) u refl))))
   call-named callee.Register result h s u =
       let i = call_more result (comps args) (comps results) h in
       slots_of t (λ c n. in_part c (same c (call_register-slots c t args d (first_within m t b args i.0 i.1 i.2 a))
-      (sym (lie_after t c argument_places args s refl)) (sym (lie_seated t c result_places (places_of results) u refl))))
+      (sym (lie_after t c argument_locations args s refl)) (sym (lie_seated t c result_locations (places_of results) u refl))))
 
-  pub external-named : (row : External) (frame : Bool) → AreSeated (InOrder argument_places) (places_of args) →
-      AreSeated (InOrder result_places) (places_of results) → NamesIn (lin.Op (op.Calling (calling.External row frame)))
+  pub external-named : (row : External) (frame : Bool) → AreSeated (InOrder argument_locations) (places_of args) →
+      AreSeated (InOrder result_locations) (places_of results) → NamesIn (lin.Op (op.Calling (calling.External row frame)))
   external-named row frame s u =
       slots_of t (λ c n. in_part c (same c (external-slots c t row frame d)
-      (sym (lie_seated t c argument_places (places_of args) s refl)) (sym (lie_seated t c result_places (places_of results) u refl))))
+      (sym (lie_seated t c argument_locations (places_of args) s refl)) (sym (lie_seated t c result_locations (places_of results) u refl))))
 
   pub label-named : (l : ℕ) → FlowHasForm (flow.Label l) (comps args) (comps results) → NamesIn (lin.Flow (flow.Label l))
   label-named l h =

@@ -1,6 +1,6 @@
 -- The descriptor of a frame point is right after its call.
 use Rattle.std.proofs.Common.{◌≡◌, ℕ, suc, ◌+◌, ◌*◌, Bool, true, false, cond, List, [], ◌∷◌, ◌++◌, length, append_assoc, refl, sym, subst, ◌∙◌, ap, arith, Some}
-use Rattle.mach_ir.specs.Blocks.{bytes_of}
+use Rattle.mach_ir.specs.Blocks.{total_block_bytes}
 use Rattle.mach_ir.specs.declared.op.Access.TheVariants as access
 use Rattle.mach_ir.specs.declared.op.Callee.TheVariants as callee
 use Rattle.mach_ir.specs.declared.op.Calling.TheVariants as calling
@@ -18,12 +18,12 @@ use Rattle.rv_pieces.specs.Named.{marks_in}
 use Rattle.rv_pieces.specs.declared.piece.Piece.{Piece}
 use Rattle.rv_pieces.specs.declared.piece.Piece.TheVariants as piece
 use Rattle.emit_rules.specs.Calls.{external_service}
-use Rattle.emit_rules.specs.Constants.{constant, lowered}
-use Rattle.emit_rules.specs.Emitted.{part_of, descriptor, left_after}
-use Rattle.emit_rules.specs.Entry.{Frame}
-use Rattle.emit_rules.specs.Instructions.{load, skip, calls_at, ecall}
+use Rattle.emit_rules.specs.Constants.{constant_pieces, bytes_taken_off}
+use Rattle.emit_rules.specs.Emitted.{part_of_line, descriptor, left_after}
+use Rattle.emit_rules.specs.Entry.{FrameLayout}
+use Rattle.emit_rules.specs.Instructions.{load_piece, skip, calls_at, ecall}
 use Rattle.emit_rules.specs.Memory.{allocation_service, ask, reserved, addresses}
-use Rattle.emit_rules.specs.Slots.{first, register_of, fetched}
+use Rattle.emit_rules.specs.Slots.{first_location, register_of, fetch_pieces}
 use Rattle.emit_rules.proofs.Descriptors.{marks-join, part-unmarked, nil-first, nil-second}
 use Rattle.laid_parts.specs.Laid.{ReturnsAfter, after_call, after_jump, after_service, after_allocation, some_comes_back, IsMarked, no_mark, one_mark}
 use Rattle.laid_parts.proofs.Calls.{GoOn, goes_on, all_on, constant_on, fetched-on, lowered-on, addresses-on}
@@ -63,25 +63,25 @@ module _ (g : LinOp) (d : Descr) (ds : List Descr) where
 -- an allocation asks last
 before_ask : (bytes : ℕ) → List Piece
 before_ask bytes =
-    lowered T1 S10 bytes
-    ++ load loads.Ld T1 S11 0 ∷ skip condition.Bgeu S10 T1 (4 * (1 + length (ask bytes)))
-    ∷ (constant T0 bytes ++ constant T2 allocation_service)
+    bytes_taken_off T1 S10 bytes
+    ++ load_piece loads.Ld T1 S11 0 ∷ skip condition.Bgeu S10 T1 (4 * (1 + length (ask bytes)))
+    ∷ (constant_pieces T0 bytes ++ constant_pieces T2 allocation_service)
 
 asks_last : (bytes : ℕ) → before_ask bytes ++ ecall ∷ [] ≡ reserved bytes
 unfolding before_ask
 asks_last bytes =
-    append_assoc (lowered T1 S10 bytes)
-    (load loads.Ld T1 S11 0 ∷ skip condition.Bgeu S10 T1 (4 * (1 + length (ask bytes))) ∷ (constant T0 bytes ++ constant T2 allocation_service))
+    append_assoc (bytes_taken_off T1 S10 bytes)
+    (load_piece loads.Ld T1 S11 0 ∷ skip condition.Bgeu S10 T1 (4 * (1 + length (ask bytes))) ∷ (constant_pieces T0 bytes ++ constant_pieces T2 allocation_service))
     (ecall ∷ [])
 
 before_ask-on : (bytes : ℕ) → GoOn (before_ask bytes)
 unfolding before_ask
 before_ask-on bytes =
-    all_on {ys = load loads.Ld T1 S11 0 ∷ skip condition.Bgeu S10 T1 (4 * (1 + length (ask bytes))) ∷ (constant T0 bytes ++ constant T2 allocation_service)}
+    all_on {ys = load_piece loads.Ld T1 S11 0 ∷ skip condition.Bgeu S10 T1 (4 * (1 + length (ask bytes))) ∷ (constant_pieces T0 bytes ++ constant_pieces T2 allocation_service)}
     (lowered-on bytes) (goes_on (all_on (constant_on T0 bytes) (constant_on T2 allocation_service)).none)
 
-marked_part : (t : ℕ) (f : Frame) (d : Descr) (ds : List Descr) (g : LinOp) (args results : List Spot) → passes_frame g ≡ true →
-    IsMarked g true (d ∷ ds) ds (part_of t f (Some d) (record { op = g; args = args; results = results }))
+marked_part : (t : ℕ) (f : FrameLayout) (d : Descr) (ds : List Descr) (g : LinOp) (args results : List Spot) → passes_frame g ≡ true →
+    IsMarked g true (d ∷ ds) ds (part_of_line t f (Some d) (record { op = g; args = args; results = results }))
 unfolding Marked
 marked_part t f d ds (lin.Flow g) args results h = cc
 marked_part t f d ds (lin.Op (op.Pure g)) args results h = cc
@@ -90,28 +90,28 @@ marked_part t f d ds (lin.Op (op.Access (access.Load k offset))) args results h 
 marked_part t f d ds (lin.Op (op.Access (access.Store k offset))) args results h = cc
 marked_part t f d ds (lin.Op (op.Access (access.Alloc blocks))) args results h =
     let g = lin.Op (op.Access (access.Alloc blocks)) in
-    let e = asks_last (bytes_of blocks) in
-    let none : marks_in ((reserved (bytes_of blocks) ++ []) ++ addresses t blocks results) ≡ []
+    let e = asks_last (total_block_bytes blocks) in
+    let none : marks_in ((reserved (total_block_bytes blocks) ++ []) ++ addresses t blocks results) ≡ []
     = part-unmarked t f (record { op = g; args = args; results = results }) in
     subst (λ (xs : List Piece). IsMarked g true (d ∷ ds) ds ((xs ++ piece.Descriptor d ∷ []) ++ addresses t blocks results)) e
-    (marked g d ds (before_ask (bytes_of blocks)) ecall (addresses t blocks results) after_allocation
-    (before_ask-on (bytes_of blocks)).none (addresses-on t blocks results).none
+    (marked g d ds (before_ask (total_block_bytes blocks)) ecall (addresses t blocks results) after_allocation
+    (before_ask-on (total_block_bytes blocks)).none (addresses-on t blocks results).none
     (subst (λ (xs : List Piece). marks_in ((xs ++ []) ++ addresses t blocks results) ≡ []) (sym e) none))
 marked_part t f d ds (lin.Op (op.Calling (calling.Call (callee.Symbol name) result))) args results h =
     marked_last (lin.Op (op.Calling (calling.Call (callee.Symbol name) result))) d ds [] (piece.Call name) after_call refl refl
 marked_part t f d ds (lin.Op (op.Calling (calling.Call callee.Register result))) args results h =
     let g = lin.Op (op.Calling (calling.Call callee.Register result)) in
-    marked_last g d ds (fetched t T1 (first args)) (calls_at (register_of T1 (first args))) after_jump (fetched-on t T1 (first args)).none
+    marked_last g d ds (fetch_pieces t T1 (first_location args)) (calls_at (register_of T1 (first_location args))) after_jump (fetched-on t T1 (first_location args)).none
     (part-unmarked t f (record { op = g; args = args; results = results }))
 marked_part t f d ds (lin.Op (op.Calling (calling.TailCall whom result))) args results h = cc
 marked_part t f d ds (lin.Op (op.Calling (calling.External row frame))) args results h =
     let g = lin.Op (op.Calling (calling.External row frame)) in
-    marked_last g d ds (piece.ExternalNumber T0 row ∷ constant T2 (external_service frame)) ecall after_service (constant_on T2 (external_service frame)).none
+    marked_last g d ds (piece.ExternalNumber T0 row ∷ constant_pieces T2 (external_service frame)) ecall after_service (constant_on T2 (external_service frame)).none
     (part-unmarked t f (record { op = g; args = args; results = results }))
 
 -- of the descriptors that are left, of which there are enough
-pub line_marked : (t : ℕ) (f : Frame) (i : Line) (n : ℕ) (b : Bool) → passes_frame i.op ≡ b → (ds : List Descr) → length ds ≡ cond b (suc n) n →
-    IsMarked i.op b ds (left_after b ds) (part_of t f (descriptor b ds) i)
+pub line_marked : (t : ℕ) (f : FrameLayout) (i : Line) (n : ℕ) (b : Bool) → passes_frame i.op ≡ b → (ds : List Descr) → length ds ≡ cond b (suc n) n →
+    IsMarked i.op b ds (left_after b ds) (part_of_line t f (descriptor b ds) i)
 line_marked t f i n true p [] e = absurd (omega arith)
 line_marked t f i n true p (d ∷ ds) e = marked_part t f d ds i.op i.args i.results p
 line_marked t f i n false p ds e = no_mark (part-unmarked t f i)

@@ -8,7 +8,7 @@ use Rattle.bs_words.specs.declared.operators.IntOp.TheVariants as operator
 use Rattle.bs_words.specs.declared.types.Loc.{Loc}
 use Rattle.bs_words.specs.declared.types.Loc.TheVariants as loc
 use Rattle.lin_ir.specs.Meaning.{same_loc}
-use Rattle.rv_isa.specs.Registers.{number, register_at}
+use Rattle.rv_isa.specs.Registers.{register_number, register_at}
 use Rattle.rv_isa.specs.declared.instr.AluImmOp.{AluImmOp}
 use Rattle.rv_isa.specs.declared.instr.AluImmOp.TheVariants as imm
 use Rattle.rv_isa.specs.declared.instr.AluOp.{AluOp}
@@ -19,15 +19,15 @@ use Rattle.rv_isa.specs.declared.instr.StoreWidth.{StoreWidth}
 use Rattle.rv_isa.specs.declared.register.Register.{Register}
 use Rattle.rv_isa.specs.declared.register.Register.TheVariants.{Zero, T1, T2}
 use Rattle.rv_pieces.specs.declared.piece.Piece.{Piece}
-use Rattle.emit_rules.specs.Instructions.{with_immediate, operation, load, store}
-use Rattle.emit_rules.specs.Constants.{constant}
+use Rattle.emit_rules.specs.Instructions.{with_immediate, alu_operation, load_piece, store_piece}
+use Rattle.emit_rules.specs.Constants.{constant_pieces}
 use Rattle.emit_rules.specs.Operators.{is_some, compared, operated, compared_with, operated_with}
-use Rattle.emit_rules.specs.Slots.{register_of, target, copied, slot_offset}
+use Rattle.emit_rules.specs.Slots.{register_of, target, copy_pieces, slot_offset}
 use Rattle.laid_parts.proofs.Registers.{not_both, or_turned, Names, same, joined, then_none, nothing, hits, IsApart, with_immediate-names, addi-names, operation-names, shift-names, load-names, store-names, constant-none, stack_load-names, stack_store-names, kept-names, last_none, first_none}
 
 -- a location that a line may name: its register has its number
 pub data IsNumbered : Loc → Type 0 where
-  numbered : {r : ℕ} → number (register_at r) ≡ r → IsNumbered (loc.Machine r)
+  numbered : {r : ℕ} → register_number (register_at r) ≡ r → IsNumbered (loc.Machine r)
   in_slot : {k : ℕ} → IsNumbered (loc.Slot k)
 
 module _ (n : ℕ) (apart : IsApart n) where
@@ -47,14 +47,14 @@ module _ (n : ℕ) (apart : IsApart n) where
 
   compared-names : (less : AluOp) (f : CmpOp) (to a b : Register) → Names n (compared less f to a b) (hits n a || hits n b) (hits n to)
   compared-names less compare.Eq to a b =
-      again to {xs = operation alu.Xor to a b ∷ []} (operation-names n apart alu.Xor to a b) (with_immediate-names n apart imm.Sltiu to to 1)
-  compared-names less compare.Ne to a b = again to {xs = operation alu.Xor to a b ∷ []} (operation-names n apart alu.Xor to a b) (is_some-names to)
+      again to {xs = alu_operation alu.Xor to a b ∷ []} (operation-names n apart alu.Xor to a b) (with_immediate-names n apart imm.Sltiu to to 1)
+  compared-names less compare.Ne to a b = again to {xs = alu_operation alu.Xor to a b ∷ []} (operation-names n apart alu.Xor to a b) (is_some-names to)
   compared-names less compare.Lt to a b = operation-names n apart less to a b
   compared-names less compare.Ge to a b =
-      again to {xs = operation less to a b ∷ []} (operation-names n apart less to a b) (with_immediate-names n apart imm.Xori to to 1)
+      again to {xs = alu_operation less to a b ∷ []} (operation-names n apart less to a b) (with_immediate-names n apart imm.Xori to to 1)
   compared-names less compare.Gt to a b = same (operation-names n apart less to b a) (or_turned (hits n b) (hits n a)) refl
   compared-names less compare.Le to a b =
-      again to {xs = operation less to b a ∷ []} (same (operation-names n apart less to b a) (or_turned (hits n b) (hits n a)) refl)
+      again to {xs = alu_operation less to b a ∷ []} (same (operation-names n apart less to b a) (or_turned (hits n b) (hits n a)) refl)
       (with_immediate-names n apart imm.Xori to to 1)
 
   pub operated-names : (f : IntOp) (to a b : Register) → Names n (operated f to a b) (hits n a || hits n b) (hits n to)
@@ -77,7 +77,7 @@ module _ (n : ℕ) (apart : IsApart n) where
 
   -- with a constant in t2
   far-names : (to a : Register) (w : ℕ) {ys : List Piece} → Names n ys (hits n a || hits n T2) (hits n to) →
-      Names n (constant T2 w ++ ys) (hits n a) (hits n to)
+      Names n (constant_pieces T2 w ++ ys) (hits n a) (hits n to)
   far-names to a w y = joined (constant-none n apart T2 w apart.t2) (same y (last_none n apart (hits n a) (hits n T2) apart.t2) refl)
 
   compared_with-names : (less : AluImmOp) (far : AluOp) (f : CmpOp) (to a : Register) (w : ℕ) →
@@ -113,7 +113,7 @@ module _ (n : ℕ) (apart : IsApart n) where
   -- ---- copies
 
   pub copied-names : (t : ℕ) (from to : Loc) → IsNumbered from → IsNumbered to →
-      Names n (copied t from to) (same_loc from (loc.Machine n)) (same_loc to (loc.Machine n))
+      Names n (copy_pieces t from to) (same_loc from (loc.Machine n)) (same_loc to (loc.Machine n))
   copied-names t (loc.Slot j) to a b =
       then_none (same (stack_load-names n apart T2 (target to) (slot_offset t j) apart.t2) refl (at_place T1 to apart.t1 b)) (kept-names n apart t to)
   copied-names t (loc.Machine r) (loc.Slot k) (numbered e) b =
@@ -127,7 +127,7 @@ module _ (n : ℕ) (apart : IsApart n) where
 
   -- through the address, or through t1 where the offset is added first
   pub load_from-names : (b : Bool) (k : LoadWidth) (base to : Register) (w x : ℕ) →
-      Names n (cond b [] (constant T2 w ++ operation alu.Add T1 base T2 ∷ []) ++ load k to (cond b base T1) x ∷ []) (hits n base) (hits n to)
+      Names n (cond b [] (constant_pieces T2 w ++ alu_operation alu.Add T1 base T2 ∷ []) ++ load_piece k to (cond b base T1) x ∷ []) (hits n base) (hits n to)
   load_from-names true k base to w x = load-names n apart k to base x
   load_from-names false k base to w x =
       same (joined (far-names T1 base w (operation-names n apart alu.Add T1 base T2)) (same (load-names n apart k to T1 x) apart.t1 refl))
@@ -136,7 +136,7 @@ module _ (n : ℕ) (apart : IsApart n) where
 
   pub store_to-names : (b : Bool) (k : StoreWidth) (base from : Register) (w x : ℕ) {xs ys : List Piece} → Names n xs false false →
       Names n ys false false →
-      Names n (xs ++ cond b [] (constant T2 w ++ operation alu.Add T1 base T2 ∷ []) ++ ys ++ store k from (cond b base T1) x ∷ [])
+      Names n (xs ++ cond b [] (constant_pieces T2 w ++ alu_operation alu.Add T1 base T2 ∷ []) ++ ys ++ store_piece k from (cond b base T1) x ∷ [])
       (hits n base || hits n from) false
   store_to-names true k base from w x v y = joined (joined (joined v nothing) y) (store-names n apart k from base x)
   store_to-names false k base from w x v y =

@@ -4,11 +4,11 @@ use Rattle.std.specs.List.{All}
 use Rattle.std.proofs.lemmas.List.Elements.{All-contains, All-nil, All-cons, All-head, All-tail}
 use Rattle.bs_words.specs.declared.types.Comp.{Comp}
 use Rattle.bs_words.specs.declared.types.Loc.{Loc}
-use Rattle.mach_ir.specs.Placed.{colours}
+use Rattle.mach_ir.specs.Placed.{colour_numbers}
 use Rattle.mach_ir.specs.declared.op.Op.TheVariants as op
 use Rattle.mach_ir.specs.declared.op.Pure.TheVariants as pure
 use Rattle.mach_ir.specs.declared.op.Right.TheVariants as right
-use Rattle.lin_ir.specs.Formed.{IsFormed, formed_op, is_colour, is_slot, IsLocation, is_home, is_spare, is_self_move, Locates, comps, places_of}
+use Rattle.lin_ir.specs.Formed.{IsFormedLine, formed_op, is_colour, is_slot, IsLocation, is_home, is_spare, is_self_move, Locates, comps, places_of}
 use Rattle.lin_ir.specs.Meaning.{same_loc}
 use Rattle.lin_ir.specs.declared.descr.Descr.{Descr}
 use Rattle.lin_ir.specs.declared.lin.LinOp.{LinOp}
@@ -17,9 +17,9 @@ use Rattle.lin_ir.specs.declared.lin.Lin.{Lin}
 use Rattle.lin_ir.specs.declared.lin.Spot.{Spot}
 use Rattle.rv_pieces.specs.declared.piece.Piece.{Piece}
 use Rattle.rv_isa.specs.Registers.{register_at}
-use Rattle.emit_rules.specs.Emitted.{part_of}
-use Rattle.emit_rules.specs.Entry.{Frame}
-use Rattle.emit_rules.specs.Slots.{first, second, copied}
+use Rattle.emit_rules.specs.Emitted.{part_of_line}
+use Rattle.emit_rules.specs.Entry.{FrameLayout}
+use Rattle.emit_rules.specs.Slots.{first_location, second, copy_pieces}
 use Rattle.std.specs.Prelude.{◌*◌, ◌<◌, ◌≤◌, ◌/◌}
 use Rattle.std.proofs.Common.{cond, ◌+◌}
 use Rattle.std.proofs.lemmas.Bool.{or_parts}
@@ -41,13 +41,13 @@ pub lie_none : (t c : ℕ) (ss : List Spot) → comps ss ≡ [] → lie_at t c (
 lie_none t c [] e = refl
 lie_none t c (s ∷ ss) e = absurd (cc)
 
-pub lie_one : (t c : ℕ) (ss : List Spot) (u : Comp) → comps ss ≡ u ∷ [] → lie_at t c (places_of ss) ≡ lies_at t c (first ss)
+pub lie_one : (t c : ℕ) (ss : List Spot) (u : Comp) → comps ss ≡ u ∷ [] → lie_at t c (places_of ss) ≡ lies_at t c (first_location ss)
 lie_one t c [] u e = absurd (cc)
 lie_one t c (s ∷ []) u e = or-false (lies_at t c s.loc)
 lie_one t c (s ∷ r ∷ ss) u e = absurd (cc)
 
 pub lie_two : (t c : ℕ) (ss : List Spot) (u v : Comp) → comps ss ≡ u ∷ v ∷ [] →
-    lie_at t c (places_of ss) ≡ (lies_at t c (first ss) || lies_at t c (second ss))
+    lie_at t c (places_of ss) ≡ (lies_at t c (first_location ss) || lies_at t c (second ss))
 lie_two t c [] u v e = absurd (cc)
 lie_two t c (s ∷ []) u v e = absurd (cc)
 lie_two t c (s ∷ r ∷ []) u v e = ap (λ (z : Bool). lies_at t c s.loc || z) (or-false (lies_at t c r.loc))
@@ -64,7 +64,7 @@ pub lie_seated : (t c : ℕ) (places ls : List Loc) → AreSeated (InOrder place
 lie_seated t c places ls (in_order more e) h = lie_prefix t c ls more (ap (λ (z : List Loc). lie_at t c z) e ∙ h)
 
 pub lie_after : (t c : ℕ) (places : List Loc) (ss : List Spot) → AreSeated (AfterFirst places) (places_of ss) → lie_at t c places ≡ false →
-    lie_at t c (places_of ss) ≡ lies_at t c (first ss)
+    lie_at t c (places_of ss) ≡ lies_at t c (first_location ss)
 lie_after t c places [] s h = elim s [ ]
 lie_after t c places (x ∷ ss) (after_first more e) h =
     let k : lie_at t c (places_of ss) ≡ false = lie_prefix t c (places_of ss) more (ap (λ (z : List Loc). lie_at t c z) e ∙ h) in
@@ -86,7 +86,7 @@ apart_of (r ∷ rs) e = by (is_sp (register_at r)) refl e (λ h. apart_of rs h)
     by false h e rest = All-cons (λ r. is_sp (register_at r) ≡ false) r rs h (rest e)
 
 pub within : (m : Lin) (t : ℕ) → 8 * m.slots + 16 * t < 1073741824 → (l : Loc) → IsLocation m l → IsWithinFrame t l
-within m t b l (is_home (is_colour {n} c)) = in_register (All-contains (λ r. is_sp (register_at r) ≡ false) colours n (apart_of colours refl) c)
+within m t b l (is_home (is_colour {n} c)) = in_register (All-contains (λ r. is_sp (register_at r) ≡ false) colour_numbers n (apart_of colour_numbers refl) c)
 within m t b l (is_home (is_slot {k} h)) = in_frame (let g : k < m.slots = h in omega (arith, g, b))
 within m t b l (is_spare e) = subst (IsWithinFrame t) (sym e) (in_register {r = 5} refl)
 
@@ -94,7 +94,7 @@ pub frame_holds : (s x t : ℕ) → (8 * s + x + 15) / 16 * 16 + 16 * t ≤ 1048
 frame_holds s x t h = omega (arith, h)
 
 module _ (m : Lin) (t : ℕ) (b : 8 * m.slots + 16 * t < 1073741824) where
-  pub first_within : (ss : List Spot) (u : Comp) (us : List Comp) → comps ss ≡ u ∷ us → Locates m ss → IsWithinFrame t (first ss)
+  pub first_within : (ss : List Spot) (u : Comp) (us : List Comp) → comps ss ≡ u ∷ us → Locates m ss → IsWithinFrame t (first_location ss)
   first_within [] u us e h = absurd (cc)
   first_within (s ∷ ss) u us e h = within m t b s.loc (All-head (λ (s : Spot). IsLocation m s.loc) s ss h)
 
@@ -107,21 +107,21 @@ module _ (m : Lin) (t : ℕ) (b : 8 * m.slots + 16 * t < 1073741824) where
 -- ---- parts
 
 -- what a line's part is to name
-abbrev pub Slots : (f : Frame) (t : ℕ) (o : LinOp) (args results : List Spot) → List Piece → Type 0
+abbrev pub Slots : (f : FrameLayout) (t : ℕ) (o : LinOp) (args results : List Spot) → List Piece → Type 0
 Slots f t o args results part =
     (c : ℕ) → is_aside f o c ≡ false → Part c part (lie_at t c (places_of args)) (lie_at t c (places_of results))
 
-pub slots_of : {f : Frame} {o : LinOp} {args results : List Spot} {part : List Piece} (t : ℕ) → Slots f t o args results part →
+pub slots_of : {f : FrameLayout} {o : LinOp} {args results : List Spot} {part : List Piece} (t : ℕ) → Slots f t o args results part →
     NamesSlots f t (record { op = o; args = args; results = results }) part
 slots_of t h = record {
   reads = λ c e. ((h c e).each at_first at_first_clean).loads;
   writes = λ c e. ((h c e).each at_first at_first_clean).stores;
 }
 
-module _ (m : Lin) (t : ℕ) (b : 8 * m.slots + 16 * t < 1073741824) (f : Frame) (d : Option Descr) where
+module _ (m : Lin) (t : ℕ) (b : 8 * m.slots + 16 * t < 1073741824) (f : FrameLayout) (d : Option Descr) where
   abbrev SlotsIn : LinOp → List Spot → List Spot → Type 0
   SlotsIn o args results =
-      CarriesSlots f t (record { op = o; args = args; results = results }) (part_of t f d (record { op = o; args = args; results = results }))
+      CarriesSlots f t (record { op = o; args = args; results = results }) (part_of_line t f d (record { op = o; args = args; results = results }))
 
   copy-slots : (kind : _) (args results : List Spot) → (u v : Comp) → comps args ≡ u ∷ [] → comps results ≡ v ∷ [] → Locates m args → Locates m results →
       SlotsIn (lin.Op (op.Pure (pure.Copy kind))) args results
@@ -132,7 +132,7 @@ module _ (m : Lin) (t : ℕ) (b : 8 * m.slots + 16 * t < 1073741824) (f : Frame)
   copy-slots kind (x ∷ []) (y ∷ []) u v e g a r = by (same_loc x.loc y.loc) refl
     where
       by : (q : Bool) → same_loc x.loc y.loc ≡ q →
-          CarriesSlots f t (record { op = lin.Op (op.Pure (pure.Copy kind)); args = x ∷ []; results = y ∷ [] }) (cond q [] (copied t x.loc y.loc))
+          CarriesSlots f t (record { op = lin.Op (op.Pure (pure.Copy kind)); args = x ∷ []; results = y ∷ [] }) (cond q [] (copy_pieces t x.loc y.loc))
       by true k = moves_nothing (x, y, is_self_move (same_loc_is x.loc y.loc k))
       by false w =
           names (no_self_copy x y (is_numbered (All-head (λ (s : Spot). IsLocation m s.loc) x [] a)) w)
@@ -140,7 +140,7 @@ module _ (m : Lin) (t : ℕ) (b : 8 * m.slots + 16 * t < 1073741824) (f : Frame)
           (copied-slot c t x.loc y.loc (first_within m t b (x ∷ []) u [] e a) (first_within m t b (y ∷ []) v [] g r))
           (sym (or-false (lies_at t c x.loc))) (sym (or-false (lies_at t c y.loc))))))
 
-  pub pure-slots : (g : Pure) (args results : List Spot) → IsFormed (record { op = lin.Op (op.Pure g); args = args; results = results }) →
+  pub pure-slots : (g : Pure) (args results : List Spot) → IsFormedLine (record { op = lin.Op (op.Pure g); args = args; results = results }) →
       Locates m args → Locates m results → SlotsIn (lin.Op (op.Pure g)) args results
   pure-slots (pure.Copy kind) args results (formed_op h) a r =
       let i = copy_inv kind (comps args) (comps results) h in copy-slots kind args results i.0 i.1 i.2 i.3 a r

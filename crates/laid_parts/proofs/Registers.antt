@@ -5,7 +5,7 @@ use Rattle.std.proofs.Math.Bool.{and-false, or-false, or_self}
 use Rattle.bs_words.specs.declared.types.Loc.{Loc}
 use Rattle.bs_words.specs.declared.types.Loc.TheVariants as loc
 use Rattle.mach_ir.specs.Forms.{is_immediate_12}
-use Rattle.rv_isa.specs.Registers.{number}
+use Rattle.rv_isa.specs.Registers.{register_number}
 use Rattle.rv_isa.specs.declared.instr.AluImmOp.{AluImmOp}
 use Rattle.rv_isa.specs.declared.instr.AluOp.{AluOp}
 use Rattle.rv_isa.specs.declared.instr.AluOp.TheVariants as alu
@@ -18,10 +18,10 @@ use Rattle.rv_isa.specs.declared.instr.StoreWidth.TheVariants as stores
 use Rattle.rv_isa.specs.declared.register.Register.{Register}
 use Rattle.rv_isa.specs.declared.register.Register.TheVariants.{Zero, Ra, Sp, T0, T1, T2, S1, S10, S11}
 use Rattle.rv_pieces.specs.declared.piece.Piece.{Piece}
-use Rattle.emit_rules.specs.Instructions.{low_12, with_immediate, addi, operation, shift, lui, addiw, load, store}
-use Rattle.emit_rules.specs.Constants.{is_word_32, above_12, constant_32, higher, shifted, constant_shifted, constant, sum_to, lowered}
-use Rattle.emit_rules.specs.Slots.{far_stack, stack_load, stack_store, slot_offset, fetched, kept}
-use Rattle.linear_rules.specs.Lowered.{is_among}
+use Rattle.emit_rules.specs.Instructions.{low_12, with_immediate, addi, alu_operation, shift_piece, lui, addiw, load_piece, store_piece}
+use Rattle.emit_rules.specs.Constants.{is_word_32, above_12, constant_32, upper_constant, shifted, constant_shifted, constant_pieces, sum_to, bytes_taken_off}
+use Rattle.emit_rules.specs.Slots.{far_stack, stack_load, stack_store, slot_offset, fetch_pieces, keep_pieces}
+use Rattle.linear_rules.specs.Lowered.{is_among_numbers}
 use Rattle.laid_parts.specs.Named.{piece_sources, piece_targets, is_source, is_target}
 use Rattle.laid_parts.specs.Laid.{is_reserved}
 
@@ -58,14 +58,14 @@ same x e f = record { reads = x.reads ∙ e; sets = x.sets ∙ f }
 source-append : (n : ℕ) (xs ys : List Piece) → is_source n (xs ++ ys) ≡ (is_source n xs || (not (is_target n xs) && is_source n ys))
 source-append n [] ys = refl
 source-append n (p ∷ xs) ys =
-    ap (λ (z : Bool). is_among n (piece_sources p) || (not (is_among n (piece_targets p)) && z)) (source-append n xs ys)
-    ∙ regroup (is_among n (piece_sources p)) (is_among n (piece_targets p)) (is_source n xs) (is_target n xs) (is_source n ys)
+    ap (λ (z : Bool). is_among_numbers n (piece_sources p) || (not (is_among_numbers n (piece_targets p)) && z)) (source-append n xs ys)
+    ∙ regroup (is_among_numbers n (piece_sources p)) (is_among_numbers n (piece_targets p)) (is_source n xs) (is_target n xs) (is_source n ys)
 
 target-append : (n : ℕ) (xs ys : List Piece) → is_target n (xs ++ ys) ≡ (is_target n xs || is_target n ys)
 target-append n [] ys = refl
 target-append n (p ∷ xs) ys =
-    ap (λ (z : Bool). is_among n (piece_targets p) || z) (target-append n xs ys)
-    ∙ or_grouped (is_among n (piece_targets p)) (is_target n xs) (is_target n ys)
+    ap (λ (z : Bool). is_among_numbers n (piece_targets p) || z) (target-append n xs ys)
+    ∙ or_grouped (is_among_numbers n (piece_targets p)) (is_target n xs) (is_target n ys)
 
 pub joined : {n : ℕ} {xs ys : List Piece} {R S Q T : Bool} → Names n xs R S → Names n ys Q T → Names n (xs ++ ys) (R || (not S && Q)) (S || T)
 joined {n} {xs} {ys} {R} {S} {Q} {T} x y = record {
@@ -86,15 +86,15 @@ either false x y = y
 pub nothing : {n : ℕ} → Names n [] false false
 nothing = record { reads = refl; sets = refl }
 
-pub alone : (n : ℕ) (p : Piece) → Names n (p ∷ []) (is_among n (piece_sources p)) (is_among n (piece_targets p))
+pub alone : (n : ℕ) (p : Piece) → Names n (p ∷ []) (is_among_numbers n (piece_sources p)) (is_among_numbers n (piece_targets p))
 alone n p = record {
-  reads = ap (λ (z : Bool). is_among n (piece_sources p) || z) (and-false (not (is_among n (piece_targets p)))) ∙ or-false (is_among n (piece_sources p));
-  sets = or-false (is_among n (piece_targets p));
+  reads = ap (λ (z : Bool). is_among_numbers n (piece_sources p) || z) (and-false (not (is_among_numbers n (piece_targets p)))) ∙ or-false (is_among_numbers n (piece_sources p));
+  sets = or-false (is_among_numbers n (piece_targets p));
 }
 
 -- the register has this number
 abbrev pub hits : ℕ → Register → Bool
-hits n r = nat_eq (number r) n
+hits n r = nat_eq (register_number r) n
 
 pub record IsApart (n : ℕ) : Type 0 where
   pub zero : hits n Zero ≡ false
@@ -129,12 +129,12 @@ module _ (n : ℕ) (apart : IsApart n) where
   pub addi-names : (to from : Register) (w : ℕ) → Names n (addi to from w ∷ []) (hits n from) (hits n to)
   addi-names to from w = same (alone n (addi to from w)) (or-false (hits n from)) (or-false (hits n to))
 
-  pub operation-names : (f : AluOp) (to a b : Register) → Names n (operation f to a b ∷ []) (hits n a || hits n b) (hits n to)
+  pub operation-names : (f : AluOp) (to a b : Register) → Names n (alu_operation f to a b ∷ []) (hits n a || hits n b) (hits n to)
   operation-names f to a b =
-      same (alone n (operation f to a b)) (ap (λ (z : Bool). hits n a || z) (or-false (hits n b))) (or-false (hits n to))
+      same (alone n (alu_operation f to a b)) (ap (λ (z : Bool). hits n a || z) (or-false (hits n b))) (or-false (hits n to))
 
-  pub shift-names : (f : ShiftOp) (to from : Register) (amount : ℕ) → Names n (shift f to from amount ∷ []) (hits n from) (hits n to)
-  shift-names f to from amount = same (alone n (shift f to from amount)) (or-false (hits n from)) (or-false (hits n to))
+  pub shift-names : (f : ShiftOp) (to from : Register) (amount : ℕ) → Names n (shift_piece f to from amount ∷ []) (hits n from) (hits n to)
+  shift-names f to from amount = same (alone n (shift_piece f to from amount)) (or-false (hits n from)) (or-false (hits n to))
 
   pub lui-names : (to : Register) (w : ℕ) → Names n (lui to w ∷ []) false (hits n to)
   lui-names to w = same (alone n (lui to w)) refl (or-false (hits n to))
@@ -142,11 +142,11 @@ module _ (n : ℕ) (apart : IsApart n) where
   pub addiw-names : (to from : Register) (w : ℕ) → Names n (addiw to from w ∷ []) (hits n from) (hits n to)
   addiw-names to from w = same (alone n (addiw to from w)) (or-false (hits n from)) (or-false (hits n to))
 
-  pub load-names : (k : LoadWidth) (to address : Register) (w : ℕ) → Names n (load k to address w ∷ []) (hits n address) (hits n to)
-  load-names k to address w = same (alone n (load k to address w)) (or-false (hits n address)) (or-false (hits n to))
+  pub load-names : (k : LoadWidth) (to address : Register) (w : ℕ) → Names n (load_piece k to address w ∷ []) (hits n address) (hits n to)
+  load-names k to address w = same (alone n (load_piece k to address w)) (or-false (hits n address)) (or-false (hits n to))
 
-  pub store-names : (k : StoreWidth) (from address : Register) (w : ℕ) → Names n (store k from address w ∷ []) (hits n address || hits n from) false
-  store-names k from address w = same (alone n (store k from address w)) (ap (λ (z : Bool). hits n address || z) (or-false (hits n from))) refl
+  pub store-names : (k : StoreWidth) (from address : Register) (w : ℕ) → Names n (store_piece k from address w ∷ []) (hits n address || hits n from) false
+  store-names k from address w = same (alone n (store_piece k from address w)) (ap (λ (z : Bool). hits n address || z) (or-false (hits n from))) refl
 
   -- ---- constants
 
@@ -180,15 +180,15 @@ module _ (n : ℕ) (apart : IsApart n) where
   constant_shifted-names zero r w amount = shifted-names r amount (constant_32-names r w)
   constant_shifted-names (suc k) r w amount =
       either (is_word_32 w) (shifted-names r amount (constant_32-names r w))
-      (either (nat_eq (low_12 w) 0) (constant_shifted-names k r (higher w) (amount + 12))
-      (over r (constant_shifted-names k r (higher w) 12) (sum_shifted-names r w amount)))
+      (either (nat_eq (low_12 w) 0) (constant_shifted-names k r (upper_constant w) (amount + 12))
+      (over r (constant_shifted-names k r (upper_constant w) 12) (sum_shifted-names r w amount)))
 
-  pub constant-names : (r : Register) (w : ℕ) → Names n (constant r w) false (hits n r)
-  unfolding constant
+  pub constant-names : (r : Register) (w : ℕ) → Names n (constant_pieces r w) false (hits n r)
+  unfolding constant_pieces
   constant-names r w = constant_shifted-names 3 r w 0
 
   -- into a reserved register
-  pub constant-none : (r : Register) (w : ℕ) → hits n r ≡ false → Names n (constant r w) false false
+  pub constant-none : (r : Register) (w : ℕ) → hits n r ≡ false → Names n (constant_pieces r w) false false
   constant-none r w e = same (constant-names r w) refl e
 
   pub last_none : (a b : Bool) → b ≡ false → (a || b) ≡ a
@@ -202,7 +202,7 @@ module _ (n : ℕ) (apart : IsApart n) where
       either (nat_lt w 2048) (addi-names to from w)
       (joined (constant-none scratch w e) (same (operation-names alu.Add to from scratch) (last_none (hits n from) (hits n scratch) e) refl))
 
-  pub lowered-names : (scratch r : Register) (w : ℕ) → hits n scratch ≡ false → Names n (lowered scratch r w) (hits n r) (hits n r)
+  pub lowered-names : (scratch r : Register) (w : ℕ) → hits n scratch ≡ false → Names n (bytes_taken_off scratch r w) (hits n r) (hits n r)
   lowered-names scratch r w e =
       either (nat_le w 2048) (addi-names r r (4096 - w % 4096))
       (joined (constant-none scratch w e) (same (operation-names alu.Sub r r scratch) (last_none (hits n r) (hits n scratch) e) refl))
@@ -224,12 +224,12 @@ module _ (n : ℕ) (apart : IsApart n) where
       either (nat_lt w 2048) (same (store-names stores.Sd from Sp w) (first_none (hits n Sp) (hits n from) apart.sp) refl)
       (joined (far_stack-names scratch w e) (same (store-names stores.Sd from scratch w) (first_none (hits n scratch) (hits n from) e) refl))
 
-  pub fetched-names : (t : ℕ) (scratch : Register) (l : Loc) → hits n scratch ≡ false → Names n (fetched t scratch l) false false
+  pub fetched-names : (t : ℕ) (scratch : Register) (l : Loc) → hits n scratch ≡ false → Names n (fetch_pieces t scratch l) false false
   fetched-names t scratch (loc.Machine r) e = nothing
   fetched-names t scratch (loc.Slot k) e = same (stack_load-names scratch scratch (slot_offset t k) e) refl e
   fetched-names t scratch loc.Unset e = nothing
 
-  pub kept-names : (t : ℕ) (l : Loc) → Names n (kept t l) false false
+  pub kept-names : (t : ℕ) (l : Loc) → Names n (keep_pieces t l) false false
   kept-names t (loc.Machine r) = nothing
   kept-names t (loc.Slot k) = same (stack_store-names T2 T1 (slot_offset t k) apart.t2) apart.t1 refl
   kept-names t loc.Unset = nothing

@@ -17,15 +17,15 @@ use Rattle.rv_isa.specs.declared.register.Register.{Register}
 use Rattle.rv_isa.specs.declared.register.Register.TheVariants.{Zero, T1, T2}
 use Rattle.rv_pieces.specs.declared.piece.Piece.{Piece}
 use Rattle.rv_pieces.specs.declared.piece.Piece.TheVariants as piece
-use Rattle.emit_rules.specs.Instructions.{with_immediate, operation, shift}
+use Rattle.emit_rules.specs.Instructions.{with_immediate, alu_operation, shift_piece}
 use Rattle.rv_isa.specs.Registers.{register_at}
-use Rattle.emit_rules.specs.Constants.{constant}
+use Rattle.emit_rules.specs.Constants.{constant_pieces}
 use Rattle.emit_rules.specs.Operators.{compared, operated, compared_with, operated_with}
-use Rattle.emit_rules.specs.Slots.{register_of, target, kept, copied, slot_offset}
+use Rattle.emit_rules.specs.Slots.{register_of, target, keep_pieces, copy_pieces, slot_offset}
 use Rattle.emit_rules.specs.Instructions.{lui, addiw}
 use Rattle.emit_rules.specs.Emitted.{operator_part}
-use Rattle.emit_rules.specs.Slots.{first, second, fetched}
-use Rattle.emit_rules.specs.Traversal.{Each, each_none, each_more}
+use Rattle.emit_rules.specs.Slots.{first_location, second, fetch_pieces}
+use Rattle.emit_rules.specs.Traversal.{EachPiece, each_none, each_more}
 use Rattle.emit_rules.specs.Values.{Makes, makes_first, makes_upper, makes_lower, makes_sum, makes_shift}
 use Rattle.emit_rules.proofs.Values.{constant_is_made}
 use Rattle.laid_parts.specs.Laid.{lies_at}
@@ -38,11 +38,11 @@ module _ (c : ℕ) where
   pub immediate-still : (f : AluImmOp) (to from : Register) (w : ℕ) → is_sp to ≡ false → Chunk c (with_immediate f to from w ∷ []) false false
   immediate-still f to from w e = still c (with_immediate f to from w) (λ h. refl) (λ h. refl) (ap (λ (z : Bool). (z || false)) e)
 
-  pub operation-still : (f : AluOp) (to a b : Register) → is_sp to ≡ false → Chunk c (operation f to a b ∷ []) false false
-  operation-still f to a b e = still c (operation f to a b) (λ h. refl) (λ h. refl) (ap (λ (z : Bool). (z || false)) e)
+  pub operation-still : (f : AluOp) (to a b : Register) → is_sp to ≡ false → Chunk c (alu_operation f to a b ∷ []) false false
+  operation-still f to a b e = still c (alu_operation f to a b) (λ h. refl) (λ h. refl) (ap (λ (z : Bool). (z || false)) e)
 
-  pub shift-still : (f : _) (to from : Register) (w : ℕ) → is_sp to ≡ false → Chunk c (shift f to from w ∷ []) false false
-  shift-still f to from w e = still c (shift f to from w) (λ h. refl) (λ h. refl) (ap (λ (z : Bool). (z || false)) e)
+  pub shift-still : (f : _) (to from : Register) (w : ℕ) → is_sp to ≡ false → Chunk c (shift_piece f to from w ∷ []) false false
+  shift-still f to from w e = still c (shift_piece f to from w) (λ h. refl) (λ h. refl) (ap (λ (z : Bool). (z || false)) e)
 
   made-still : (r : Register) {p : Piece} → is_sp r ≡ false → Makes r p → Chunk c (p ∷ []) false false
   made-still r e (makes_first w) = immediate-still imm.Addi r Zero w e
@@ -51,22 +51,22 @@ module _ (c : ℕ) where
   made-still r e (makes_sum w) = immediate-still imm.Addi r r w e
   made-still r e (makes_shift amount) = shift-still shifts.Slli r r amount e
 
-  each-still : (r : Register) {ps : List Piece} → is_sp r ≡ false → Each (Makes r) ps → Chunk c ps false false
+  each-still : (r : Register) {ps : List Piece} → is_sp r ≡ false → EachPiece (Makes r) ps → Chunk c ps false false
   each-still r e each_none = nothing c
   each-still r e (each_more {p} {ps} made rest) = joined c {xs = p ∷ []} (made-still r e made) (each-still r e rest)
 
-  pub constant-still : (r : Register) (w : ℕ) → is_sp r ≡ false → Chunk c (constant r w) false false
+  pub constant-still : (r : Register) (w : ℕ) → is_sp r ≡ false → Chunk c (constant_pieces r w) false false
   constant-still r w e = each-still r e (constant_is_made r w)
 
   compared-still : (less : AluOp) (f : CmpOp) (to a b : Register) → is_sp to ≡ false → Chunk c (compared less f to a b) false false
   compared-still less compare.Eq to a b e = joined c {xs =
-      operation alu.Xor to a b ∷ []} (operation-still alu.Xor to a b e) (immediate-still imm.Sltiu to to 1 e)
+      alu_operation alu.Xor to a b ∷ []} (operation-still alu.Xor to a b e) (immediate-still imm.Sltiu to to 1 e)
   compared-still less compare.Ne to a b e = joined c {xs =
-      operation alu.Xor to a b ∷ []} (operation-still alu.Xor to a b e) (operation-still alu.Sltu to Zero to e)
+      alu_operation alu.Xor to a b ∷ []} (operation-still alu.Xor to a b e) (operation-still alu.Sltu to Zero to e)
   compared-still less compare.Lt to a b e = operation-still less to a b e
-  compared-still less compare.Ge to a b e = joined c {xs = operation less to a b ∷ []} (operation-still less to a b e) (immediate-still imm.Xori to to 1 e)
+  compared-still less compare.Ge to a b e = joined c {xs = alu_operation less to a b ∷ []} (operation-still less to a b e) (immediate-still imm.Xori to to 1 e)
   compared-still less compare.Gt to a b e = operation-still less to b a e
-  compared-still less compare.Le to a b e = joined c {xs = operation less to b a ∷ []} (operation-still less to b a e) (immediate-still imm.Xori to to 1 e)
+  compared-still less compare.Le to a b e = joined c {xs = alu_operation less to b a ∷ []} (operation-still less to b a e) (immediate-still imm.Xori to to 1 e)
 
   operated-still : (f : IntOp) (to a b : Register) → is_sp to ≡ false → Chunk c (operated f to a b) false false
   operated-still operator.Add to a b e = operation-still alu.Add to a b e
@@ -86,7 +86,7 @@ module _ (c : ℕ) where
   operated-still (operator.Cmp f) to a b e = compared-still alu.Slt f to a b e
   operated-still (operator.CmpU f) to a b e = compared-still alu.Sltu f to a b e
 
-  far-still : (w : ℕ) {ys : List Piece} → Chunk c ys false false → Chunk c (constant T2 w ++ ys) false false
+  far-still : (w : ℕ) {ys : List Piece} → Chunk c ys false false → Chunk c (constant_pieces T2 w ++ ys) false false
   far-still w y = joined c (constant-still T2 w refl) y
 
   compared_with-still : (less : AluImmOp) (far : AluOp) (f : CmpOp) (to a : Register) (w : ℕ) → is_sp to ≡ false →
@@ -135,23 +135,23 @@ register-apart t scratch (loc.Slot j) s a = s
 register-apart t scratch loc.Unset s a = elim a [ ]
 
 module _ (c t : ℕ) where
-  pub fetched-clear : (scratch : Register) (l : Loc) → IsScratch scratch → IsWithinFrame t l → Clear c (fetched t scratch l) (lies_at t c l) false
+  pub fetched-clear : (scratch : Register) (l : Loc) → IsScratch scratch → IsWithinFrame t l → Clear c (fetch_pieces t scratch l) (lies_at t c l) false
   fetched-clear scratch (loc.Machine r) s a = nothing c
   fetched-clear scratch (loc.Slot j) s (in_frame b) = stack_load-clear c scratch (slot_offset t j) s b
   fetched-clear scratch loc.Unset s a = elim a [ ]
 
   pub fetched-slot : (scratch : Register) (l : Loc) → IsScratch scratch → is_sp scratch ≡ false → IsWithinFrame t l →
-      Chunk c (fetched t scratch l) (lies_at t c l) false
+      Chunk c (fetch_pieces t scratch l) (lies_at t c l) false
   fetched-slot scratch (loc.Machine r) s e a = nothing c
   fetched-slot scratch (loc.Slot j) s e (in_frame b) = stack_load-words c scratch scratch (slot_offset t j) s b e
   fetched-slot scratch loc.Unset s e a = elim a [ ]
 
-  pub kept-slot : (l : Loc) → IsWithinFrame t l → Chunk c (kept t l) false (lies_at t c l)
+  pub kept-slot : (l : Loc) → IsWithinFrame t l → Chunk c (keep_pieces t l) false (lies_at t c l)
   kept-slot (loc.Machine r) a = nothing c
   kept-slot (loc.Slot j) (in_frame b) = stack_store-words c T1 (slot_offset t j) b
   kept-slot loc.Unset a = elim a [ ]
 
-  pub copied-slot : (from to : Loc) → IsWithinFrame t from → IsWithinFrame t to → Chunk c (copied t from to) (lies_at t c from) (lies_at t c to)
+  pub copied-slot : (from to : Loc) → IsWithinFrame t from → IsWithinFrame t to → Chunk c (copy_pieces t from to) (lies_at t c from) (lies_at t c to)
   copied-slot (loc.Slot j) to (in_frame a) b =
       same c
       (joined c (stack_load-words c T2 (target to) (slot_offset t j) is_t2 a (target-apart t to b)) (kept-slot to b))
@@ -161,36 +161,36 @@ module _ (c t : ℕ) where
   copied-slot (loc.Machine r) loc.Unset a b = elim b [ ]
   copied-slot loc.Unset to a b = elim a [ ]
 
-  pub operator_register-slots : (f : IntOp) (args results : List Spot) → IsWithinFrame t (first args) → IsWithinFrame t (second args) →
-      IsWithinFrame t (first results) →
-      Chunk c (operator_part t f right.Register args results) (lies_at t c (first args) || lies_at t c (second args)) (lies_at t c (first results))
+  pub operator_register-slots : (f : IntOp) (args results : List Spot) → IsWithinFrame t (first_location args) → IsWithinFrame t (second args) →
+      IsWithinFrame t (first_location results) →
+      Chunk c (operator_part t f right.Register args results) (lies_at t c (first_location args) || lies_at t c (second args)) (lies_at t c (first_location results))
   operator_register-slots f args results a b d =
       same c
       (joined c
-      (then_none c (joined c (fetched-slot T1 (first args) is_t1 refl a) (fetched-slot T2 (second args) is_t2 refl b))
-      (operated-still c f (target (first results)) (register_of T1 (first args)) (register_of T2 (second args)) (target-apart t (first results) d)))
-      (kept-slot (first results) d))
-      (or-false (lies_at t c (first args) || lies_at t c (second args))) refl
+      (then_none c (joined c (fetched-slot T1 (first_location args) is_t1 refl a) (fetched-slot T2 (second args) is_t2 refl b))
+      (operated-still c f (target (first_location results)) (register_of T1 (first_location args)) (register_of T2 (second args)) (target-apart t (first_location results) d)))
+      (kept-slot (first_location results) d))
+      (or-false (lies_at t c (first_location args) || lies_at t c (second args))) refl
 
-  pub operator_constant-slots : (f : IntOp) (w : ℕ) (args results : List Spot) → IsWithinFrame t (first args) → IsWithinFrame t (first results) →
-      Chunk c (operator_part t f (right.Constant w) args results) (lies_at t c (first args)) (lies_at t c (first results))
+  pub operator_constant-slots : (f : IntOp) (w : ℕ) (args results : List Spot) → IsWithinFrame t (first_location args) → IsWithinFrame t (first_location results) →
+      Chunk c (operator_part t f (right.Constant w) args results) (lies_at t c (first_location args)) (lies_at t c (first_location results))
   operator_constant-slots f w args results a d =
       same c
       (joined c
-      (then_none c (fetched-slot T1 (first args) is_t1 refl a)
-      (operated_with-still c f (target (first results)) (register_of T1 (first args)) w (target-apart t (first results) d)))
-      (kept-slot (first results) d))
-      (or-false (lies_at t c (first args))) refl
+      (then_none c (fetched-slot T1 (first_location args) is_t1 refl a)
+      (operated_with-still c f (target (first_location results)) (register_of T1 (first_location args)) w (target-apart t (first_location results) d)))
+      (kept-slot (first_location results) d))
+      (or-false (lies_at t c (first_location args))) refl
 
-  pub constant_line-slots : (w : ℕ) (results : List Spot) → IsWithinFrame t (first results) →
-      Chunk c (constant (target (first results)) w ++ kept t (first results)) false (lies_at t c (first results))
+  pub constant_line-slots : (w : ℕ) (results : List Spot) → IsWithinFrame t (first_location results) →
+      Chunk c (constant_pieces (target (first_location results)) w ++ keep_pieces t (first_location results)) false (lies_at t c (first_location results))
   constant_line-slots w results d =
-      joined c (constant-still c (target (first results)) w (target-apart t (first results) d)) (kept-slot (first results) d)
+      joined c (constant-still c (target (first_location results)) w (target-apart t (first_location results) d)) (kept-slot (first_location results) d)
 
-  pub symbol_line-slots : (name : List ℕ) (results : List Spot) → IsWithinFrame t (first results) →
-      Chunk c (piece.SymbolAddress (target (first results)) name ∷ kept t (first results)) false (lies_at t c (first results))
+  pub symbol_line-slots : (name : List ℕ) (results : List Spot) → IsWithinFrame t (first_location results) →
+      Chunk c (piece.SymbolAddress (target (first_location results)) name ∷ keep_pieces t (first_location results)) false (lies_at t c (first_location results))
   symbol_line-slots name results d =
-      joined c {xs = piece.SymbolAddress (target (first results)) name ∷ []}
-      (still c (piece.SymbolAddress (target (first results)) name) (λ h. refl) (λ h. refl)
-      (ap (λ (z : Bool). (z || false)) (target-apart t (first results) d)))
-      (kept-slot (first results) d)
+      joined c {xs = piece.SymbolAddress (target (first_location results)) name ∷ []}
+      (still c (piece.SymbolAddress (target (first_location results)) name) (λ h. refl) (λ h. refl)
+      (ap (λ (z : Bool). (z || false)) (target-apart t (first_location results) d)))
+      (kept-slot (first_location results) d)

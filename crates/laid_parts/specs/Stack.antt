@@ -9,78 +9,78 @@ use Rattle.rv_isa.specs.declared.instr.Instr.{Instr}
 use Rattle.rv_isa.specs.declared.instr.Instr.TheVariants as instr
 use Rattle.rv_pieces.specs.declared.piece.Piece.{Piece}
 use Rattle.rv_pieces.specs.declared.piece.Piece.TheVariants as piece
-use Rattle.linear_rules.specs.Lowered.{is_among}
+use Rattle.linear_rules.specs.Lowered.{is_among_numbers}
 use Rattle.laid_parts.specs.Named.{piece_targets}
 
 -- ---- what is known of a register
 
-pub data Form : Type 0 where
-  Unknown : Form
+pub data KnownWord : Type 0 where
+  Unknown : KnownWord
   -- a constant
-  Is : (w : ℕ) → Form
+  Is : (w : ℕ) → KnownWord
   -- so many bytes above where sp pointed before the part, a word that wraps
-  FromSp : (w : ℕ) → Form
+  FromSp : (w : ℕ) → KnownWord
 
-abbrev pub Held : Type 0
-Held = ℕ → Form
+abbrev pub RegisterForms : Type 0
+RegisterForms = ℕ → KnownWord
 
-abbrev pub plus : Form → Form → Form
+abbrev pub plus : KnownWord → KnownWord → KnownWord
 plus (Is a) (Is b) = Is (add_word a b)
 plus (FromSp a) (Is b) = FromSp (add_word a b)
 plus (Is a) (FromSp b) = FromSp (add_word a b)
 plus _ _ = Unknown
 
-abbrev pub minus : Form → Form → Form
-minus (Is a) (Is b) = Is (sub_word a b)
-minus (FromSp a) (Is b) = FromSp (sub_word a b)
-minus _ _ = Unknown
+abbrev pub form_difference : KnownWord → KnownWord → KnownWord
+form_difference (Is a) (Is b) = Is (sub_word a b)
+form_difference (FromSp a) (Is b) = FromSp (sub_word a b)
+form_difference _ _ = Unknown
 
-abbrev pub changed : (ℕ → ℕ) → Form → Form
+abbrev pub changed : (ℕ → ℕ) → KnownWord → KnownWord
 changed f (Is w) = Is (f w)
 changed f _ = Unknown
 
 -- what an instruction makes in its target
-abbrev pub made : Held → Instr → Form
-made h (instr.Lui rd upper) = Is (sext_word (4096 * upper) 32)
-made h (instr.OpImm imm.Addi rd rs w) = plus (h rs) (Is (sext_word w 12))
-made h (instr.Op alu.Add rd a b) = plus (h a) (h b)
-made h (instr.Op alu.Sub rd a b) = minus (h a) (h b)
-made h (instr.Addiw rd rs w) = changed (λ v. sext_word (add_word v (sext_word w 12)) 32) (h rs)
-made h (instr.Shift shifts.Slli rd rs amount) = changed (λ v. shl_word v amount) (h rs)
-made h _ = Unknown
+abbrev pub made_in_target : RegisterForms → Instr → KnownWord
+made_in_target h (instr.Lui rd upper) = Is (sext_word (4096 * upper) 32)
+made_in_target h (instr.OpImm imm.Addi rd rs w) = plus (h rs) (Is (sext_word w 12))
+made_in_target h (instr.Op alu.Add rd a b) = plus (h a) (h b)
+made_in_target h (instr.Op alu.Sub rd a b) = form_difference (h a) (h b)
+made_in_target h (instr.Addiw rd rs w) = changed (λ v. sext_word (add_word v (sext_word w 12)) 32) (h rs)
+made_in_target h (instr.Shift shifts.Slli rd rs amount) = changed (λ v. shl_word v amount) (h rs)
+made_in_target h _ = Unknown
 
-abbrev pub piece_made : Held → Piece → Form
-piece_made h (piece.Known j) = made h j
+abbrev pub piece_made : RegisterForms → Piece → KnownWord
+piece_made h (piece.Known j) = made_in_target h j
 piece_made h _ = Unknown
 
 -- x0 stays 0
-abbrev pub after : Held → Piece → Held
-after h p = λ r. cond (nat_eq r 0) (h r) (cond (is_among r (piece_targets p)) (piece_made h p) (h r))
+abbrev pub held_after : RegisterForms → Piece → RegisterForms
+held_after h p = λ r. cond (nat_eq r 0) (h r) (cond (is_among_numbers r (piece_targets p)) (piece_made h p) (h r))
 
 -- before a part
-abbrev pub at_first : Held
+abbrev pub at_first : RegisterForms
 at_first = λ r. cond (nat_eq r sp) (FromSp 0) (cond (nat_eq r 0) (Is 0) Unknown)
 
 -- ---- words of the stack, by the bytes from sp
 
-abbrev pub word_at : Form → ℕ → List ℕ
+abbrev pub word_at : KnownWord → ℕ → List ℕ
 word_at (FromSp a) w = add_word a (sext_word w 12) ∷ []
 word_at _ w = []
 
-abbrev pub loaded : Held → Piece → List ℕ
-loaded h (piece.Known (instr.Load k rd rs w)) = word_at (h rs) w
-loaded h _ = []
+abbrev pub load_address : RegisterForms → Piece → List ℕ
+load_address h (piece.Known (instr.Load k rd rs w)) = word_at (h rs) w
+load_address h _ = []
 
-abbrev pub stored : Held → Piece → List ℕ
-stored h (piece.Known (instr.Store k address value w)) = word_at (h address) w
-stored h _ = []
+abbrev pub store_address : RegisterForms → Piece → List ℕ
+store_address h (piece.Known (instr.Store k address value w)) = word_at (h address) w
+store_address h _ = []
 
 -- whether pieces load a word of the stack before they have stored it
-abbrev pub is_loaded : Held → ℕ → List Piece → Bool
+abbrev pub is_loaded : RegisterForms → ℕ → List Piece → Bool
 is_loaded h c [] = false
 is_loaded h c (p ∷ ps) =
-    is_among c (loaded h p) || (not (is_among c (stored h p)) && is_loaded (after h p) c ps)
+    is_among_numbers c (load_address h p) || (not (is_among_numbers c (store_address h p)) && is_loaded (held_after h p) c ps)
 
-abbrev pub is_stored : Held → ℕ → List Piece → Bool
+abbrev pub is_stored : RegisterForms → ℕ → List Piece → Bool
 is_stored h c [] = false
-is_stored h c (p ∷ ps) = is_among c (stored h p) || is_stored (after h p) c ps
+is_stored h c (p ∷ ps) = is_among_numbers c (store_address h p) || is_stored (held_after h p) c ps

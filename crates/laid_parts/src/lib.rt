@@ -5,14 +5,14 @@
 #![tactic(auto)]
 
 ghost use Rattle.std.specs.Prelude.{◌≡◌, ℕ, ◌+◌, ◌%◌, ◌^◌, ◌<◌, List, ◌∷◌, length, map, Option, Contains};
-ghost use Rattle.emit_rules.specs.Emitted.{part_of, IsEmitted};
-ghost use Rattle.emit_rules.specs.Entry.{Frame, frame_of};
+ghost use Rattle.emit_rules.specs.Emitted.{part_of_line, IsEmitted};
+ghost use Rattle.emit_rules.specs.Entry.{FrameLayout, frame_of};
 ghost use Rattle.laid_parts.specs.Decoded.{NamesAs, Decodes};
 ghost use Rattle.laid_parts.specs.Laid.{CarriesRegisters, CarriesSlots, IsLaidOutAs};
-ghost use Rattle.layout_rules.specs.Conditions.{LeadsTo};
+ghost use Rattle.layout_rules.specs.Conditions.{HasAlignedTarget};
 ghost use Rattle.layout_rules.specs.Words.{code_to};
 ghost use Rattle.layout_rules.specs.declared.form.Form.{Form};
-ghost use Rattle.lin_ir.specs.Descriptors.{IsWithin, frame_points};
+ghost use Rattle.lin_ir.specs.Descriptors.{FitsDescriptors, frame_point_count};
 ghost use Rattle.lin_ir.specs.Formed.{Seated, WellFormed};
 ghost use Rattle.lin_ir.specs.Walks.{Traps};
 ghost use Rattle.lin_ir.specs.declared.descr.Descr.{Descr};
@@ -28,7 +28,7 @@ ghost use Rattle.rv_pieces.specs.declared.piece.Pieces.{Pieces};
 /// part is empty. Reserved registers, and those in which conventions hand values over, are not compared.
 pub fn parts_name_registers()
     ensures { (m : Lin) → WellFormed m → Seated m → (i : Line) → Contains m.code i →
-        (traps : ℕ) (f : Frame) (d : Option Descr) → CarriesRegisters i (part_of traps f d i) }
+        (traps : ℕ) (f : FrameLayout) (d : Option Descr) → CarriesRegisters i (part_of_line traps f d i) }
 {}
 
 /// Law: with the traps that are pushed before a line, its part loads, before it has stored them, exactly the stack
@@ -36,18 +36,18 @@ pub fn parts_name_registers()
 /// ones; or the line moves a location to itself, and its part is empty. The return address, where the function is
 /// left, and the trap that a line pushes or pops are not compared.
 pub fn parts_name_slots()
-    ensures { (m : Lin) → WellFormed m → Seated m → IsWithin m →
+    ensures { (m : Lin) → WellFormed m → Seated m → FitsDescriptors m →
         (i : Line) (next : List Line) (tries : List ℕ) →
         Contains m.code i → Traps m (i ∷ next) tries → (d : Option Descr) →
-        CarriesSlots (frame_of m) (length tries) i (part_of (length tries) (frame_of m) d i) }
+        CarriesSlots (frame_of m) (length tries) i (part_of_line (length tries) (frame_of m) d i) }
 {}
 
 /// Law: emitted pieces, with a descriptor for each frame point that is no tail call, are laid out as their Linear
 /// function.
 pub fn pieces_are_laid_out()
-    ensures { (m : Lin) → WellFormed m → Seated m → IsWithin m →
+    ensures { (m : Lin) → WellFormed m → Seated m → FitsDescriptors m →
         (ds : List Descr) (pieces : Pieces) →
-        length ds ≡ frame_points m.code → IsEmitted m ds pieces → IsLaidOutAs m ds pieces }
+        length ds ≡ frame_point_count m.code → IsEmitted m ds pieces → IsLaidOutAs m ds pieces }
 {}
 
 /// Law: the instructions of a piece, in whatever form and wherever it and its target lie, name as sources that they
@@ -59,5 +59,5 @@ pub fn words_name_registers()
     ensures names { (at to : ℕ) (p : Piece) (form : Form) → NamesAs p (code_to at to p form) }
     ensures decode { (at to : ℕ) (p : Piece) (form : Form) → PieceFits p → at % 4 ≡ 0 →
         at + 4 < 2 ^ 32 →
-        LeadsTo to p → Decodes (map encoded (code_to at to p form)) (code_to at to p form) }
+        HasAlignedTarget to p → Decodes (map encoded (code_to at to p form)) (code_to at to p form) }
 {}

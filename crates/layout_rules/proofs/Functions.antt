@@ -8,10 +8,10 @@ use Rattle.correctness.specs.Bounds.{FillCode}
 use Rattle.image_form.specs.Image.{stub, stub_words, code_limit}
 use Rattle.image_form.specs.Tables.{Func, Tables}
 use Rattle.layout_rules.specs.declared.form.Form.{Form}
-use Rattle.layout_rules.specs.Conditions.{LeadsTo, IsFunctionLaid, CanBeLaid}
-use Rattle.layout_rules.specs.Forms.{words_of, total_words, ReachFrom, Reach, place_of}
-use Rattle.layout_rules.specs.Laid.{address_of_place, entries_from, names_at, function_words, code_from, rows_from, laid_out, AllReach, AreAllForms, IsLaid, IsLaidOut}
-use Rattle.layout_rules.specs.Stands.{StandsAt, Stands}
+use Rattle.layout_rules.specs.Conditions.{HasAlignedTarget, IsFunctionLaid, CanBeLaid}
+use Rattle.layout_rules.specs.Forms.{piece_words, total_words, ReachFrom, Reach, label_word_offset}
+use Rattle.layout_rules.specs.Laid.{address_of_place, function_entries_from, addresses_named_at, function_words, code_from, rows_from, laid_out, AllReach, AreAllForms, IsLaid, IsLaidOut}
+use Rattle.layout_rules.specs.Stands.{FunctionStandsAt, IsFunctionInImage}
 use Rattle.layout_rules.specs.Words.{target_of}
 use Rattle.layout_rules.proofs.Standing.{words_length, pieces_stand}
 use Rattle.rv_pieces.specs.declared.piece.Piece.{Piece}
@@ -24,10 +24,10 @@ forms_length places at [] [] reach = refl
 forms_length places at [] (f ∷ fs) reach = absurd reach
 forms_length places at (p ∷ ps) [] reach = absurd reach
 forms_length places at (p ∷ ps) (f ∷ fs) reach =
-    let rest = forms_length places (at + words_of p f) ps fs reach.1 in omega (arith, rest)
+    let rest = forms_length places (at + piece_words p f) ps fs reach.1 in omega (arith, rest)
 
 -- labels lie at multiples of 4
-pub names_lead : (file : FileTree) (entries : List ℕ) (at : ℕ) (ps : List Piece) (fs : List Form) (p : Piece) → LeadsTo (target_of (names_at file entries at ps fs) p) p
+pub names_lead : (file : FileTree) (entries : List ℕ) (at : ℕ) (ps : List Piece) (fs : List Form) (p : Piece) → HasAlignedTarget (target_of (addresses_named_at file entries at ps fs) p) p
 names_lead file entries at ps fs (Known i) = tt
 names_lead file entries at ps fs (Label l) = tt
 names_lead file entries at ps fs (Branch c a b l) = omega arith
@@ -47,16 +47,16 @@ pub record Found (file : FileTree) (entries starts code : List ℕ) (forms : Lis
   pub reach : Reach p.code of
   pub place : ℕ
   pub entry : slice_get starts k ≡ Some place
-  pub stands : StandsAt file entries code place p of row
+  pub stands : FunctionStandsAt file entries code place p of row
 
 pub function_length : (file : FileTree) (entries : List ℕ) (at : ℕ) (p : Pieces) (fs : List Form) → length (function_words file entries at p.code fs) ≡ total_words p.code fs
-function_length file entries at p fs = words_length (names_at file entries at p.code fs) (address_of_place at) p.code fs
+function_length file entries at p fs = words_length (addresses_named_at file entries at p.code fs) (address_of_place at) p.code fs
 
 pub found : (file : FileTree) (entries : List ℕ) (fs : List FunctionTree) (ps : List Pieces) (forms : List (List Form)) (pre : List ℕ) (at k : ℕ) (p : Pieces) (row : Func) →
     at ≡ length pre → stub_words ≤ at → AllReach ps forms → AllByRecursion (IsFunctionLaid file) ps →
     address_of_place (length (pre ++ code_from file entries at ps forms)) + 4 < 2 ^ 32 →
     slice_get ps k ≡ Some p → slice_get (rows_from at fs ps forms) k ≡ Some row →
-    Found file entries (entries_from at ps forms) (pre ++ code_from file entries at ps forms) forms k p row
+    Found file entries (function_entries_from at ps forms) (pre ++ code_from file entries at ps forms) forms k p row
 found file entries fs [] forms pre at k p row e behind are laid low is row_is = cc
 found file entries fs (q ∷ ps) [] pre at k p row e behind are laid low is row_is = absurd are
 found file entries [] (q ∷ ps) (g ∷ forms) pre at k p row e behind are laid low is row_is = cc
@@ -71,15 +71,15 @@ found file entries (f ∷ fs) (q ∷ ps) (g ∷ forms) pre at zero p row e behin
     let own = function_length file entries at q g in
     let inside : at + total_words q.code g ≤ length code = omega (arith, e, long, both, own) in
     let below : address_of_place (at + total_words q.code g) + 4 < 2 ^ 32 = omega (arith, inside, low) in
-    let length-forms = forms_length (place_of q.code g) 0 q.code g are.0 in
-    let has = pieces_stand (names_at file entries at q.code g) q.code g pre rest at e length-forms below laid.0.fits (names_lead file entries at q.code g) in
-    let here : Found file entries (at ∷ entries_from (at + total_words q.code g) ps forms) code (g ∷ forms) zero q row = record {
+    let length-forms = forms_length (label_word_offset q.code g) 0 q.code g are.0 in
+    let has = pieces_stand (addresses_named_at file entries at q.code g) q.code g pre rest at e length-forms below laid.0.fits (names_lead file entries at q.code g) in
+    let here : Found file entries (at ∷ function_entries_from (at + total_words q.code g) ps forms) code (g ∷ forms) zero q row = record {
       of = g;
       chosen = refl;
       reach = are.0;
       place = at;
       entry = refl;
-      stands = subst (λ r. StandsAt file entries code at q g r) same_row (record {
+      stands = subst (λ r. FunctionStandsAt file entries code at q g r) same_row (record {
         offset = refl;
         words = refl;
         frame = refl;
@@ -88,7 +88,7 @@ found file entries (f ∷ fs) (q ∷ ps) (g ∷ forms) pre at zero p row e behin
         has = has;
       });
     } in
-    subst (λ p. Found file entries (at ∷ entries_from (at + total_words q.code g) ps forms) code (g ∷ forms) zero p row) same here
+    subst (λ p. Found file entries (at ∷ function_entries_from (at + total_words q.code g) ps forms) code (g ∷ forms) zero p row) same here
 found file entries (f ∷ fs) (q ∷ ps) (g ∷ forms) pre at (suc k) p row e behind are laid low is row_is =
     let words = function_words file entries at q.code g in
     let next = at + total_words q.code g in
@@ -104,7 +104,7 @@ found file entries (f ∷ fs) (q ∷ ps) (g ∷ forms) pre at (suc k) p row e be
       reach = later.reach;
       place = later.place;
       entry = later.entry;
-      stands = subst (λ code. StandsAt file entries code later.place p later.of row) assoc later.stands;
+      stands = subst (λ code. FunctionStandsAt file entries code later.place p later.of row) assoc later.stands;
     }
 
 -- ---- the functions fill the code
@@ -143,9 +143,9 @@ row_there (f ∷ fs) (q ∷ ps) (g ∷ forms) at (suc k) p same are is =
 -- Each function is in the image, where its code keeps its limit.
 pub stands : (file : FileTree) (ps : List Pieces) (forms : List (List Form)) (k : ℕ) (p : Pieces) → CanBeLaid file ps → AllReach ps forms →
     4 * length (laid_out file ps forms).code ≤ code_limit → slice_get ps k ≡ Some p →
-    Stands file (entries_from stub_words ps forms) forms (laid_out file ps forms) k p
+    IsFunctionInImage file (function_entries_from stub_words ps forms) forms (laid_out file ps forms) k p
 stands file ps forms k p can are short is =
-    let entries = entries_from stub_words ps forms in
+    let entries = function_entries_from stub_words ps forms in
     let there = row_there (functions file) ps forms stub_words k p can.each_one are is in
     let it = found file entries (functions file) ps forms stub stub_words k p there.0 refl (omega arith) are can.each (omega (arith, short)) is there.1 in
     record { forms = it.of; chosen = it.chosen; reach = it.reach; place = it.place; entry = it.entry; row = there.0; row_is = there.1; stands = it.stands }
@@ -154,7 +154,7 @@ stands file ps forms k p can are short is =
 pub filled : (file : FileTree) (ps : List Pieces) (forms : List (List Form)) → CanBeLaid file ps → AllReach ps forms →
     FillCode (4 * stub_words) (4 * length (laid_out file ps forms).code) (laid_out file ps forms).funcs
 filled file ps forms can are =
-    let entries = entries_from stub_words ps forms in
+    let entries = function_entries_from stub_words ps forms in
     let code = code_from file entries stub_words ps forms in
     let end : 4 * (stub_words + length code) ≡ 4 * length (stub ++ code) = omega (arith, length-append stub code) in
     subst (λ to. FillCode (4 * stub_words) to (rows_from stub_words (functions file) ps forms)) end

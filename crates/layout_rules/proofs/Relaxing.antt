@@ -5,13 +5,13 @@ use Rattle.std.proofs.lemmas.Option.{same_Some}
 use Rattle.std.proofs.lemmas.Bool.{and_parts, and_from}
 use Rattle.layout_rules.specs.declared.form.Form.{Form}
 use Rattle.layout_rules.specs.declared.form.Form.TheVariants.{Near, Middle, Far}
-use Rattle.layout_rules.specs.Forms.{branch_words, jump_words, call_words, words_of, is_label, label_from, place_or_entry, place_of, branch_reaches, jal_reaches, branch_form, jump_form, none_far, needed, rank, SufficeFrom, Suffice, ReachFrom, Reach, NoLonger, AreForms, AllNear, longer, grown_from, ranks}
+use Rattle.layout_rules.specs.Forms.{branch_words, jump_words, call_words, piece_words, is_label_piece, label_from, place_or_entry, label_word_offset, branch_reaches, jal_reaches, branch_form, jump_form, none_far, needed_form, form_rank, SufficeFrom, Suffice, ReachFrom, Reach, NoLonger, AreForms, AllNear, longer, grown_from, ranks}
 use Rattle.rv_pieces.specs.declared.piece.Piece.{Piece}
 use Rattle.rv_pieces.specs.declared.piece.Piece.TheVariants.{Known, Label, Branch, Jump, Row, LabelAddress, Call, TailCall, SymbolAddress, ExternalNumber, Descriptor}
 
 -- ---- a shorter form has no more words
 
-branch_less : (f g : Form) → rank f ≤ rank g → branch_words f ≤ branch_words g
+branch_less : (f g : Form) → form_rank f ≤ form_rank g → branch_words f ≤ branch_words g
 branch_less Near Near h = omega arith
 branch_less Near Middle h = omega arith
 branch_less Near Far h = omega arith
@@ -22,7 +22,7 @@ branch_less Far Near h = absurd (omega (arith, h))
 branch_less Far Middle h = absurd (omega (arith, h))
 branch_less Far Far h = omega arith
 
-jump_less : (f g : Form) → rank f ≤ rank g → jump_words f ≤ jump_words g
+jump_less : (f g : Form) → form_rank f ≤ form_rank g → jump_words f ≤ jump_words g
 jump_less Near Near h = omega arith
 jump_less Near Middle h = omega arith
 jump_less Near Far h = omega arith
@@ -33,7 +33,7 @@ jump_less Far Near h = absurd (omega (arith, h))
 jump_less Far Middle h = absurd (omega (arith, h))
 jump_less Far Far h = omega arith
 
-call_less : (f g : Form) → rank f ≤ rank g → call_words f ≤ call_words g
+call_less : (f g : Form) → form_rank f ≤ form_rank g → call_words f ≤ call_words g
 call_less Near Near h = omega arith
 call_less Near Middle h = omega arith
 call_less Near Far h = omega arith
@@ -44,7 +44,7 @@ call_less Far Near h = absurd (omega (arith, h))
 call_less Far Middle h = absurd (omega (arith, h))
 call_less Far Far h = omega arith
 
-pub words_less : (p : Piece) (f g : Form) → rank f ≤ rank g → words_of p f ≤ words_of p g
+pub words_less : (p : Piece) (f g : Form) → form_rank f ≤ form_rank g → piece_words p f ≤ piece_words p g
 words_less (Known i) f g h = omega arith
 words_less (Label l) f g h = omega arith
 words_less (Branch c a b l) f g h = branch_less f g h
@@ -82,7 +82,7 @@ branch_does : (a b : ℕ) → b < a + 1024 → a ≤ b + 1024 → branch_reaches
 branch_does a b h k =
     and_from (nat_lt b (a + 1024)) (nat_le a (b + 1024)) (lt-ltb b (a + 1024) h) (le-leb a (b + 1024) k)
 
-pub rank_most : (f : Form) → rank f ≤ 2
+pub rank_most : (f : Form) → form_rank f ≤ 2
 rank_most Near = omega arith
 rank_most Middle = omega arith
 rank_most Far = omega arith
@@ -116,33 +116,33 @@ next_nearer a b a' b' near e = elim near.either [
 form_by : Bool → Bool → Form
 form_by near middle = cond near Near (cond middle Middle Far)
 
-form_by_less : (n m n' m' : Bool) → (n' ≡ true → n ≡ true) → (m' ≡ true → m ≡ true) → rank (form_by n m) ≤ rank (form_by n' m')
+form_by_less : (n m n' m' : Bool) → (n' ≡ true → n ≡ true) → (m' ≡ true → m ≡ true) → form_rank (form_by n m) ≤ form_rank (form_by n' m')
 unfolding form_by
 form_by_less true m n' m' near middle = omega arith
 form_by_less false m true m' near middle = let e = near refl in cc
 form_by_less false true false m' near middle = two m'
   where
-    two : (m' : Bool) → 1 ≤ rank (cond m' Middle Far)
+    two : (m' : Bool) → 1 ≤ form_rank (cond m' Middle Far)
     two true = omega arith
     two false = omega arith
 form_by_less false false false true near middle = let e = middle refl in cc
 form_by_less false false false false near middle = omega arith
 
-jump_by_less : (n n' : Bool) → (n' ≡ true → n ≡ true) → rank (cond n Near Far) ≤ rank (cond n' Near Far)
+jump_by_less : (n n' : Bool) → (n' ≡ true → n ≡ true) → form_rank (cond n Near Far) ≤ form_rank (cond n' Near Far)
 jump_by_less true n' near = omega arith
 jump_by_less false true near = let e = near refl in cc
 jump_by_less false false near = omega arith
 
-branch_form_less : (a b a' b' : ℕ) → Nearer a b a' b' → rank (branch_form a b) ≤ rank (branch_form a' b')
+branch_form_less : (a b a' b' : ℕ) → Nearer a b a' b' → form_rank (branch_form a b) ≤ form_rank (branch_form a' b')
 unfolding form_by
 branch_form_less a b a' b' near =
     form_by_less (branch_reaches a b) (jal_reaches (a + 1) b) (branch_reaches a' b') (jal_reaches (a' + 1) b')
     (branch_nearer a b a' b' near) (next_nearer a b a' b' near)
 
-jump_form_less : (a b a' b' : ℕ) → Nearer a b a' b' → rank (jump_form a b) ≤ rank (jump_form a' b')
+jump_form_less : (a b a' b' : ℕ) → Nearer a b a' b' → form_rank (jump_form a b) ≤ form_rank (jump_form a' b')
 jump_form_less a b a' b' near = jump_by_less (jal_reaches a b) (jal_reaches a' b') (jal_nearer a b a' b' near)
 
-needed_less : (far : List ℕ → Bool) (places places' : ℕ → ℕ) (at at' : ℕ) (p : Piece) → ((l : ℕ) → Nearer at (places l) at' (places' l)) → rank (needed far places at p) ≤ rank (needed far places' at' p)
+needed_less : (far : List ℕ → Bool) (places places' : ℕ → ℕ) (at at' : ℕ) (p : Piece) → ((l : ℕ) → Nearer at (places l) at' (places' l)) → form_rank (needed_form far places at p) ≤ form_rank (needed_form far places' at' p)
 needed_less far places places' at at' (Known i) near = omega arith
 needed_less far places places' at at' (Label l) near = omega arith
 needed_less far places places' at at' (Branch c a b l) near = branch_form_less at (places l) at' (places' l) (near l)
@@ -157,7 +157,7 @@ needed_less far places places' at at' (Descriptor d) near = omega arith
 
 -- ---- what suffices where some callees are far reaches all labels
 
-reach_less : (far : List ℕ → Bool) (places : ℕ → ℕ) (at : ℕ) (p : Piece) → rank (needed none_far places at p) ≤ rank (needed far places at p)
+reach_less : (far : List ℕ → Bool) (places : ℕ → ℕ) (at : ℕ) (p : Piece) → form_rank (needed_form none_far places at p) ≤ form_rank (needed_form far places at p)
 reach_less far places at (Known i) = omega arith
 reach_less far places at (Label l) = omega arith
 reach_less far places at (Branch c a b l) = omega arith
@@ -175,10 +175,10 @@ suffice_reach far places at [] [] enough = tt
 suffice_reach far places at [] (f ∷ fs) enough = absurd enough
 suffice_reach far places at (p ∷ ps) [] enough = absurd enough
 suffice_reach far places at (p ∷ ps) (f ∷ fs) enough =
-    (omega (arith, reach_less far places at p, enough.0), suffice_reach far places (at + words_of p f) ps fs enough.1)
+    (omega (arith, reach_less far places at p, enough.0), suffice_reach far places (at + piece_words p f) ps fs enough.1)
 
 pub forms_reach : (far : List ℕ → Bool) (ps : List Piece) (fs : List Form) → Suffice far ps fs → Reach ps fs
-forms_reach far ps fs enough = suffice_reach far (place_of ps fs) 0 ps fs enough
+forms_reach far ps fs enough = suffice_reach far (label_word_offset ps fs) 0 ps fs enough
 
 -- ---- where labels lie while both lists are walked
 
@@ -209,10 +209,10 @@ ahead l at at' (p ∷ ps) [] [] h = tt
 ahead l at at' (p ∷ ps) [] (g ∷ gs) h = absurd h
 ahead l at at' (p ∷ ps) (f ∷ fs) [] h = absurd h
 ahead l at at' (p ∷ ps) (f ∷ fs) (g ∷ gs) h =
-    let w = words_of p f in
-    let w' = words_of p g in
+    let w = piece_words p f in
+    let w' = piece_words p g in
     let later = ahead l (at + w) (at' + w') ps fs gs h.1 in
-    ahead_by (is_label l p) at at' (label_from l (at + w) ps fs) (label_from l (at' + w') ps gs)
+    ahead_by (is_label_piece l p) at at' (label_from l (at + w) ps fs) (label_from l (at' + w') ps gs)
     (ahead_later at at' w w' (label_from l (at + w) ps fs) (label_from l (at' + w') ps gs) (words_less p f g h.0) later)
 
 -- A label is after, or still to come, in both.
@@ -239,17 +239,17 @@ goes_past true l b b' at at' w w' ps fs gs h e e' =
     inl (record { first = omega (arith, same); second = omega (arith, same'); nearer = omega (arith, h, same, same') })
 goes_past false l b b' at at' w w' ps fs gs h e e' = inr (record { first = e; second = e' })
 
-next_knows : (l b b' at at' : ℕ) (p : Piece) (f g : Form) (ps : List Piece) (fs gs : List Form) → rank f ≤ rank g →
+next_knows : (l b b' at at' : ℕ) (p : Piece) (f g : Form) (ps : List Piece) (fs gs : List Form) → form_rank f ≤ form_rank g →
     Knows l b b' at at' (p ∷ ps) (f ∷ fs) (g ∷ gs) →
-    Knows l b b' (at + words_of p f) (at' + words_of p g) ps fs gs
+    Knows l b b' (at + piece_words p f) (at' + piece_words p g) ps fs gs
 unfolding Knows
 next_knows l b b' at at' p f g ps fs gs h (inl k) =
-    let w = words_of p f in
-    let w' = words_of p g in
+    let w = piece_words p f in
+    let w' = piece_words p g in
     let less : w ≤ w' = words_less p f g h in
     inl (record { first = omega (arith, k.first); second = omega (arith, k.second); nearer = omega (arith, less, k.nearer) })
 next_knows l b b' at at' p f g ps fs gs h (inr k) =
-    goes_past (is_label l p) l b b' at at' (words_of p f) (words_of p g) ps fs gs (words_less p f g h) k.first k.second
+    goes_past (is_label_piece l p) l b b' at at' (piece_words p f) (piece_words p g) ps fs gs (words_less p f g h) k.first k.second
 
 coming_nearer : (at at' b b' : ℕ) (o o' : Option ℕ) → o ≡ Some b → o' ≡ Some b' → Ahead at at' o o' → Nearer at b at' b'
 unfolding Ahead
@@ -268,10 +268,10 @@ nearer l b b' at at' ps fs gs h (inr k) =
 
 -- ---- a round
 
-longer_less : (f n g : Form) → rank f ≤ rank g → rank n ≤ rank g → rank (longer f n) ≤ rank g
-longer_less f n g h k = by (nat_lt (rank f) (rank n))
+longer_less : (f n g : Form) → form_rank f ≤ form_rank g → form_rank n ≤ form_rank g → form_rank (longer f n) ≤ form_rank g
+longer_less f n g h k = by (nat_lt (form_rank f) (form_rank n))
   where
-    by : (t : Bool) → rank (cond t n f) ≤ rank g
+    by : (t : Bool) → form_rank (cond t n f) ≤ form_rank g
     by true = k
     by false = h
 
@@ -286,9 +286,9 @@ grown_less far places places' at at' (p ∷ ps) [] gs knows less reach = less
 grown_less far places places' at at' (p ∷ ps) (f ∷ fs) [] knows less reach = absurd reach
 grown_less far places places' at at' (p ∷ ps) (f ∷ fs) (g ∷ gs) knows less reach =
     let near : (l : ℕ) → Nearer at (places l) at' (places' l) = λ l. nearer l (places l) (places' l) at at' (p ∷ ps) (f ∷ fs) (g ∷ gs) less (knows l) in
-    let need : rank (needed far places at p) ≤ rank g = omega (arith, needed_less far places places' at at' p near, reach.0) in (
-      longer_less f (needed far places at p) g less.0 need,
-      grown_less far places places' (at + words_of p f) (at' + words_of p g) ps fs gs
+    let need : form_rank (needed_form far places at p) ≤ form_rank g = omega (arith, needed_less far places places' at at' p near, reach.0) in (
+      longer_less f (needed_form far places at p) g less.0 need,
+      grown_less far places places' (at + piece_words p f) (at' + piece_words p g) ps fs gs
           (λ l. next_knows l (places l) (places' l) at at' p f g ps fs gs less.0 (knows l)) less.1 reach.1,
     )
 
@@ -301,9 +301,9 @@ first_by l ps fs gs (Some b) None e e' a = absurd a
 first_by l ps fs gs (Some b) (Some b') e e' a = inr (record { first = e; second = e' })
 
 -- A round keeps below all forms in which each label is reached.
-pub round_least : (far : List ℕ → Bool) (ps : List Piece) (fs gs : List Form) → NoLonger fs gs → Suffice far ps gs → NoLonger (grown_from far (place_of ps fs) 0 ps fs) gs
+pub round_least : (far : List ℕ → Bool) (ps : List Piece) (fs gs : List Form) → NoLonger fs gs → Suffice far ps gs → NoLonger (grown_from far (label_word_offset ps fs) 0 ps fs) gs
 round_least far ps fs gs less reach =
-    grown_less far (place_of ps fs) (place_of ps gs) 0 0 ps fs gs
+    grown_less far (label_word_offset ps fs) (label_word_offset ps gs) 0 0 ps fs gs
     (λ l. first_by l ps fs gs (label_from l 0 ps fs) (label_from l 0 ps gs) refl refl (ahead l 0 0 ps fs gs less)) less reach
 
 -- ---- the first forms
@@ -315,11 +315,11 @@ no_longer_near far places at [] (f ∷ fs) gs e near reach = absurd (omega (arit
 no_longer_near far places at (p ∷ ps) fs [] e near reach = absurd reach
 no_longer_near far places at (p ∷ ps) [] (g ∷ gs) e near reach = absurd (omega (arith, e))
 no_longer_near far places at (p ∷ ps) (f ∷ fs) (g ∷ gs) e near reach =
-    (rw near.0 (omega arith), no_longer_near far places (at + words_of p g) ps fs gs (omega (arith, e)) near.1 reach.1)
+    (rw near.0 (omega arith), no_longer_near far places (at + piece_words p g) ps fs gs (omega (arith, e)) near.1 reach.1)
 
 -- The shortest forms are below all.
 pub near_least : (far : List ℕ → Bool) (ps : List Piece) (fs : List Form) → length fs ≡ length ps → AllNear fs → (gs : List Form) → Suffice far ps gs → NoLonger fs gs
-near_least far ps fs e near gs reach = no_longer_near far (place_of ps gs) 0 ps fs gs e near reach
+near_least far ps fs e near gs reach = no_longer_near far (label_word_offset ps gs) 0 ps fs gs e near reach
 
 -- ---- a round that changes nothing
 
@@ -331,25 +331,25 @@ pub ranks_most : (fs : List Form) → ranks fs ≤ 2 * length fs
 ranks_most [] = omega arith
 ranks_most (f ∷ fs) = let h = ranks_most fs in let k = rank_most f in omega (arith, h, k)
 
-longer_more : (f n : Form) → rank f ≤ rank (longer f n)
-longer_more f n = by (nat_lt (rank f) (rank n)) refl
+longer_more : (f n : Form) → form_rank f ≤ form_rank (longer f n)
+longer_more f n = by (nat_lt (form_rank f) (form_rank n)) refl
   where
-    by : (t : Bool) → nat_lt (rank f) (rank n) ≡ t → rank f ≤ rank (cond t n f)
-    by true e = let h = ltb-true (rank f) (rank n) e in omega (arith, h)
+    by : (t : Bool) → nat_lt (form_rank f) (form_rank n) ≡ t → form_rank f ≤ form_rank (cond t n f)
+    by true e = let h = ltb-true (form_rank f) (form_rank n) e in omega (arith, h)
     by false e = omega arith
 
-longer_same : (f n : Form) → rank (longer f n) ≤ rank f → (longer f n ≡ f) × (rank n ≤ rank f)
-longer_same f n h = by (nat_lt (rank f) (rank n)) refl h
+longer_same : (f n : Form) → form_rank (longer f n) ≤ form_rank f → (longer f n ≡ f) × (form_rank n ≤ form_rank f)
+longer_same f n h = by (nat_lt (form_rank f) (form_rank n)) refl h
   where
-    by : (t : Bool) → nat_lt (rank f) (rank n) ≡ t → rank (cond t n f) ≤ rank f → (cond t n f ≡ f) × (rank n ≤ rank f)
-    by true e h = let k = ltb-true (rank f) (rank n) e in absurd (omega (arith, h, k))
-    by false e h = (refl, ltb-false (rank f) (rank n) e)
+    by : (t : Bool) → nat_lt (form_rank f) (form_rank n) ≡ t → form_rank (cond t n f) ≤ form_rank f → (cond t n f ≡ f) × (form_rank n ≤ form_rank f)
+    by true e h = let k = ltb-true (form_rank f) (form_rank n) e in absurd (omega (arith, h, k))
+    by false e h = (refl, ltb-false (form_rank f) (form_rank n) e)
 
 pub grown_length : (far : List ℕ → Bool) (places : ℕ → ℕ) (at : ℕ) (ps : List Piece) (fs : List Form) → length fs ≡ length ps → length (grown_from far places at ps fs) ≡ length ps
 grown_length far places at [] fs e = refl
 grown_length far places at (p ∷ ps) [] e = absurd (omega (arith, e))
 grown_length far places at (p ∷ ps) (f ∷ fs) e =
-    let rest = grown_length far places (at + words_of p f) ps fs (omega (arith, e)) in
+    let rest = grown_length far places (at + piece_words p f) ps fs (omega (arith, e)) in
     omega (arith, rest)
 
 pub grown_more : (far : List ℕ → Bool) (places : ℕ → ℕ) (at : ℕ) (ps : List Piece) (fs : List Form) → length fs ≡ length ps → ranks fs ≤ ranks (grown_from far places at ps fs)
@@ -357,8 +357,8 @@ grown_more far places at [] [] e = omega arith
 grown_more far places at [] (f ∷ fs) e = absurd (omega (arith, e))
 grown_more far places at (p ∷ ps) [] e = absurd (omega (arith, e))
 grown_more far places at (p ∷ ps) (f ∷ fs) e =
-    let rest = grown_more far places (at + words_of p f) ps fs (omega (arith, e)) in
-    let own = longer_more f (needed far places at p) in
+    let rest = grown_more far places (at + piece_words p f) ps fs (omega (arith, e)) in
+    let own = longer_more f (needed_form far places at p) in
     omega (arith, rest, own)
 
 pub settled : (far : List ℕ → Bool) (places : ℕ → ℕ) (at : ℕ) (ps : List Piece) (fs : List Form) → length fs ≡ length ps → ranks (grown_from far places at ps fs) ≤ ranks fs → SufficeFrom far places at ps fs
@@ -366,21 +366,21 @@ settled far places at [] [] e h = tt
 settled far places at [] (f ∷ fs) e h = absurd (omega (arith, e))
 settled far places at (p ∷ ps) [] e h = absurd (omega (arith, e))
 settled far places at (p ∷ ps) (f ∷ fs) e h =
-    let more = grown_more far places (at + words_of p f) ps fs (omega (arith, e)) in
-    let own = longer_more f (needed far places at p) in (
-      (longer_same f (needed far places at p) (omega (arith, h, more))).1,
-      settled far places (at + words_of p f) ps fs (omega (arith, e)) (omega (arith, h, own)),
+    let more = grown_more far places (at + piece_words p f) ps fs (omega (arith, e)) in
+    let own = longer_more f (needed_form far places at p) in (
+      (longer_same f (needed_form far places at p) (omega (arith, h, more))).1,
+      settled far places (at + piece_words p f) ps fs (omega (arith, e)) (omega (arith, h, own)),
     )
 
 -- Forms that are below all in which each label is reached, and that a round leaves as they are, are
 -- those of the function.
 pub are_forms : (far : List ℕ → Bool) (ps : List Piece) (fs : List Form) → length fs ≡ length ps → ((gs : List Form) → Suffice far ps gs → NoLonger fs gs) →
-    ranks (grown_from far (place_of ps fs) 0 ps fs) ≤ ranks fs → AreForms far ps fs
-are_forms far ps fs e least h = record { suffice = settled far (place_of ps fs) 0 ps fs e h; least = least }
+    ranks (grown_from far (label_word_offset ps fs) 0 ps fs) ≤ ranks fs → AreForms far ps fs
+are_forms far ps fs e least h = record { suffice = settled far (label_word_offset ps fs) 0 ps fs e h; least = least }
 
 -- ---- there is one such list
 
-same_rank : (f g : Form) → rank f ≤ rank g → rank g ≤ rank f → f ≡ g
+same_rank : (f g : Form) → form_rank f ≤ form_rank g → form_rank g ≤ form_rank f → f ≡ g
 same_rank Near Near h k = refl
 same_rank Near Middle h k = absurd (omega (arith, k))
 same_rank Near Far h k = absurd (omega (arith, k))

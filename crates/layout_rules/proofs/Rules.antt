@@ -8,7 +8,7 @@ use Rattle.image_form.specs.Tables.{Desc}
 use Rattle.layout_rules.specs.declared.form.Form.{Form}
 use Rattle.layout_rules.specs.declared.form.Form.TheVariants.{Near, Middle, Far}
 use Rattle.layout_rules.specs.Conditions.{AreDescriptors, IsDescriptor, IsFunctionLaid, IsRowLaid}
-use Rattle.layout_rules.specs.Forms.{branch_words, jump_words, call_words, words_of, total_words}
+use Rattle.layout_rules.specs.Forms.{branch_words, jump_words, call_words, piece_words, total_words}
 use Rattle.layout_rules.specs.Laid.{rows_from, descs_in, descs_from}
 use Rattle.rv_pieces.specs.declared.piece.Piece.{Piece}
 use Rattle.rv_pieces.specs.declared.piece.Piece.TheVariants.{Known, Label, Branch, Jump, Row, LabelAddress, Call, TailCall, SymbolAddress, ExternalNumber, Descriptor}
@@ -76,23 +76,23 @@ descs_rise prev at behind (Label l ∷ ps) (f ∷ fs) rest are h k rises =
     let same : 4 * (at + (0 + total_words ps fs)) ≡ 4 * (at + 0 + total_words ps fs) = omega arith in
     descs_rise prev (at + 0) behind ps fs rest are (omega (arith, h)) (λ e. let less = k e in omega (arith, less)) (subst (λ n. RisesFrom n rest) same rises)
 descs_rise prev at behind (Known i ∷ ps) (f ∷ fs) rest are h k rises =
-    past_words (words_of (Known i) f) prev at (total_words ps fs) rest (omega arith) h rises (descs_rise prev (at + words_of (Known i) f) true ps fs rest are)
+    past_words (piece_words (Known i) f) prev at (total_words ps fs) rest (omega arith) h rises (descs_rise prev (at + piece_words (Known i) f) true ps fs rest are)
 descs_rise prev at behind (Branch c a b l ∷ ps) (f ∷ fs) rest are h k rises =
-    past_words (words_of (Branch c a b l) f) prev at (total_words ps fs) rest (branch_some f) h rises (descs_rise prev (at + words_of (Branch c a b l) f) true ps fs rest are)
+    past_words (piece_words (Branch c a b l) f) prev at (total_words ps fs) rest (branch_some f) h rises (descs_rise prev (at + piece_words (Branch c a b l) f) true ps fs rest are)
 descs_rise prev at behind (Jump l ∷ ps) (f ∷ fs) rest are h k rises =
-    past_words (words_of (Jump l) f) prev at (total_words ps fs) rest (jump_some f) h rises (descs_rise prev (at + words_of (Jump l) f) true ps fs rest are)
+    past_words (piece_words (Jump l) f) prev at (total_words ps fs) rest (jump_some f) h rises (descs_rise prev (at + piece_words (Jump l) f) true ps fs rest are)
 descs_rise prev at behind (Row l ∷ ps) (f ∷ fs) rest are h k rises =
-    past_words (words_of (Row l) f) prev at (total_words ps fs) rest (omega arith) h rises (descs_rise prev (at + words_of (Row l) f) true ps fs rest are)
+    past_words (piece_words (Row l) f) prev at (total_words ps fs) rest (omega arith) h rises (descs_rise prev (at + piece_words (Row l) f) true ps fs rest are)
 descs_rise prev at behind (LabelAddress r l ∷ ps) (f ∷ fs) rest are h k rises =
-    past_words (words_of (LabelAddress r l) f) prev at (total_words ps fs) rest (omega arith) h rises (descs_rise prev (at + words_of (LabelAddress r l) f) true ps fs rest are)
+    past_words (piece_words (LabelAddress r l) f) prev at (total_words ps fs) rest (omega arith) h rises (descs_rise prev (at + piece_words (LabelAddress r l) f) true ps fs rest are)
 descs_rise prev at behind (Call name ∷ ps) (f ∷ fs) rest are h k rises =
-    past_words (words_of (Call name) f) prev at (total_words ps fs) rest (call_some f) h rises (descs_rise prev (at + words_of (Call name) f) true ps fs rest are)
+    past_words (piece_words (Call name) f) prev at (total_words ps fs) rest (call_some f) h rises (descs_rise prev (at + piece_words (Call name) f) true ps fs rest are)
 descs_rise prev at behind (TailCall name ∷ ps) (f ∷ fs) rest are h k rises =
-    past_words (words_of (TailCall name) f) prev at (total_words ps fs) rest (call_some f) h rises (descs_rise prev (at + words_of (TailCall name) f) true ps fs rest are)
+    past_words (piece_words (TailCall name) f) prev at (total_words ps fs) rest (call_some f) h rises (descs_rise prev (at + piece_words (TailCall name) f) true ps fs rest are)
 descs_rise prev at behind (SymbolAddress r name ∷ ps) (f ∷ fs) rest are h k rises =
-    past_words (words_of (SymbolAddress r name) f) prev at (total_words ps fs) rest (omega arith) h rises (descs_rise prev (at + words_of (SymbolAddress r name) f) true ps fs rest are)
+    past_words (piece_words (SymbolAddress r name) f) prev at (total_words ps fs) rest (omega arith) h rises (descs_rise prev (at + piece_words (SymbolAddress r name) f) true ps fs rest are)
 descs_rise prev at behind (ExternalNumber r row ∷ ps) (f ∷ fs) rest are h k rises =
-    past_words (words_of (ExternalNumber r row) f) prev at (total_words ps fs) rest (omega arith) h rises (descs_rise prev (at + words_of (ExternalNumber r row) f) true ps fs rest are)
+    past_words (piece_words (ExternalNumber r row) f) prev at (total_words ps fs) rest (omega arith) h rises (descs_rise prev (at + piece_words (ExternalNumber r row) f) true ps fs rest are)
 
 pub descs_keep : (len prev at : ℕ) (behind : Bool) (ps : List Piece) (fs : List Form) → 4 ≤ prev → prev ≤ at → (behind ≡ true → prev < at) → AreDescriptors behind ps →
     4 * (at + total_words ps fs) ≤ len → AllByRecursion (IsDesc 2 len) (descs_in at ps fs)
@@ -117,32 +117,32 @@ descs_keep len prev at behind (Descriptor d ∷ ps) (f ∷ fs) m h k are in_code
 descs_keep len prev at behind (Label l ∷ ps) (f ∷ fs) m h k are in_code =
     descs_keep len prev (at + 0) behind ps fs m (omega (arith, h)) (λ e. let less = k e in omega (arith, less)) are (omega (arith, in_code))
 descs_keep len prev at behind (Known i ∷ ps) (f ∷ fs) m h k are in_code =
-    within_words (words_of (Known i) f) prev at (total_words ps fs) len (omega arith) h in_code
-    (λ x y z. descs_keep len prev (at + words_of (Known i) f) true ps fs m x y are z)
+    within_words (piece_words (Known i) f) prev at (total_words ps fs) len (omega arith) h in_code
+    (λ x y z. descs_keep len prev (at + piece_words (Known i) f) true ps fs m x y are z)
 descs_keep len prev at behind (Branch c a b l ∷ ps) (f ∷ fs) m h k are in_code =
-    within_words (words_of (Branch c a b l) f) prev at (total_words ps fs) len (branch_some f) h in_code
-    (λ x y z. descs_keep len prev (at + words_of (Branch c a b l) f) true ps fs m x y are z)
+    within_words (piece_words (Branch c a b l) f) prev at (total_words ps fs) len (branch_some f) h in_code
+    (λ x y z. descs_keep len prev (at + piece_words (Branch c a b l) f) true ps fs m x y are z)
 descs_keep len prev at behind (Jump l ∷ ps) (f ∷ fs) m h k are in_code =
-    within_words (words_of (Jump l) f) prev at (total_words ps fs) len (jump_some f) h in_code
-    (λ x y z. descs_keep len prev (at + words_of (Jump l) f) true ps fs m x y are z)
+    within_words (piece_words (Jump l) f) prev at (total_words ps fs) len (jump_some f) h in_code
+    (λ x y z. descs_keep len prev (at + piece_words (Jump l) f) true ps fs m x y are z)
 descs_keep len prev at behind (Row l ∷ ps) (f ∷ fs) m h k are in_code =
-    within_words (words_of (Row l) f) prev at (total_words ps fs) len (omega arith) h in_code
-    (λ x y z. descs_keep len prev (at + words_of (Row l) f) true ps fs m x y are z)
+    within_words (piece_words (Row l) f) prev at (total_words ps fs) len (omega arith) h in_code
+    (λ x y z. descs_keep len prev (at + piece_words (Row l) f) true ps fs m x y are z)
 descs_keep len prev at behind (LabelAddress r l ∷ ps) (f ∷ fs) m h k are in_code =
-    within_words (words_of (LabelAddress r l) f) prev at (total_words ps fs) len (omega arith) h in_code
-    (λ x y z. descs_keep len prev (at + words_of (LabelAddress r l) f) true ps fs m x y are z)
+    within_words (piece_words (LabelAddress r l) f) prev at (total_words ps fs) len (omega arith) h in_code
+    (λ x y z. descs_keep len prev (at + piece_words (LabelAddress r l) f) true ps fs m x y are z)
 descs_keep len prev at behind (Call name ∷ ps) (f ∷ fs) m h k are in_code =
-    within_words (words_of (Call name) f) prev at (total_words ps fs) len (call_some f) h in_code
-    (λ x y z. descs_keep len prev (at + words_of (Call name) f) true ps fs m x y are z)
+    within_words (piece_words (Call name) f) prev at (total_words ps fs) len (call_some f) h in_code
+    (λ x y z. descs_keep len prev (at + piece_words (Call name) f) true ps fs m x y are z)
 descs_keep len prev at behind (TailCall name ∷ ps) (f ∷ fs) m h k are in_code =
-    within_words (words_of (TailCall name) f) prev at (total_words ps fs) len (call_some f) h in_code
-    (λ x y z. descs_keep len prev (at + words_of (TailCall name) f) true ps fs m x y are z)
+    within_words (piece_words (TailCall name) f) prev at (total_words ps fs) len (call_some f) h in_code
+    (λ x y z. descs_keep len prev (at + piece_words (TailCall name) f) true ps fs m x y are z)
 descs_keep len prev at behind (SymbolAddress r name ∷ ps) (f ∷ fs) m h k are in_code =
-    within_words (words_of (SymbolAddress r name) f) prev at (total_words ps fs) len (omega arith) h in_code
-    (λ x y z. descs_keep len prev (at + words_of (SymbolAddress r name) f) true ps fs m x y are z)
+    within_words (piece_words (SymbolAddress r name) f) prev at (total_words ps fs) len (omega arith) h in_code
+    (λ x y z. descs_keep len prev (at + piece_words (SymbolAddress r name) f) true ps fs m x y are z)
 descs_keep len prev at behind (ExternalNumber r row ∷ ps) (f ∷ fs) m h k are in_code =
-    within_words (words_of (ExternalNumber r row) f) prev at (total_words ps fs) len (omega arith) h in_code
-    (λ x y z. descs_keep len prev (at + words_of (ExternalNumber r row) f) true ps fs m x y are z)
+    within_words (piece_words (ExternalNumber r row) f) prev at (total_words ps fs) len (omega arith) h in_code
+    (λ x y z. descs_keep len prev (at + piece_words (ExternalNumber r row) f) true ps fs m x y are z)
 
 pub all_append : {A : Type 0} (P : A → Type 0) (xs ys : List A) → AllByRecursion P xs → AllByRecursion P ys → AllByRecursion P (xs ++ ys)
 all_append P [] ys a b = b

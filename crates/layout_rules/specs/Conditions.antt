@@ -9,9 +9,9 @@ use Rattle.cmm_tree.specs.Tree.{FunctionTree, FileTree, functions, comps_of}
 use Rattle.cmm_types.specs.Types.{body_type, result_of}
 use Rattle.image_form.specs.Image.{EachNext, IsEntry, IsNextEntry, IsParam, IsResult, IsExt}
 use Rattle.layout_rules.specs.Externals.{externals}
-use Rattle.layout_rules.specs.Forms.{is_label}
+use Rattle.layout_rules.specs.Forms.{is_label_piece}
 use Rattle.lin_ir.specs.declared.descr.Descr.{Descr}
-use Rattle.mach_ir.specs.Acts.{row_of}
+use Rattle.mach_ir.specs.Acts.{external_row}
 use Rattle.mach_ir.specs.declared.op.External as declared
 use Rattle.rv_pieces.specs.Named.{PieceFits, label_named, symbol_named, external_named, has_words}
 use Rattle.rv_pieces.specs.declared.piece.Piece.{Piece}
@@ -21,23 +21,23 @@ use Rattle.rv_pieces.specs.declared.piece.Pieces.{Pieces}
 -- ---- pieces
 
 -- a branch and a jump lead to where an instruction may be
-abbrev pub LeadsTo : ℕ → Piece → Type 0
-LeadsTo to (piece.Branch c a b l) = to % 4 ≡ 0
-LeadsTo to (piece.Jump l) = to % 4 ≡ 0
-LeadsTo to _ = ⊤
+abbrev pub HasAlignedTarget : ℕ → Piece → Type 0
+HasAlignedTarget to (piece.Branch c a b l) = to % 4 ≡ 0
+HasAlignedTarget to (piece.Jump l) = to % 4 ≡ 0
+HasAlignedTarget to _ = ⊤
 
 abbrev pub AllLead : List ℕ → List Piece → Type 0
 AllLead targets [] = ⊤
 AllLead [] (p ∷ ps) = ⊥
-AllLead (to ∷ targets) (p ∷ ps) = LeadsTo to p × AllLead targets ps
+AllLead (to ∷ targets) (p ∷ ps) = HasAlignedTarget to p × AllLead targets ps
 
 -- what a piece names is there: its label once among the pieces, its symbol and its external call in the
 -- file
-pub record IsNamed (file : FileTree) (ps : List Piece) (p : Piece) : Type 0 where
-  pub label : (l : ℕ) → label_named p ≡ Some l → count_by (is_label l) ps ≡ 1
+pub record AreNamesPresent (file : FileTree) (ps : List Piece) (p : Piece) : Type 0 where
+  pub label : (l : ℕ) → label_named p ≡ Some l → count_by (is_label_piece l) ps ≡ 1
   pub symbol : (name : List ℕ) → symbol_named p ≡ Some name → IsSome (value_of_symbol file name)
   pub external : (row : declared.External) → external_named p ≡ Some row →
-      Contains (externals file) (row_of row)
+      Contains (externals file) (external_row row)
 
 -- a descriptor that keeps the rules of images
 pub record IsDescriptor (d : Descr) : Type 0 where
@@ -61,18 +61,18 @@ AreDescriptors behind (_ ∷ ps) = AreDescriptors true ps
 pub record IsFunctionLaid (file : FileTree) (p : Pieces) : Type 0 where
   pub nonempty : 0 < count_by has_words p.code
   pub fits : AllByRecursion PieceFits p.code
-  pub named : AllByRecursion (IsNamed file p.code) p.code
+  pub named : AllByRecursion (AreNamesPresent file p.code) p.code
   pub frame : p.frame % 16 ≡ 0
   pub frame_fits : p.frame < 2 ^ 32
   pub descriptors : AreDescriptors false p.code
 
 -- a piece counts as one, and one more for each entry of a descriptor
-abbrev pub weight : Piece → ℕ
-weight (piece.Descriptor d) = 1 + length d.entries
-weight _ = 1
+abbrev pub piece_weight : Piece → ℕ
+piece_weight (piece.Descriptor d) = 1 + length d.entries
+piece_weight _ = 1
 
 abbrev pub weight_of : List Piece → ℕ
-weight_of ps = sum_by weight ps
+weight_of ps = sum_by piece_weight ps
 
 -- ---- the file
 

@@ -76,20 +76,20 @@ same_row a b =
     && bytes_eq (map comp_byte a.params) (map comp_byte b.params)
     && (ret_byte a.result == ret_byte b.result)
 
-abbrev pub is_among : List External → External → Bool
-is_among [] e = false
-is_among (x ∷ xs) e = same_row x e || is_among xs e
+abbrev pub is_among_externals : List External → External → Bool
+is_among_externals [] e = false
+is_among_externals (x ∷ xs) e = same_row x e || is_among_externals xs e
 
 -- the first of each row, after rows that are there
 abbrev pub firsts_behind : List External → List External → List External
 firsts_behind before [] = before
 firsts_behind before (e ∷ es) =
-    firsts_behind (cond (is_among before e) before (before ++ e ∷ [])) es
+    firsts_behind (cond (is_among_externals before e) before (before ++ e ∷ [])) es
 
 -- the external calls of a file, each row once, in the order of its first use
 abbrev pub externals : FileTree → List External
 externals file = firsts_behind [] (all_calls file)
 
 -- the number of a row
-abbrev pub number_of : List External → External → ℕ
-number_of rows e = position_or_len (λ x. same_row x e) rows
+abbrev pub external_number : List External → External → ℕ
+external_number rows e = position_or_len (λ x. same_row x e) rows

@@ -29,45 +29,45 @@ call_words Near = 2
 call_words Middle = 3
 call_words Far = 3
 
-abbrev pub words_of : Piece → Form → ℕ
-words_of (Known i) form = 1
-words_of (Label l) form = 0
-words_of (Branch c a b l) form = branch_words form
-words_of (Jump l) form = jump_words form
-words_of (Row l) form = 2
-words_of (LabelAddress r l) form = 2
-words_of (Call name) form = call_words form
-words_of (TailCall name) form = call_words form
-words_of (SymbolAddress r name) form = 2
-words_of (ExternalNumber r row) form = 2
-words_of (Descriptor d) form = 0
+abbrev pub piece_words : Piece → Form → ℕ
+piece_words (Known i) form = 1
+piece_words (Label l) form = 0
+piece_words (Branch c a b l) form = branch_words form
+piece_words (Jump l) form = jump_words form
+piece_words (Row l) form = 2
+piece_words (LabelAddress r l) form = 2
+piece_words (Call name) form = call_words form
+piece_words (TailCall name) form = call_words form
+piece_words (SymbolAddress r name) form = 2
+piece_words (ExternalNumber r row) form = 2
+piece_words (Descriptor d) form = 0
 
 -- of pieces, each in its form
 abbrev pub total_words : List Piece → List Form → ℕ
 total_words [] forms = 0
 total_words (p ∷ ps) [] = 0
-total_words (p ∷ ps) (f ∷ forms) = words_of p f + total_words ps forms
+total_words (p ∷ ps) (f ∷ forms) = piece_words p f + total_words ps forms
 
 -- ---- places
 
-abbrev pub is_label : ℕ → Piece → Bool
-is_label l (Label k) = k == l
-is_label l _ = false
+abbrev pub is_label_piece : ℕ → Piece → Bool
+is_label_piece l (Label k) = k == l
+is_label_piece l _ = false
 
 -- the place of a label, where the first of the pieces is at `at`
 abbrev pub label_from : ℕ → ℕ → List Piece → List Form → Option ℕ
 label_from l at [] forms = None
 label_from l at (p ∷ ps) [] = None
 label_from l at (p ∷ ps) (f ∷ forms) =
-    cond (is_label l p) (Some at) (label_from l (at + words_of p f) ps forms)
+    cond (is_label_piece l p) (Some at) (label_from l (at + piece_words p f) ps forms)
 
 abbrev pub place_or_entry : Option ℕ → ℕ
 place_or_entry None = 0
 place_or_entry (Some place) = place
 
 -- the place of a label of the function
-abbrev pub place_of : List Piece → List Form → ℕ → ℕ
-place_of ps forms l = place_or_entry (label_from l 0 ps forms)
+abbrev pub label_word_offset : List Piece → List Form → ℕ → ℕ
+label_word_offset ps forms l = place_or_entry (label_from l 0 ps forms)
 
 -- ---- what reaches
 
@@ -97,17 +97,17 @@ none_far name = false
 
 -- the shortest form in which a piece at this word reaches its label or its callee, where labels
 -- have these places
-abbrev pub needed : (far : List ℕ → Bool) → (places : ℕ → ℕ) → (at : ℕ) → Piece → Form
-needed far places at (Branch c a b l) = branch_form at (places l)
-needed far places at (Jump l) = jump_form at (places l)
-needed far places at (Call name) = call_form (far name)
-needed far places at (TailCall name) = call_form (far name)
-needed far places at _ = Near
+abbrev pub needed_form : (far : List ℕ → Bool) → (places : ℕ → ℕ) → (at : ℕ) → Piece → Form
+needed_form far places at (Branch c a b l) = branch_form at (places l)
+needed_form far places at (Jump l) = jump_form at (places l)
+needed_form far places at (Call name) = call_form (far name)
+needed_form far places at (TailCall name) = call_form (far name)
+needed_form far places at _ = Near
 
-abbrev pub rank : Form → ℕ
-rank Near = 0
-rank Middle = 1
-rank Far = 2
+abbrev pub form_rank : Form → ℕ
+form_rank Near = 0
+form_rank Middle = 1
+form_rank Far = 2
 
 -- each piece is in a form that reaches, where the first is at `at`: in the shortest one that
 -- does or in a longer one
@@ -117,12 +117,12 @@ SufficeFrom far places at [] [] = ⊤
 SufficeFrom far places at [] (f ∷ forms) = ⊥
 SufficeFrom far places at (p ∷ ps) [] = ⊥
 SufficeFrom far places at (p ∷ ps) (f ∷ forms) =
-    (rank (needed far places at p) ≤ rank f)
-    × SufficeFrom far places (at + words_of p f) ps forms
+    (form_rank (needed_form far places at p) ≤ form_rank f)
+    × SufficeFrom far places (at + piece_words p f) ps forms
 
 -- In these forms each branch and jump of the function reaches its label, and each call its callee.
 abbrev pub Suffice : (far : List ℕ → Bool) → List Piece → List Form → Type 0
-Suffice far ps forms = SufficeFrom far (place_of ps forms) 0 ps forms
+Suffice far ps forms = SufficeFrom far (label_word_offset ps forms) 0 ps forms
 
 -- In these forms each branch and jump of the function reaches its label: all that a run needs of
 -- them, since a call in any form comes to its callee.
@@ -137,7 +137,7 @@ abbrev pub NoLonger : List Form → List Form → Type 0
 NoLonger [] [] = ⊤
 NoLonger [] (g ∷ others) = ⊥
 NoLonger (f ∷ forms) [] = ⊥
-NoLonger (f ∷ forms) (g ∷ others) = (rank f ≤ rank g) × NoLonger forms others
+NoLonger (f ∷ forms) (g ∷ others) = (form_rank f ≤ form_rank g) × NoLonger forms others
 
 -- The forms of a function: each branch and jump reaches its label and each call its callee, and
 -- wherever each does, no form is shorter than here.
@@ -149,7 +149,7 @@ pub record AreForms (far : List ℕ → Bool) (ps : List Piece) (forms : List Fo
 
 -- the longer of two forms
 abbrev pub longer : Form → Form → Form
-longer f g = cond (nat_lt (rank f) (rank g)) g f
+longer f g = cond (nat_lt (form_rank f) (form_rank g)) g f
 
 -- each form, or the longer one that its piece needs, where labels have these places
 abbrev pub grown_from :
@@ -157,7 +157,7 @@ abbrev pub grown_from :
 grown_from far places at [] forms = []
 grown_from far places at (p ∷ ps) [] = []
 grown_from far places at (p ∷ ps) (f ∷ forms) =
-    longer f (needed far places at p) ∷ grown_from far places (at + words_of p f) ps forms
+    longer f (needed_form far places at p) ∷ grown_from far places (at + piece_words p f) ps forms
 
 -- every form is the shortest
 abbrev pub AllNear : List Form → Type 0
@@ -166,4 +166,4 @@ AllNear (f ∷ forms) = (f ≡ Near) × AllNear forms
 
 abbrev pub ranks : List Form → ℕ
 ranks [] = 0
-ranks (f ∷ forms) = rank f + ranks forms
+ranks (f ∷ forms) = form_rank f + ranks forms

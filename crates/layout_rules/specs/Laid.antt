@@ -13,9 +13,9 @@ use Rattle.cmm_types.specs.Types.{body_type, result_of}
 use Rattle.image_form.specs.Image.{stub, stub_words}
 use Rattle.image_form.specs.Tables.{Tables, Func, Sym, Desc}
 use Rattle.layout_rules.specs.declared.form.Form.{Form}
-use Rattle.layout_rules.specs.Externals.{externals, number_of}
-use Rattle.layout_rules.specs.Forms.{words_of, total_words, place_of, none_far, AreForms, Reach}
-use Rattle.layout_rules.specs.Words.{Named, words_from}
+use Rattle.layout_rules.specs.Externals.{externals, external_number}
+use Rattle.layout_rules.specs.Forms.{piece_words, total_words, label_word_offset, none_far, AreForms, Reach}
+use Rattle.layout_rules.specs.Words.{NameAddresses, words_from}
 use Rattle.lin_ir.specs.declared.descr.Descr.{Descr}
 use Rattle.rv_machine.specs.Memory.{code_start}
 use Rattle.rv_pieces.specs.declared.piece.Piece.{Piece}
@@ -25,10 +25,10 @@ use Rattle.rv_pieces.specs.declared.piece.Pieces.{Pieces}
 -- ---- places, in words from the start of the code
 
 -- the entries of functions that lie one after the other
-abbrev pub entries_from : ℕ → List Pieces → List (List Form) → List ℕ
-entries_from at [] forms = []
-entries_from at (p ∷ ps) [] = []
-entries_from at (p ∷ ps) (f ∷ forms) = at ∷ entries_from (at + total_words p.code f) ps forms
+abbrev pub function_entries_from : ℕ → List Pieces → List (List Form) → List ℕ
+function_entries_from at [] forms = []
+function_entries_from at (p ∷ ps) [] = []
+function_entries_from at (p ∷ ps) (f ∷ forms) = at ∷ function_entries_from (at + total_words p.code f) ps forms
 
 abbrev pub address_of_place : ℕ → ℕ
 address_of_place place = code_start + 4 * place
@@ -43,11 +43,11 @@ address_of_value entries (Some (Block serial offset)) = 0
 address_of_value entries None = 0
 
 -- what the pieces of a function name, whose entry is at this word
-abbrev pub names_at : FileTree → (entries : List ℕ) → (at : ℕ) → List Piece → List Form → Named
-names_at file entries at ps forms = record {
-  label = λ l. address_of_place (at + place_of ps forms l);
+abbrev pub addresses_named_at : FileTree → (entries : List ℕ) → (at : ℕ) → List Piece → List Form → NameAddresses
+addresses_named_at file entries at ps forms = record {
+  label = λ l. address_of_place (at + label_word_offset ps forms l);
   symbol = λ name. address_of_value entries (value_of_symbol file name);
-  external = number_of (externals file);
+  external = external_number (externals file);
 }
 
 -- ---- code
@@ -55,7 +55,7 @@ names_at file entries at ps forms = record {
 -- the words of a function whose entry is at this word
 abbrev pub function_words : FileTree → (entries : List ℕ) → (at : ℕ) → List Piece → List Form → List ℕ
 function_words file entries at ps forms =
-    words_from (names_at file entries at ps forms) (address_of_place at) ps forms
+    words_from (addresses_named_at file entries at ps forms) (address_of_place at) ps forms
 
 abbrev pub code_from : FileTree → (entries : List ℕ) → (at : ℕ) → List Pieces → List (List Form) →
     List ℕ
@@ -84,15 +84,15 @@ rows_from at _ _ _ = []
 
 -- ---- descriptors
 
-abbrev pub desc_at : (at : ℕ) → Descr → Desc
-desc_at at d = record { after = 4 * at; size = d.size; entries = d.entries }
+abbrev pub descriptor_laid_at : (at : ℕ) → Descr → Desc
+descriptor_laid_at at d = record { after = 4 * at; size = d.size; entries = d.entries }
 
 -- A descriptor's return address is that of the word after it.
 abbrev pub descs_in : (at : ℕ) → List Piece → List Form → List Desc
 descs_in at [] forms = []
 descs_in at (p ∷ ps) [] = []
-descs_in at (Descriptor d ∷ ps) (f ∷ forms) = desc_at at d ∷ descs_in at ps forms
-descs_in at (p ∷ ps) (f ∷ forms) = descs_in (at + words_of p f) ps forms
+descs_in at (Descriptor d ∷ ps) (f ∷ forms) = descriptor_laid_at at d ∷ descs_in at ps forms
+descs_in at (p ∷ ps) (f ∷ forms) = descs_in (at + piece_words p f) ps forms
 
 abbrev pub descs_from : (at : ℕ) → List Pieces → List (List Form) → List Desc
 descs_from at [] forms = []
@@ -123,7 +123,7 @@ sym_of s = record { name = s.name; offset = s.address - data_start }
 -- the descriptors.
 abbrev pub laid_out : FileTree → List Pieces → List (List Form) → Tables
 laid_out file ps forms =
-    let entries : List ℕ = entries_from stub_words ps forms in
+    let entries : List ℕ = function_entries_from stub_words ps forms in
     record {
       version = 2;
       funcs = rows_from stub_words (functions file) ps forms;

@@ -24,15 +24,15 @@ section_bytes_of t Imps = 0
 section_bytes_of t Relo = 0
 
 -- the most bytes of a section's body
-abbrev pub limit_of : declared.Section → ℕ
-limit_of Code = code_limit
-limit_of Data = data_limit
-limit_of _ = table_limit
+abbrev pub section_limit : declared.Section → ℕ
+section_limit Code = code_limit
+section_limit Data = data_limit
+section_limit _ = table_limit
 
-abbrev pub passes_limit : Tables → declared.Section → Bool
-passes_limit t section = nat_lt (limit_of section) (section_bytes_of t section)
+abbrev pub section_passes_limit : Tables → declared.Section → Bool
+section_passes_limit t section = nat_lt (section_limit section) (section_bytes_of t section)
 
 -- the first section that passes its limit, with its bytes
 abbrev pub first_too_large : Tables → Option Large
 first_too_large t =
-    option_map (λ section. record { section = section; bytes = section_bytes_of t section }) (find (passes_limit t) sections)
+    option_map (λ section. record { section = section; bytes = section_bytes_of t section }) (find (section_passes_limit t) sections)

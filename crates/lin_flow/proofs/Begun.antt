@@ -8,7 +8,7 @@ use Rattle.bs_words.specs.declared.types.Loc.{Loc}
 use Rattle.bs_words.specs.declared.types.Loc.TheVariants as loc
 use Rattle.bs_words.proofs.Lists.{none_in, in_cons, drop_none}
 use Rattle.dataflow.specs.declared.flow.Place as place
-use Rattle.mach_ir.specs.Placed.{colours}
+use Rattle.mach_ir.specs.Placed.{colour_numbers}
 use Rattle.lin_ir.specs.Formed.{IsHome, is_colour, is_slot, IsLocation, is_home, is_spare, Locates, AreLocated}
 use Rattle.lin_ir.specs.Walks.{Reached, at_entry}
 use Rattle.lin_ir.specs.declared.lin.Spot.{Spot}
@@ -16,8 +16,8 @@ use Rattle.lin_ir.specs.declared.lin.Lin.{Lin}
 use Rattle.lin_laws.proofs.Reaching.{all_reached}
 use Rattle.lin_laws.specs.Graph.{position, HasNumber, HaveNumbers, AreNumbered}
 use Rattle.lin_laws.specs.declared.position.Position.{Position}
-use Rattle.lin_flow.specs.Nodes.{IsReady, AreWalkedTo, Spread}
-use Rattle.lin_flow.specs.Search.{all_of, AreGrouped, Entered, Starts}
+use Rattle.lin_flow.specs.Nodes.{IsSearchReady, AreWalkedTo, SpreadToAll}
+use Rattle.lin_flow.specs.Search.{all_positions, AreGrouped, PositionEntered, Starts}
 use Rattle.lin_flow.specs.Walked.{IsWalked}
 use Rattle.lin_flow.specs.declared.search.Search.{Search}
 
@@ -33,12 +33,12 @@ from_tests (x ∷ xs) e =
     let p = and_parts (nat_lt x 32) (all_low xs) e in
     All-cons (λ n. n < 32) x xs (ltb-true x 32 p.0) (from_tests xs p.1)
 
-colours_low : All (λ n. n < 32) colours
-colours_low = from_tests colours refl
+colours_low : All (λ n. n < 32) colour_numbers
+colours_low = from_tests colour_numbers refl
 
 home_numbered : (m : Lin) (l : Loc) → IsHome m l → HasNumber m.slots l
 home_numbered m loc.Unset h = elim h [ ]
-home_numbered m (loc.Machine n) (is_colour c) = All-contains (λ n. n < 32) colours n colours_low c
+home_numbered m (loc.Machine n) (is_colour c) = All-contains (λ n. n < 32) colour_numbers n colours_low c
 home_numbered m (loc.Slot k) (is_slot lt) = lt
 
 location_numbered : (m : Lin) (l : Loc) → IsLocation m l → HasNumber m.slots l
@@ -59,17 +59,17 @@ are_numbered m h =
 
 module _ (m : Lin) where
   pub begun_ready : (s0 s1 : Search) (number : ℕ) (nodes : List place.Place) → Starts (length m.code) s0 →
-      Entered s0 s1 (position 0 []) number → nodes ≡ [] → IsReady m s1 nodes
+      PositionEntered s0 s1 (position 0 []) number → nodes ≡ [] → IsSearchReady m s1 nodes
   begun_ready s0 s1 number nodes start entry none =
       record {
         groups = entry.grown.len ∙ start.len;
-        countable = entry.grown.countable (let none : length (all_of s0) ≡ 0 = ap length start.positions in omega (arith, none));
+        countable = entry.grown.countable (let none : length (all_positions s0) ≡ 0 = ap length start.positions in omega (arith, none));
         fewer = (let e : length nodes ≡ 0 = ap length none in omega (arith, e));
         are = λ q x node at is. absurd (let f : None ≡ Some node = subst (λ xs. slice_get xs q ≡ Some node) none is in cc);
       }
 
-  begun_walked : (s0 s1 : Search) (number : ℕ) → Starts (length m.code) s0 → Entered s0 s1 (position 0 []) number →
-      AreWalkedTo m (all_of s1)
+  begun_walked : (s0 s1 : Search) (number : ℕ) → Starts (length m.code) s0 → PositionEntered s0 s1 (position 0 []) number →
+      AreWalkedTo m (all_positions s1)
   begun_walked s0 s1 number start entry =
       record {
         each = λ q x e.
@@ -89,11 +89,11 @@ module _ (m : Lin) where
 
   -- all that walks come to was found
   pub is_walked : (s0 s1 s2 : Search) (number : ℕ) (nodes : List place.Place) → AreNumbered m → Starts (length m.code) s0 →
-      Entered s0 s1 (position 0 []) number → Spread m s1 s2 nodes → IsWalked m s2 nodes
+      PositionEntered s0 s1 (position 0 []) number → SpreadToAll m s1 s2 nodes → IsWalked m s2 nodes
   is_walked s0 s1 s2 number nodes numbered start entry one =
-      let len : length nodes ≡ length (all_of s2) = one.all in
+      let len : length nodes ≡ length (all_positions s2) = one.all in
       let walked = one.spreads.walked (begun_walked s0 s1 number start entry) in
-      let begun : slice_get (all_of s2) number ≡ Some (position 0 []) = one.spreads.kept number (position 0 []) entry.here in
+      let begun : slice_get (all_positions s2) number ≡ Some (position 0 []) = one.spreads.kept number (position 0 []) entry.here in
       record {
         numbered = numbered;
         grouped = one.spreads.grouped (entry.grown.grouped (begun_grouped s0 start));
@@ -102,6 +102,6 @@ module _ (m : Lin) where
         reached = record {
           sound = walked.each;
           complete = λ rest tries r.
-              all_reached m (m.slots + 32) (all_of s2) nodes (omega (arith, len)) one.spreads.ready.are (number, begun) r;
+              all_reached m (m.slots + 32) (all_positions s2) nodes (omega (arith, len)) one.spreads.ready.are (number, begun) r;
         };
       }

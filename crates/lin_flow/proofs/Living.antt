@@ -9,8 +9,8 @@ use Rattle.bs_bits.specs.Set.{has}
 use Rattle.bs_words.specs.Contents.{contents}
 use Rattle.bs_words.specs.declared.types.Comp.TheVariants as comp
 use Rattle.bs_words.proofs.Lists.{none_in, got, same_some}
-use Rattle.dataflow.specs.Flow.{IsPlace, WellFormed}
-use Rattle.dataflow.specs.Rows.{row}
+use Rattle.dataflow.specs.Flow.{IsPlace, IsFlowFormed}
+use Rattle.dataflow.specs.Rows.{set_in_row}
 use Rattle.dataflow.specs.declared.flow.Flow as flow
 use Rattle.dataflow.specs.declared.flow.Place as place
 use Rattle.lin_ir.specs.Walks.{targets, tries_after, Reached, goes, Live, LiveAfter, after_step}
@@ -18,10 +18,10 @@ use Rattle.lin_ir.specs.declared.lin.Line.{Line}
 use Rattle.lin_ir.specs.declared.lin.Lin.{Lin}
 use Rattle.lin_laws.proofs.Places.{drop_is, place_drop, place_target, number_is, number_all}
 use Rattle.lin_laws.proofs.Walking.{step_is, in_steps, to_live, from_live}
-use Rattle.lin_laws.specs.Graph.{loc_of, place_of, place_at, position, steps, steps_at, raise_steps, AreNodes, IsGraphOf}
+use Rattle.lin_laws.specs.Graph.{location_of_number, line_index, place_at, position, steps, steps_at, raise_steps, ArePositionNodes, IsGraphOf}
 use Rattle.lin_laws.specs.declared.position.Position.{Position}
-use Rattle.lin_flow.specs.Live.{ReadsOn, ReadsOnFrom, ReadsOnAmong}
-use Rattle.lin_flow.specs.Search.{all_of, groups_of, members, HasFirst, IsThere}
+use Rattle.lin_flow.specs.Live.{ReadsOnSomewhere, ReadsOnFrom, ReadsOnAmong}
+use Rattle.lin_flow.specs.Search.{all_positions, groups_of, search_members, HasFirst, IsThere}
 use Rattle.lin_flow.specs.Walked.{IsWalked, AreLive, IsReachedAt, IsReadAfter}
 use Rattle.lin_flow.specs.declared.live.LiveWalks.{LiveWalks}
 use Rattle.lin_flow.specs.declared.search.Search.{Search}
@@ -29,7 +29,7 @@ use Rattle.lin_flow.specs.declared.search.Search.{Search}
 -- ---- the table is a graph
 
 module _ (m : Lin) (all : List Position) (f : flow.Flow) (len : length all ≤ length (contents f.places))
-    (are : AreNodes m (m.slots + 32) all (contents f.places)) (at_bound : f.bound ≡ m.slots + 32) where
+    (are : ArePositionNodes m (m.slots + 32) all (contents f.places)) (at_bound : f.bound ≡ m.slots + 32) where
   pub numbers_within : (ns : List ℕ) → ((q : ℕ) → Contains ns q → (y : Position) × (slice_get all q ≡ Some y)) →
       All (λ q. q < length (contents f.places)) ns
   numbers_within ns named = λ k d lt.
@@ -51,17 +51,17 @@ module _ (m : Lin) (all : List Position) (f : flow.Flow) (len : length all ≤ l
       }
 
   pub graph_of : IsGraphOf m all f
-  graph_of = record { len = len; nodes = subst (λ b. AreNodes m b all (contents f.places)) (sym at_bound) are }
+  graph_of = record { len = len; nodes = subst (λ b. ArePositionNodes m b all (contents f.places)) (sym at_bound) are }
 
 pub walks_flow : (m : Lin) (s : Search) (nodes : List place.Place) (f : flow.Flow) → IsWalked m s nodes → contents f.places ≡ nodes →
-    f.bound ≡ m.slots + 32 → WellFormed f
+    f.bound ≡ m.slots + 32 → IsFlowFormed f
 walks_flow m s nodes f walked same at_bound = λ k d lt.
-    let all = all_of s in
+    let all = all_positions s in
     let len_same = ap length same in
     let both = walked.all in
     let len : length all ≤ length (contents f.places) = omega (arith, len_same, both) in
     let x = got all k (omega (arith, lt, len_same, both)) in
-    position_place m all f len (subst (AreNodes m (m.slots + 32) all) (sym same) walked.ready.are) at_bound k x.0
+    position_place m all f len (subst (ArePositionNodes m (m.slots + 32) all) (sym same) walked.ready.are) at_bound k x.0
     (slice_index_or (contents f.places) k d) x.1 (slice_get-get_or (contents f.places) k d lt)
 
 -- ---- what the table says
@@ -72,7 +72,7 @@ is_true false out = absurd (out refl)
 
 module _ (m : Lin) (w : LiveWalks) (h : AreLive m w) where
   abbrev all : List Position
-  all = all_of w.search
+  all = all_positions w.search
 
   abbrev nodes : List place.Place
   nodes = contents w.flow.places
@@ -93,7 +93,7 @@ module _ (m : Lin) (w : LiveWalks) (h : AreLive m w) where
   pub reached_first : (p : ℕ) → p ≤ length m.code → IsReachedAt m p → HasFirst w.search p w.reached
   reached_first p le r =
       let y = h.walked.reached.complete (drop p m.code) r.tries r.reached in
-      let x : Position = position (place_of m (drop p m.code)) r.tries in
+      let x : Position = position (line_index m (drop p m.code)) r.tries in
       let lt : y.0 < length all = slice_get_within all y.0 x y.1 in
       let count = h.count in
       record {
@@ -103,12 +103,12 @@ module _ (m : Lin) (w : LiveWalks) (h : AreLive m w) where
       }
 
   read_behind : (p n q : ℕ) (x : Position) → slice_get all q ≡ Some x → x.place ≡ p → (rest : List Line) → drop x.place m.code ≡ rest →
-      (y : Position) → Contains (steps_at m x.place rest x.tries) y → Live m (loc_of n) comp.Val (drop y.place m.code) y.tries →
-      IsReadAfter m p (loc_of n)
+      (y : Position) → Contains (steps_at m x.place rest x.tries) y → Live m (location_of_number n) comp.Val (drop y.place m.code) y.tries →
+      IsReadAfter m p (location_of_number n)
   read_behind p n q x is at [] e y c v = absurd (none_in y c)
   read_behind p n q x is at (i ∷ next) e y c v =
       let t = step_is m x.place (tries_after i.op x.tries) (targets i.op) y c in
-      let LiveIn : Position → Type 0 = λ y. Live m (loc_of n) comp.Val (drop y.place m.code) y.tries in
+      let LiveIn : Position → Type 0 = λ y. Live m (location_of_number n) comp.Val (drop y.place m.code) y.tries in
       record {
         line = i;
         next = next;
@@ -116,11 +116,11 @@ module _ (m : Lin) (w : LiveWalks) (h : AreLive m w) where
         tries = x.tries;
         reached = subst (λ xs. Reached m xs x.tries) e (h.walked.reached.sound q x is);
         live = after_step (goes t.0 t.1)
-            (subst (λ xs. Live m (loc_of n) comp.Val xs (tries_after i.op x.tries)) (place_target m x.place i next t.0 e)
+            (subst (λ xs. Live m (location_of_number n) comp.Val xs (tries_after i.op x.tries)) (place_target m x.place i next t.0 e)
             (subst LiveIn (sym t.2) v));
       }
 
-  pub reads_on : (p n : ℕ) → ReadsOn w p n → IsReadAfter m p (loc_of n)
+  pub reads_on : (p n : ℕ) → ReadsOnSomewhere w p n → IsReadAfter m p (location_of_number n)
   reads_on p n r =
       let q = r.position in
       let x = r.from.there.found in
@@ -131,7 +131,7 @@ module _ (m : Lin) (w : LiveWalks) (h : AreLive m w) where
       read_behind p n q x r.from.there.is r.from.there.place (drop x.place m.code) refl to.0 to.1
       (to_live m all w.flow graph_is n before.0 r.from.on.position to.0 to.2 before.1)
 
-  pub on_reads : (p n : ℕ) → IsReadAfter m p (loc_of n) → ReadsOn w p n
+  pub on_reads : (p n : ℕ) → IsReadAfter m p (location_of_number n) → ReadsOnSomewhere w p n
   on_reads p n r = by r.live
     where
       x : Position
@@ -143,7 +143,7 @@ module _ (m : Lin) (w : LiveWalks) (h : AreLive m w) where
           let lt = d.0 in
           let le : p ≤ length m.code = omega (arith, lt) in
           let y = h.walked.reached.complete (r.line ∷ r.next) r.tries r.reached in
-          let at : place_of m (r.line ∷ r.next) ≡ p = ap (λ xs. length m.code - length xs) (sym r.at) ∙ place_drop p m.code le in
+          let at : line_index m (r.line ∷ r.next) ≡ p = ap (λ xs. length m.code - length xs) (sym r.at) ∙ place_drop p m.code le in
           (y.0, y.1 ∙ ap (λ k. Some (position k r.tries)) at)
 
       node : (node : place.Place) × (slice_get nodes here.0 ≡ Some node)
@@ -152,7 +152,7 @@ module _ (m : Lin) (w : LiveWalks) (h : AreLive m w) where
           let both = h.walked.all in
           got nodes here.0 (omega (arith, lt, both))
 
-      by : LiveAfter m (loc_of n) comp.Val r.line r.next r.tries → ReadsOn w p n
+      by : LiveAfter m (location_of_number n) comp.Val r.line r.next r.tries → ReadsOnSomewhere w p n
       by (after_step (goes t o) v) =
           let k = h.walked.ready.are here.0 x node.0 here.1 node.1 in
           let y : Position = position (place_at m p t) (tries_after r.line.op r.tries) in
@@ -175,15 +175,15 @@ module _ (m : Lin) (w : LiveWalks) (h : AreLive m w) where
 
 -- none of the first is live
 pub none_live : (w : LiveWalks) (items : List ℕ) (i n : ℕ) → length items ≤ i →
-    ((k : ℕ) → k < i → has (row w.live.rows.items (slice_index items k)) n ≡ true → ⊥) → ReadsOnAmong w items n → ⊥
+    ((k : ℕ) → k < i → has (set_in_row w.live.rows.items (slice_index items k)) n ≡ true → ⊥) → ReadsOnAmong w items n → ⊥
 none_live w items i n le none r =
     let c = r.among in
     let lt = c.1 in
     let at : slice_index items c.0 ≡ r.position = get_or_default items c.0 0 r.position lt ∙ c.2 in
-    none c.0 (omega (arith, lt, le)) (ap (λ k. has (row w.live.rows.items k) n) at ∙ r.live)
+    none c.0 (omega (arith, lt, le)) (ap (λ k. has (set_in_row w.live.rows.items k) n) at ∙ r.live)
 
-pub none_on : (w : LiveWalks) (p n : ℕ) (items : List ℕ) (i : ℕ) → length items ≤ i → items ≡ members (groups_of w.search) p →
-    ((k : ℕ) → k < i → ReadsOnFrom w p n (slice_index items k) → ⊥) → ReadsOn w p n → ⊥
+pub none_on : (w : LiveWalks) (p n : ℕ) (items : List ℕ) (i : ℕ) → length items ≤ i → items ≡ search_members (groups_of w.search) p →
+    ((k : ℕ) → k < i → ReadsOnFrom w p n (slice_index items k) → ⊥) → ReadsOnSomewhere w p n → ⊥
 none_on w p n items i le is none r =
     let c : Contains items r.position = subst (λ xs. Contains xs r.position) (sym is) r.member in
     let lt = c.1 in
@@ -191,11 +191,11 @@ none_on w p n items i le is none r =
     none c.0 (omega (arith, lt, le)) (subst (ReadsOnFrom w p n) (sym at) r.from)
 
 pub some_live : (w : LiveWalks) (items : List ℕ) (i n : ℕ) → i < length items →
-    has (row w.live.rows.items (slice_index items i)) n ≡ true → ReadsOnAmong w items n
+    has (set_in_row w.live.rows.items (slice_index items i)) n ≡ true → ReadsOnAmong w items n
 some_live w items i n lt e = record { position = slice_index items i; among = Contains-get_or items i 0 lt; live = e }
 
-pub some_on : (w : LiveWalks) (p n : ℕ) (items : List ℕ) (i : ℕ) → i < length items → items ≡ members (groups_of w.search) p →
-    ReadsOnFrom w p n (slice_index items i) → ReadsOn w p n
+pub some_on : (w : LiveWalks) (p n : ℕ) (items : List ℕ) (i : ℕ) → i < length items → items ≡ search_members (groups_of w.search) p →
+    ReadsOnFrom w p n (slice_index items i) → ReadsOnSomewhere w p n
 some_on w p n items i lt is from =
     record {
       position = slice_index items i;

@@ -9,24 +9,24 @@ use Rattle.lin_laws.specs.Graph.{position, AreNumbersOf}
 use Rattle.lin_laws.specs.declared.position.Position.{Position}
 use Rattle.bs_words.proofs.Lists.{first_in, pushed_kept, pushed_here, pushed_cases}
 use Rattle.lin_flow.specs.Nodes.{Landed}
-use Rattle.lin_flow.specs.Search.{all_of, groups_of, members, HasMember, AreGrouped, Grown, Entered, IsThere, HasFirst}
+use Rattle.lin_flow.specs.Search.{all_positions, groups_of, search_members, HasMember, AreGrouped, Grown, PositionEntered, IsThere, HasFirst}
 use Rattle.lin_flow.specs.declared.search.Group as group
 use Rattle.lin_flow.specs.declared.search.Search.{Search}
 
 -- ---- groups
 
-members_same : (gs : List group.Group) (k : ℕ) (g : group.Group) → k < length gs → members (set gs k g) k ≡ g.members.items
+members_same : (gs : List group.Group) (k : ℕ) (g : group.Group) → k < length gs → search_members (set gs k g) k ≡ g.members.items
 members_same gs k g within =
     let f : group.Group → List ℕ = λ x. x.members.items in
     let w : k < length (map f gs) = omega (arith, length-map gs f, within) in
     ap (λ (l : List (List ℕ)). get_or l k []) (map-set f gs k g) ∙ get_or-set_same (map f gs) k (f g) [] w
 
-members_other : (gs : List group.Group) (k j : ℕ) (g : group.Group) → j ≢ k → members (set gs k g) j ≡ members gs j
+members_other : (gs : List group.Group) (k j : ℕ) (g : group.Group) → j ≢ k → search_members (set gs k g) j ≡ search_members gs j
 members_other gs k j g ne =
     let f : group.Group → List ℕ = λ x. x.members.items in
     ap (λ (l : List (List ℕ)). get_or l j []) (map-set f gs k g) ∙ get_or-set_other (map f gs) k j (f g) [] ne
 
-members_read : (gs : List group.Group) (k : ℕ) (g : group.Group) → k < length gs → g ≡ get_or gs k g → members gs k ≡ g.members.items
+members_read : (gs : List group.Group) (k : ℕ) (g : group.Group) → k < length gs → g ≡ get_or gs k g → search_members gs k ≡ g.members.items
 members_read gs k g within read =
     let f : group.Group → List ℕ = λ x. x.members.items in
     get_or-map f gs k g [] within ∙ ap f (sym read)
@@ -34,51 +34,51 @@ members_read gs k g within read =
 pub has_member : (old new : List group.Group) (k member : ℕ) (g g' : group.Group) → k < length old → g ≡ get_or old k g →
     g'.members.items ≡ g.members.items ++ member ∷ [] → new ≡ set old k g' → HasMember old new k member
 has_member old new k member g g' within read more is =
-    let here : members new k ≡ members old k ++ member ∷ [] =
-    ap (λ (l : List group.Group). members l k) is
+    let here : search_members new k ≡ search_members old k ++ member ∷ [] =
+    ap (λ (l : List group.Group). search_members l k) is
     ∙ (members_same old k g' within ∙ (more ∙ ap (λ (l : List ℕ). l ++ member ∷ []) (sym (members_read old k g within read)))) in
     record {
       len = ap length is ∙ length-set old k g';
       kept = λ j q c.
           ⊎_elim
           (λ (e : j ≡ k).
-          subst (λ n. Contains (members new n) q) (sym e)
+          subst (λ n. Contains (search_members new n) q) (sym e)
           (subst (λ xs. Contains xs q) (sym here)
-          (Contains-append_left (members old k) (member ∷ []) q (subst (λ n. Contains (members old n) q) e c))))
+          (Contains-append_left (search_members old k) (member ∷ []) q (subst (λ n. Contains (search_members old n) q) e c))))
           (λ (ne : j ≢ k).
-          subst (λ xs. Contains xs q) (sym (ap (λ (l : List group.Group). members l j) is ∙ members_other old k j g' ne)) c)
+          subst (λ xs. Contains xs q) (sym (ap (λ (l : List group.Group). search_members l j) is ∙ members_other old k j g' ne)) c)
           (cases_eq j k);
-      here = subst (λ xs. Contains xs member) (sym here) (Contains-push (members old k) member);
+      here = subst (λ xs. Contains xs member) (sym here) (Contains-push (search_members old k) member);
     }
 
 -- ---- one more position
 
-pub entered_new : (old new : Search) (y : Position) (number : ℕ) → length (all_of old) < 4294967295 → all_of new ≡ all_of old ++ y ∷ [] →
-    number ≡ length (all_of old) → HasMember (groups_of old) (groups_of new) y.place number → Entered old new y number
+pub entered_new : (old new : Search) (y : Position) (number : ℕ) → length (all_positions old) < 4294967295 → all_positions new ≡ all_positions old ++ y ∷ [] →
+    number ≡ length (all_positions old) → HasMember (groups_of old) (groups_of new) y.place number → PositionEntered old new y number
 entered_new old new y number few is at has =
     record {
       grown = record {
-        kept = λ q x e. subst (λ xs. slice_get xs q ≡ Some x) (sym is) (pushed_kept (all_of old) y x q e);
+        kept = λ q x e. subst (λ xs. slice_get xs q ≡ Some x) (sym is) (pushed_kept (all_positions old) y x q e);
         fresh = λ q x e.
             ⊎_elim (λ f. inl f) (λ f. inr (subst (λ z. Contains (y ∷ []) z) f.1 (first_in y [])))
-            (pushed_cases (all_of old) y x q (subst (λ xs. slice_get xs q ≡ Some x) is e));
+            (pushed_cases (all_positions old) y x q (subst (λ xs. slice_get xs q ≡ Some x) is e));
         len = has.len;
         grouped = λ g. record {
           grouped = λ q x e.
               ⊎_elim (λ f. has.kept x.place q (g.grouped q x f))
               (λ f.
-              subst (λ (z : Position). Contains (members (groups_of new) z.place) q) f.1
-              (subst (λ k. Contains (members (groups_of new) y.place) k) (at ∙ sym f.0) has.here))
-              (pushed_cases (all_of old) y x q (subst (λ xs. slice_get xs q ≡ Some x) is e));
+              subst (λ (z : Position). Contains (search_members (groups_of new) z.place) q) f.1
+              (subst (λ k. Contains (search_members (groups_of new) y.place) k) (at ∙ sym f.0) has.here))
+              (pushed_cases (all_positions old) y x q (subst (λ xs. slice_get xs q ≡ Some x) is e));
         };
-        countable = λ c. let len : length (all_of new) ≡ length (all_of old) + 1 = ap length is ∙ length_push (all_of old) y in omega (arith, len, few);
+        countable = λ c. let len : length (all_positions new) ≡ length (all_positions old) + 1 = ap length is ∙ length_push (all_positions old) y in omega (arith, len, few);
       };
       here = subst (λ xs. slice_get xs number ≡ Some y) (sym is)
-          (subst (λ k. slice_get (all_of old ++ y ∷ []) k ≡ Some y) (sym at) (pushed_here (all_of old) y));
+          (subst (λ k. slice_get (all_positions old ++ y ∷ []) k ≡ Some y) (sym at) (pushed_here (all_positions old) y));
     }
 
 -- a position that had a number
-pub entered_old : (s : Search) (y : Position) (number : ℕ) → slice_get (all_of s) number ≡ Some y → Entered s s y number
+pub entered_old : (s : Search) (y : Position) (number : ℕ) → slice_get (all_positions s) number ≡ Some y → PositionEntered s s y number
 entered_old s y number e =
     record {
       grown = record { kept = λ q x f. f; fresh = λ q x f. inl f; len = refl; grouped = λ g. g; countable = λ c. c };
@@ -107,8 +107,8 @@ grown_then a b c ys zs g h =
       countable = λ k. h.countable (g.countable k);
     }
 
-pub numbers_kept : (a b : Search) (ns : List ℕ) (ys zs : List Position) → Grown a b zs → AreNumbersOf (all_of a) ns ys →
-    AreNumbersOf (all_of b) ns ys
+pub numbers_kept : (a b : Search) (ns : List ℕ) (ys zs : List Position) → Grown a b zs → AreNumbersOf (all_positions a) ns ys →
+    AreNumbersOf (all_positions b) ns ys
 numbers_kept a b ns ys zs g h =
     record { len = h.len; each = λ k d lt. g.kept (slice_index ns k) (get_or ys k d) (h.each k d lt) }
 
@@ -136,14 +136,14 @@ numbers_push all ns ys n y h e =
 
 pub record Entering (old now : Search) (places tries : List ℕ) (i : ℕ) (ns : List ℕ) : Type 0 where
   pub grown : Grown old now (map (λ p. position p tries) (take i places))
-  pub numbers : AreNumbersOf (all_of now) ns (map (λ p. position p tries) (take i places))
+  pub numbers : AreNumbersOf (all_positions now) ns (map (λ p. position p tries) (take i places))
 
 pub entering_none : (s : Search) (places tries ns : List ℕ) → ns ≡ [] → Entering s s places tries 0 ns
 entering_none s places tries ns e =
     record { grown = grown_none s; numbers = record { len = ap length e; each = λ k d lt. absurd (omega (arith, lt)) } }
 
 pub entering_more : (old now new : Search) (places tries : List ℕ) (i p number : ℕ) (ns ms : List ℕ) → i < length places →
-    p ≡ get_or places i 0 → Entering old now places tries i ns → Entered now new (position p tries) number →
+    p ≡ get_or places i 0 → Entering old now places tries i ns → PositionEntered now new (position p tries) number →
     ms ≡ ns ++ number ∷ [] → Entering old new places tries (i + 1) ms
 entering_more old now new places tries i p number ns ms lt e h k is =
     let f : ℕ → Position = λ p. position p tries in
@@ -152,30 +152,30 @@ entering_more old now new places tries i p number ns ms lt e h k is =
     ∙ ap (map f) (sym (take_more places i 0 lt)) in
     record {
       grown = subst (Grown old new) more (grown_then old now new (map f (take i places)) (f p ∷ []) h.grown k.grown);
-      numbers = subst (AreNumbersOf (all_of new) ms) more
-          (subst (λ xs. AreNumbersOf (all_of new) xs (map f (take i places) ++ f p ∷ [])) (sym is)
-          (numbers_push (all_of new) ns (map f (take i places)) number (f p)
+      numbers = subst (AreNumbersOf (all_positions new) ms) more
+          (subst (λ xs. AreNumbersOf (all_positions new) xs (map f (take i places) ++ f p ∷ [])) (sym is)
+          (numbers_push (all_positions new) ns (map f (take i places)) number (f p)
           (numbers_kept now new ns (map f (take i places)) (f p ∷ []) k.grown h.numbers) k.here));
     }
 
 pub entering_all : (old new : Search) (places tries : List ℕ) (i : ℕ) (ns : List ℕ) → length places ≤ i →
     Entering old new places tries i ns →
-    Grown old new (map (λ p. position p tries) places) × AreNumbersOf (all_of new) ns (map (λ p. position p tries) places)
+    Grown old new (map (λ p. position p tries) places) × AreNumbersOf (all_positions new) ns (map (λ p. position p tries) places)
 entering_all old new places tries i ns le h =
     let all = take_all i places le in (
       subst (λ xs. Grown old new (map (λ p. position p tries) xs)) all h.grown,
-      subst (λ xs. AreNumbersOf (all_of new) ns (map (λ p. position p tries) xs)) all h.numbers,
+      subst (λ xs. AreNumbersOf (all_positions new) ns (map (λ p. position p tries) xs)) all h.numbers,
     )
 
 -- ---- the first positions
 
-pub none_first : (s : Search) (p first : ℕ) (items : List ℕ) (i : ℕ) → length items ≤ i → items ≡ members (groups_of s) p →
+pub none_first : (s : Search) (p first : ℕ) (items : List ℕ) (i : ℕ) → length items ≤ i → items ≡ search_members (groups_of s) p →
     ((k : ℕ) → k < i → slice_index items k < first → IsThere s p (slice_index items k) → ⊥) → AreGrouped s → HasFirst s p first → ⊥
 none_first s p first items i le is none g h =
     let there = h.there in
     let c : Contains items h.number =
     subst (λ xs. Contains xs h.number) (sym is)
-    (subst (λ k. Contains (members (groups_of s) k) h.number) there.place (g.grouped h.number there.found there.is)) in
+    (subst (λ k. Contains (search_members (groups_of s) k) h.number) there.place (g.grouped h.number there.found there.is)) in
     let lt = c.1 in
     let at : slice_index items c.0 ≡ h.number = get_or_default items c.0 0 h.number lt ∙ c.2 in
     none c.0 (omega (arith, lt, le)) (subst (λ k. k < first) (sym at) h.below) (subst (λ k. IsThere s p k) (sym at) there)
@@ -184,11 +184,11 @@ pub landed_none : (s : Search) (ns : List ℕ) → ns ≡ [] → Landed s s [] n
 landed_none s ns e =
     record { grown = grown_none s; numbers = record { len = ap length e; each = λ k d lt. absurd (omega (arith, lt)) } }
 
-pub landed_one : (s new : Search) (y : Position) (number : ℕ) (ns ms : List ℕ) → ns ≡ [] → Entered s new y number →
+pub landed_one : (s new : Search) (y : Position) (number : ℕ) (ns ms : List ℕ) → ns ≡ [] → PositionEntered s new y number →
     ms ≡ ns ++ number ∷ [] → Landed s new (y ∷ []) ms
 landed_one s new y number ns ms e k is =
     record {
       grown = k.grown;
-      numbers = subst (λ xs. AreNumbersOf (all_of new) xs (y ∷ [])) (sym is)
-          (numbers_push (all_of new) ns [] number y (record { len = ap length e; each = λ j d lt. absurd (omega (arith, lt)) }) k.here);
+      numbers = subst (λ xs. AreNumbersOf (all_positions new) xs (y ∷ [])) (sym is)
+          (numbers_push (all_positions new) ns [] number y (record { len = ap length e; each = λ j d lt. absurd (omega (arith, lt)) }) k.here);
     }

@@ -16,42 +16,42 @@ use Rattle.lin_ir.specs.declared.lin.Line.{Line}
 use Rattle.lin_ir.specs.declared.lin.Lin.{Lin}
 use Rattle.lin_laws.proofs.Numbers.{number_below, are_reads, are_writes}
 use Rattle.lin_laws.proofs.Reaching.{steps_reached, raises_reached}
-use Rattle.lin_laws.specs.Graph.{place_at, position, steps, steps_at, raise_steps, raises_at, landing, HaveNumbers, AreNumbered, AreNumbersOf, AreReads, AreWrites, IsNode, AreNodes}
+use Rattle.lin_laws.specs.Graph.{place_at, position, steps, steps_at, raise_steps, raises_at, landing, HaveNumbers, AreNumbered, AreNumbersOf, AreReads, AreWritesAt, IsPositionNode, ArePositionNodes}
 use Rattle.lin_laws.specs.Numbers.{val_numbers, written_numbers}
 use Rattle.lin_laws.specs.declared.position.Position.{Position}
 use Rattle.lin_flow.proofs.Searching.{grown_then, grown_none, numbers_kept}
-use Rattle.lin_flow.specs.Labels.{place_in, AreLabelsOf}
+use Rattle.lin_flow.specs.Labels.{line_of_label, AreLabelsOf}
 use Rattle.mach_ir.specs.Labels.{place_to}
-use Rattle.lin_flow.specs.Nodes.{landing_to, steps_to, Landed, IsText, IsNodeOfLine, Visited, IsReady, AreWalkedTo, Spreads}
-use Rattle.lin_flow.specs.Search.{all_of, groups_of, Grown, AreCountable}
+use Rattle.lin_flow.specs.Nodes.{landing_to, steps_to, Landed, IsText, IsNodeOfLine, VisitedPosition, IsSearchReady, AreWalkedTo, Spreads}
+use Rattle.lin_flow.specs.Search.{all_positions, groups_of, Grown, AreCountable}
 use Rattle.lin_flow.specs.Sizes.{IsCountable, HaveSmall}
 use Rattle.lin_flow.specs.declared.labels.Labels.{Labels}
 use Rattle.lin_flow.specs.declared.search.Search.{Search}
 
 -- ---- places
 
-pub places_within : (labels : Labels) (p count : ℕ) → ((l : ℕ) → place_in labels l < count) → suc p < count → (ts : List Target) →
-    All (λ q. q < count) (map (place_to (place_in labels) p) ts)
+pub places_within : (labels : Labels) (p count : ℕ) → ((l : ℕ) → line_of_label labels l < count) → suc p < count → (ts : List Target) →
+    All (λ q. q < count) (map (place_to (line_of_label labels) p) ts)
 places_within labels p count in_labels next [] = All-nil (λ q. q < count)
 places_within labels p count in_labels next (On ∷ ts) =
-    All-cons (λ q. q < count) (suc p) (map (place_to (place_in labels) p) ts) next (places_within labels p count in_labels next ts)
+    All-cons (λ q. q < count) (suc p) (map (place_to (line_of_label labels) p) ts) next (places_within labels p count in_labels next ts)
 places_within labels p count in_labels next (At l ∷ ts) =
-    All-cons (λ q. q < count) (place_in labels l) (map (place_to (place_in labels) p) ts) (in_labels l) (places_within labels p count in_labels next ts)
+    All-cons (λ q. q < count) (line_of_label labels l) (map (place_to (line_of_label labels) p) ts) (in_labels l) (places_within labels p count in_labels next ts)
 
 pub labels_within : (m : Lin) (labels : Labels) (count : ℕ) → AreLabelsOf m labels → count ≡ suc (length m.code) → (l : ℕ) →
-    place_in labels l < count
+    line_of_label labels l < count
 labels_within m labels count is len l = let e = is.each l in omega (arith, e, len)
 
 module _ (m : Lin) (labels : Labels) (is : AreLabelsOf m labels) where
-  step_same : (p : ℕ) (t : Target) → place_to (place_in labels) p t ≡ place_at m p t
+  step_same : (p : ℕ) (t : Target) → place_to (line_of_label labels) p t ≡ place_at m p t
   step_same p On = refl
   step_same p (At l) = is.each l
 
   steps_of : (p : ℕ) (tries : List ℕ) (ts : List Target) →
-      map (λ q. position q tries) (map (place_to (place_in labels) p) ts) ≡ map (λ t. position (place_at m p t) tries) ts
+      map (λ q. position q tries) (map (place_to (line_of_label labels) p) ts) ≡ map (λ t. position (place_at m p t) tries) ts
   steps_of p tries [] = refl
   steps_of p tries (t ∷ ts) =
-      ap (λ q. position q tries ∷ map (λ q. position q tries) (map (place_to (place_in labels) p) ts)) (step_same p t)
+      ap (λ q. position q tries ∷ map (λ q. position q tries) (map (place_to (line_of_label labels) p) ts)) (step_same p t)
       ∙ ap (λ ys. position (place_at m p t) tries ∷ ys) (steps_of p tries ts)
 
   landing_same : (b : Bool) (tries : List ℕ) → landing_to labels b tries ≡ landing m b tries
@@ -61,17 +61,17 @@ module _ (m : Lin) (labels : Labels) (is : AreLabelsOf m labels) where
 
 -- ---- the place of a line
 
-pub all_within : (labels : Labels) (p count : ℕ) (ts : List Target) (ps slice : List ℕ) → slice ≡ ps → ps ≡ map (place_to (place_in labels) p) ts →
-    ((l : ℕ) → place_in labels l < count) → suc p < count → All (λ q. q < count) slice
+pub all_within : (labels : Labels) (p count : ℕ) (ts : List Target) (ps slice : List ℕ) → slice ≡ ps → ps ≡ map (place_to (line_of_label labels) p) ts →
+    ((l : ℕ) → line_of_label labels l < count) → suc p < count → All (λ q. q < count) slice
 all_within labels p count ts ps slice e f in_labels next =
     subst (All (λ q. q < count)) (sym (e ∙ f)) (places_within labels p count in_labels next ts)
 
 pub node_of : (labels : Labels) (old mid new : Search) (i : Line) (p : ℕ) (tries after places : List ℕ) (node : place.Place) →
-    after ≡ tries_after i.op tries → places ≡ map (place_to (place_in labels) p) (targets i.op) →
+    after ≡ tries_after i.op tries → places ≡ map (place_to (line_of_label labels) p) (targets i.op) →
     Grown old mid (map (λ q. position q after) places) →
-    AreNumbersOf (all_of mid) (contents node.next) (map (λ q. position q after) places) →
+    AreNumbersOf (all_positions mid) (contents node.next) (map (λ q. position q after) places) →
     Grown mid new (landing_to labels (may_raise i.op) tries) →
-    AreNumbersOf (all_of new) (contents node.aside) (landing_to labels (may_raise i.op) tries) →
+    AreNumbersOf (all_positions new) (contents node.aside) (landing_to labels (may_raise i.op) tries) →
     contents node.reads ≡ val_numbers i.args → contents node.writes ≡ written_numbers i →
     IsNodeOfLine labels old new i p tries node
 node_of labels old mid new i p tries after places node e f g next h aside reads writes =
@@ -80,7 +80,7 @@ node_of labels old mid new i p tries after places node e f g next h aside reads 
     let landed = landing_to labels (may_raise i.op) tries in
     record {
       grown = grown_then old mid new (steps_to labels i p tries) landed (subst (Grown old mid) same g) h;
-      next = subst (AreNumbersOf (all_of new) (contents node.next)) same
+      next = subst (AreNumbersOf (all_positions new) (contents node.next)) same
           (numbers_kept mid new (contents node.next) (map (λ q. position q after) places) landed h next);
       aside = aside;
       reads = reads;
@@ -88,16 +88,16 @@ node_of labels old mid new i p tries after places node e f g next h aside reads 
     }
 
 pub node_made : (labels : Labels) (old mid new : Search) (i : Line) (p : ℕ) (tries after places next aside : List ℕ) (raises : Bool)
-    (node : place.Place) → after ≡ tries_after i.op tries → places ≡ map (place_to (place_in labels) p) (targets i.op) →
-    Grown old mid (map (λ q. position q after) places) → AreNumbersOf (all_of mid) next (map (λ q. position q after) places) →
+    (node : place.Place) → after ≡ tries_after i.op tries → places ≡ map (place_to (line_of_label labels) p) (targets i.op) →
+    Grown old mid (map (λ q. position q after) places) → AreNumbersOf (all_positions mid) next (map (λ q. position q after) places) →
     raises ≡ may_raise i.op → Landed mid new (landing_to labels raises tries) aside → contents node.next ≡ next →
     contents node.aside ≡ aside → contents node.reads ≡ val_numbers i.args → contents node.writes ≡ written_numbers i →
     IsNodeOfLine labels old new i p tries node
 node_made labels old mid new i p tries after places next aside raises node e f g h r land n a reads writes =
     let landed = subst (λ b. Landed mid new (landing_to labels b tries) aside) r land in
     node_of labels old mid new i p tries after places node e f g
-    (subst (λ ns. AreNumbersOf (all_of mid) ns (map (λ q. position q after) places)) (sym n) h) landed.grown
-    (subst (λ ns. AreNumbersOf (all_of new) ns (landing_to labels (may_raise i.op) tries)) (sym a) landed.numbers) reads writes
+    (subst (λ ns. AreNumbersOf (all_positions mid) ns (map (λ q. position q after) places)) (sym n) h) landed.grown
+    (subst (λ ns. AreNumbersOf (all_positions new) ns (landing_to labels (may_raise i.op) tries)) (sym a) landed.numbers) reads writes
 
 pub place_past : {A : Type 0} (xs : List A) (k : ℕ) → slice_get xs k ≡ None → length xs ≤ k
 place_past [] k e = omega arith
@@ -140,8 +140,8 @@ module _ (m : Lin) (labels : Labels) (text : IsText m labels) where
   bound = m.slots + 32
 
   visited_at : (old new : Search) (number : ℕ) (x : Position) (i : Line) (next : List Line) (node : place.Place) →
-      slice_get (all_of old) number ≡ Some x → drop x.place m.code ≡ i ∷ next →
-      IsNodeOfLine labels old new i x.place x.tries node → Visited m old new number node
+      slice_get (all_positions old) number ≡ Some x → drop x.place m.code ≡ i ∷ next →
+      IsNodeOfLine labels old new i x.place x.tries node → VisitedPosition m old new number node
   visited_at old new number x i next node at e h =
       let after : steps_to labels i x.place x.tries ≡ steps m x =
       steps_of m labels text.table x.place (tries_after i.op x.tries) (targets i.op)
@@ -154,25 +154,25 @@ module _ (m : Lin) (labels : Labels) (text : IsText m labels) where
         grown = subst (λ zs. Grown old new (steps m x ++ zs)) landed
             (subst (λ ys. Grown old new (ys ++ landing_to labels (may_raise i.op) x.tries)) after h.grown);
         is_node = record {
-          next = subst (AreNumbersOf (all_of new) (contents node.next)) after h.next;
-          aside = subst (AreNumbersOf (all_of new) (contents node.aside)) landed h.aside;
+          next = subst (AreNumbersOf (all_positions new) (contents node.next)) after h.next;
+          aside = subst (AreNumbersOf (all_positions new) (contents node.aside)) landed h.aside;
           reads = subst (λ xs. AreReads bound xs (contents node.reads)) (sym e)
               (subst (AreReads bound (i ∷ next)) (sym h.reads) (are_reads m.slots i next (args_numbered m text.numbered x.place i next e)));
-          writes = subst (λ xs. AreWrites bound xs (contents node.writes)) (sym e)
-              (subst (AreWrites bound (i ∷ next)) (sym h.writes) (are_writes m.slots i next (results_numbered m text.numbered x.place i next e)));
+          writes = subst (λ xs. AreWritesAt bound xs (contents node.writes)) (sym e)
+              (subst (AreWritesAt bound (i ∷ next)) (sym h.writes) (are_writes m.slots i next (results_numbered m text.numbered x.place i next e)));
         };
       }
 
   pub visited_line : (old new : Search) (number : ℕ) (x : Position) (i : Line) (node : place.Place) →
-      slice_get (all_of old) number ≡ Some x → slice_get m.code x.place ≡ Some i →
-      IsNodeOfLine labels old new i x.place x.tries node → Visited m old new number node
+      slice_get (all_positions old) number ≡ Some x → slice_get m.code x.place ≡ Some i →
+      IsNodeOfLine labels old new i x.place x.tries node → VisitedPosition m old new number node
   visited_line old new number x i node at e h =
       visited_at old new number x i (drop (suc x.place) m.code) node at (drop_at m.code x.place i e) h
 
   no_reads : AreReads bound [] []
   no_reads = record { within = All-nil (λ n. n < bound); exact = λ n. (λ c. none_in n c, λ h. absurd h) }
 
-  no_writes : AreWrites bound [] []
+  no_writes : AreWritesAt bound [] []
   no_writes = record { within = All-nil (λ n. n < bound); exact = λ n. (λ c. none_in n c, λ h. absurd h) }
 
   no_numbers : (all : List Position) → AreNumbersOf all [] []
@@ -180,8 +180,8 @@ module _ (m : Lin) (labels : Labels) (text : IsText m labels) where
 
   -- past the last line
   pub visited_end : (s : Search) (number : ℕ) (x : Position) (node : place.Place) →
-      slice_get (all_of s) number ≡ Some x → length m.code ≤ x.place → contents node.next ≡ [] → contents node.aside ≡ [] →
-      contents node.reads ≡ [] → contents node.writes ≡ [] → Visited m s s number node
+      slice_get (all_positions s) number ≡ Some x → length m.code ≤ x.place → contents node.next ≡ [] → contents node.aside ≡ [] →
+      contents node.reads ≡ [] → contents node.writes ≡ [] → VisitedPosition m s s number node
   visited_end s number x node at le next aside reads writes =
       let e : drop x.place m.code ≡ [] = drop_all x.place m.code le in
       let none : steps m x ≡ [] = ap (λ xs. steps_at m x.place xs x.tries) e in
@@ -191,12 +191,12 @@ module _ (m : Lin) (labels : Labels) (text : IsText m labels) where
         is = at;
         grown = subst (λ zs. Grown s s (steps m x ++ zs)) (sym no_raise) (subst (λ ys. Grown s s (ys ++ [])) (sym none) (grown_none s));
         is_node = record {
-          next = subst (λ ys. AreNumbersOf (all_of s) (contents node.next) ys) (sym none)
-              (subst (λ ns. AreNumbersOf (all_of s) ns []) (sym next) (no_numbers (all_of s)));
-          aside = subst (λ ys. AreNumbersOf (all_of s) (contents node.aside) ys) (sym no_raise)
-              (subst (λ ns. AreNumbersOf (all_of s) ns []) (sym aside) (no_numbers (all_of s)));
+          next = subst (λ ys. AreNumbersOf (all_positions s) (contents node.next) ys) (sym none)
+              (subst (λ ns. AreNumbersOf (all_positions s) ns []) (sym next) (no_numbers (all_positions s)));
+          aside = subst (λ ys. AreNumbersOf (all_positions s) (contents node.aside) ys) (sym no_raise)
+              (subst (λ ns. AreNumbersOf (all_positions s) ns []) (sym aside) (no_numbers (all_positions s)));
           reads = subst (λ xs. AreReads bound xs (contents node.reads)) (sym e) (subst (AreReads bound []) (sym reads) no_reads);
-          writes = subst (λ xs. AreWrites bound xs (contents node.writes)) (sym e) (subst (AreWrites bound []) (sym writes) no_writes);
+          writes = subst (λ xs. AreWritesAt bound xs (contents node.writes)) (sym e) (subst (AreWritesAt bound []) (sym writes) no_writes);
         };
       }
 
@@ -219,7 +219,7 @@ still_numbers xs ys kept ns zs h =
     record { len = h.len; each = λ k d lt. kept (slice_index ns k) (get_or zs k d) (h.each k d lt) }
 
 node_kept : (m : Lin) (xs ys : List Position) → AreKept xs ys → (x : Position) (node : place.Place) →
-    IsNode m (m.slots + 32) xs x node → IsNode m (m.slots + 32) ys x node
+    IsPositionNode m (m.slots + 32) xs x node → IsPositionNode m (m.slots + 32) ys x node
 node_kept m xs ys kept x node h =
     record {
       next = still_numbers xs ys kept (contents node.next) (steps m x) h.next;
@@ -229,28 +229,28 @@ node_kept m xs ys kept x node h =
     }
 
 module _ (m : Lin) where
-  pub spreads_none : (s : Search) (nodes : List place.Place) → IsReady m s nodes → Spreads m s s nodes
+  pub spreads_none : (s : Search) (nodes : List place.Place) → IsSearchReady m s nodes → Spreads m s s nodes
   spreads_none s nodes h = record { kept = λ q x e. e; walked = λ w. w; grouped = λ g. g; ready = h }
 
-  nodes_more : (s new : Search) (nodes : List place.Place) (node : place.Place) → IsReady m s nodes →
-      (v : Visited m s new (length nodes) node) → AreNodes m (m.slots + 32) (all_of new) (nodes ++ node ∷ [])
+  nodes_more : (s new : Search) (nodes : List place.Place) (node : place.Place) → IsSearchReady m s nodes →
+      (v : VisitedPosition m s new (length nodes) node) → ArePositionNodes m (m.slots + 32) (all_positions new) (nodes ++ node ∷ [])
   nodes_more s new nodes node h v q x other at is =
       ⊎_elim
       (λ e.
       let lt : q < length nodes = slice_get_within nodes q other e in
       let fewer = h.fewer in
-      let was = got (all_of s) q (omega (arith, lt, fewer)) in
+      let was = got (all_positions s) q (omega (arith, lt, fewer)) in
       let same : was.0 ≡ x = same_some was.0 x (sym (v.grown.kept q was.0 was.1) ∙ at) in
-      node_kept m (all_of s) (all_of new) v.grown.kept x other
+      node_kept m (all_positions s) (all_positions new) v.grown.kept x other
       (h.are q x other (was.1 ∙ ap Some same) e))
       (λ e.
       let same : v.at ≡ x =
-      same_some v.at x (sym (v.grown.kept q v.at (subst (λ k. slice_get (all_of s) k ≡ Some v.at) (sym e.0) v.is)) ∙ at) in
-      subst (λ y. IsNode m (m.slots + 32) (all_of new) y other) same
-      (subst (λ nd. IsNode m (m.slots + 32) (all_of new) v.at nd) e.1 v.is_node)) (pushed_cases nodes node other q is)
+      same_some v.at x (sym (v.grown.kept q v.at (subst (λ k. slice_get (all_positions s) k ≡ Some v.at) (sym e.0) v.is)) ∙ at) in
+      subst (λ y. IsPositionNode m (m.slots + 32) (all_positions new) y other) same
+      (subst (λ nd. IsPositionNode m (m.slots + 32) (all_positions new) v.at nd) e.1 v.is_node)) (pushed_cases nodes node other q is)
 
-  walked_more : (s new : Search) (number : ℕ) (node : place.Place) → Visited m s new number node → AreWalkedTo m (all_of s) →
-      AreWalkedTo m (all_of new)
+  walked_more : (s new : Search) (number : ℕ) (node : place.Place) → VisitedPosition m s new number node → AreWalkedTo m (all_positions s) →
+      AreWalkedTo m (all_positions new)
   walked_more s new number node v w =
       record {
         each = λ q x e.
@@ -262,11 +262,11 @@ module _ (m : Lin) where
       }
 
   pub spreads_more : (old s new : Search) (nodes more : List place.Place) (number : ℕ) (node : place.Place) → Spreads m old s nodes →
-      number ≡ length nodes → number < length (all_of s) → Visited m s new number node → more ≡ nodes ++ node ∷ [] →
+      number ≡ length nodes → number < length (all_positions s) → VisitedPosition m s new number node → more ≡ nodes ++ node ∷ [] →
       Spreads m old new more
   spreads_more old s new nodes more number node h e lt v is =
-      let v' : Visited m s new (length nodes) node = subst (λ k. Visited m s new k node) e v in
-      let grows : length (all_of s) ≤ length (all_of new) = kept_length (all_of s) (all_of new) v.grown.kept in
+      let v' : VisitedPosition m s new (length nodes) node = subst (λ k. VisitedPosition m s new k node) e v in
+      let grows : length (all_positions s) ≤ length (all_positions new) = kept_length (all_positions s) (all_positions new) v.grown.kept in
       let len : length more ≡ length nodes + 1 = ap length is ∙ length_push nodes node in
       record {
         kept = λ q x f. v.grown.kept q x (h.kept q x f);
@@ -276,22 +276,22 @@ module _ (m : Lin) where
           groups = v.grown.len ∙ h.ready.groups;
           countable = v.grown.countable h.ready.countable;
           fewer = omega (arith, lt, e, grows, len);
-          are = subst (AreNodes m (m.slots + 32) (all_of new)) (sym is) (nodes_more s new nodes node h.ready v');
+          are = subst (ArePositionNodes m (m.slots + 32) (all_positions new)) (sym is) (nodes_more s new nodes node h.ready v');
         };
       }
 
   -- more positions, none of them visited
-  pub still_ready : (s new : Search) (nodes : List place.Place) → IsReady m s nodes → length nodes ≡ length (all_of s) →
-      AreKept (all_of s) (all_of new) → length (groups_of new) ≡ length (groups_of s) → (AreCountable s → AreCountable new) → IsReady m new nodes
+  pub still_ready : (s new : Search) (nodes : List place.Place) → IsSearchReady m s nodes → length nodes ≡ length (all_positions s) →
+      AreKept (all_positions s) (all_positions new) → length (groups_of new) ≡ length (groups_of s) → (AreCountable s → AreCountable new) → IsSearchReady m new nodes
   still_ready s new nodes h len kept groups countable =
-      let grows : length (all_of s) ≤ length (all_of new) = kept_length (all_of s) (all_of new) kept in
+      let grows : length (all_positions s) ≤ length (all_positions new) = kept_length (all_positions s) (all_positions new) kept in
       record {
         groups = groups ∙ h.groups;
         countable = countable h.countable;
         fewer = omega (arith, len, grows);
         are = λ q x node at is.
             let lt : q < length nodes = slice_get_within nodes q node is in
-            let was = got (all_of s) q (omega (arith, lt, len)) in
+            let was = got (all_positions s) q (omega (arith, lt, len)) in
             let same : was.0 ≡ x = same_some was.0 x (sym (kept q was.0 was.1) ∙ at) in
-            node_kept m (all_of s) (all_of new) kept x node (h.are q x node (was.1 ∙ ap Some same) is);
+            node_kept m (all_positions s) (all_positions new) kept x node (h.are q x node (was.1 ∙ ap Some same) is);
       }

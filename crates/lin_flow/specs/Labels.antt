@@ -2,14 +2,14 @@
 use Rattle.std.specs.Prelude.{◌≡◌, ℕ}
 use Rattle.lin_ir.specs.Meaning.{after_label}
 use Rattle.lin_ir.specs.declared.lin.Lin.{Lin}
-use Rattle.lin_laws.specs.Graph.{place_of}
+use Rattle.lin_laws.specs.Graph.{line_index}
 use Rattle.mach_ir.specs.Labels as table
 use Rattle.lin_flow.specs.declared.labels.Labels.{Labels}
 
 -- the place of a label
-abbrev pub place_in : Labels → ℕ → ℕ
-place_in labels l = table.place_in labels.places l
+abbrev pub line_of_label : Labels → ℕ → ℕ
+line_of_label labels l = table.place_of_label labels.places l
 
 -- it has the place after each label of the function
 pub record AreLabelsOf (m : Lin) (labels : Labels) : Type 0 where
-  pub each : (l : ℕ) → place_in labels l ≡ place_of m (after_label l m.code)
+  pub each : (l : ℕ) → line_of_label labels l ≡ line_index m (after_label l m.code)

@@ -3,7 +3,7 @@ use Rattle.std.specs.Prelude.{◌+◌, ◌<◌, List, length, All}
 use Rattle.mach_ir.specs.Sizes.{number_limit}
 use Rattle.lin_ir.specs.declared.lin.Spot.{Spot}
 use Rattle.lin_ir.specs.declared.lin.Lin.{Lin}
-use Rattle.lin_laws.specs.Numbers.{number_in}
+use Rattle.lin_laws.specs.Numbers.{number_of_location}
 
 -- There are numbers for the lines of a function, and for its slots after those of the registers.
 pub record IsCountable (m : Lin) : Type 0 where
@@ -12,4 +12,4 @@ pub record IsCountable (m : Lin) : Type 0 where
 
 -- the numbers of these locations fit
 abbrev pub HaveSmall : List Spot → Type 0
-HaveSmall spots = All (λ (s : Spot). number_in s.loc < number_limit) spots
+HaveSmall spots = All (λ (s : Spot). number_of_location s.loc < number_limit) spots

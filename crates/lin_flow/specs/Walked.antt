@@ -9,8 +9,8 @@ use Rattle.lin_ir.specs.Walks.{Reached, LiveAfter}
 use Rattle.lin_ir.specs.declared.lin.Line.{Line}
 use Rattle.lin_ir.specs.declared.lin.Lin.{Lin}
 use Rattle.lin_laws.specs.Graph.{AreNumbered, AreReached}
-use Rattle.lin_flow.specs.Nodes.{IsReady}
-use Rattle.lin_flow.specs.Search.{all_of, AreGrouped}
+use Rattle.lin_flow.specs.Nodes.{IsSearchReady}
+use Rattle.lin_flow.specs.Search.{all_positions, AreGrouped}
 use Rattle.lin_flow.specs.declared.live.LiveWalks.{LiveWalks}
 use Rattle.lin_flow.specs.declared.search.Search.{Search}
 
@@ -18,14 +18,14 @@ use Rattle.lin_flow.specs.declared.search.Search.{Search}
 pub record IsWalked (m : Lin) (s : Search) (nodes : List place.Place) : Type 0 where
   pub numbered : AreNumbered m
   pub grouped : AreGrouped s
-  pub ready : IsReady m s nodes
-  pub all : length nodes ≡ length (all_of s)
-  pub reached : AreReached m (all_of s)
+  pub ready : IsSearchReady m s nodes
+  pub all : length nodes ≡ length (all_positions s)
+  pub reached : AreReached m (all_positions s)
 
 -- the same, with what is live before each position
 pub record AreLive (m : Lin) (w : LiveWalks) : Type 0 where
   pub walked : IsWalked m w.search (contents w.flow.places)
-  pub count : w.reached ≡ length (all_of w.search)
+  pub count : w.reached ≡ length (all_positions w.search)
   pub bound : w.flow.bound ≡ m.slots + 32
   pub live : IsLiveness w.flow w.live.rows.items
 

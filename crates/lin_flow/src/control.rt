@@ -3,7 +3,7 @@ ghost use Rattle.std.specs.Prelude.{◌≡◌, ◌<◌, ◌^◌, ℕ, suc, map, 
 ghost use Rattle.mach_ir.specs.Labels.{place_to};
 ghost use Rattle.lin_ir.specs.Walks.{targets};
 ghost use Rattle.lin_ir.specs.Walks as walks;
-ghost use Rattle.lin_flow.specs.Labels.{place_in};
+ghost use Rattle.lin_flow.specs.Labels.{line_of_label};
 
 use crate::labels::Labels;
 use dataflow::{one_place, two_places};
@@ -29,7 +29,7 @@ fn places_after_flow(
 ) -> Result<Vec<u32>, AllocError>
     requires { suc place < 2 ^ 32 }
     ensures { IfOk result (λ places.
-        places.items ≡ map (place_to (place_in labels.now) place) (targets (LinOp.Flow flow.now))) }
+        places.items ≡ map (place_to (line_of_label labels.now) place) (targets (LinOp.Flow flow.now))) }
 {
     match flow {
         Flow::Label(_) => one_place(alloc, place + 1),
@@ -55,7 +55,7 @@ pub fn places_after(
 ) -> Result<Vec<u32>, AllocError>
     requires { suc place < 2 ^ 32 }
     ensures { IfOk result (λ places.
-        places.items ≡ map (place_to (place_in labels.now) place) (targets op.now)) }
+        places.items ≡ map (place_to (line_of_label labels.now) place) (targets op.now)) }
 {
     match op {
         LinOp::Op(op) => places_after_op(alloc, op, place),

@@ -3,7 +3,7 @@ ghost use Rattle.std.specs.Prelude.{◌≡◌, ◌<◌, ℕ, ◌^◌, cond, leng
 ghost use Rattle.lin_ir.specs.Meaning.{has_label};
 ghost use Rattle.mach_ir.specs.Acts.{At};
 ghost use Rattle.mach_ir.specs.Labels.{is_that_label, place_to};
-ghost use Rattle.lin_flow.specs.Labels.{place_in, AreLabelsOf};
+ghost use Rattle.lin_flow.specs.Labels.{line_of_label, AreLabelsOf};
 
 use lin_ir::{Flow, Lin, LinOp};
 use mach_ir::{Label, LabelPlaces};
@@ -63,8 +63,8 @@ impl Labels {
 
     /// Enters the label that the line has, if it has one.
     fn put(&mut self, op: &LinOp, after: u32) -> Result<(), AllocError>
-        ensures { IfOk result (λ _. (l : ℕ) → place_in self.new l ≡
-            cond (has_label l op.now) after (place_in self.old l)) }
+        ensures { IfOk result (λ _. (l : ℕ) → line_of_label self.new l ≡
+            cond (has_label l op.now) after (line_of_label self.old l)) }
     {
         match own_label(op) {
             None => Ok(()),
@@ -74,7 +74,7 @@ impl Labels {
 
     /// The place after the label.
     pub fn place_of(&self, label: Label) -> u32
-        ensures { result ≡ place_in self.now label }
+        ensures { result ≡ line_of_label self.now label }
     {
         self.places.place_of(label)
     }
@@ -82,7 +82,7 @@ impl Labels {
     /// The places after these labels, in their order. The only error is want of memory.
     pub fn places_of(&self, alloc: Global, among: &[Label]) -> Result<Vec<u32>, AllocError>
         ensures { IfOk result (λ places. (p : ℕ) →
-            places.items ≡ map (place_to (place_in self.now) p) (map At among.now)) }
+            places.items ≡ map (place_to (line_of_label self.now) p) (map At among.now)) }
     {
         self.places.places_of(alloc, among)
     }

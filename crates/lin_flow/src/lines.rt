@@ -1,9 +1,9 @@
 //! What lines read and write, by the numbers of locations.
 ghost use Rattle.std.specs.Prelude.{◌≡◌, ◌+◌, ◌++◌, ◌<◌, ◌^◌, map, IfOk};
 ghost use Rattle.bs_words.specs.Contents.{contents};
-ghost use Rattle.mach_ir.specs.Meaning.{destroyed};
+ghost use Rattle.mach_ir.specs.Meaning.{destroyed_by_operation};
 ghost use Rattle.lin_ir.specs.Meaning.{destroyed_by};
-ghost use Rattle.lin_laws.specs.Numbers.{number_in, is_val, val_numbers, run, destroyed_numbers, written_numbers};
+ghost use Rattle.lin_laws.specs.Numbers.{number_of_location, is_val_comp, val_numbers, consecutive_from, destroyed_numbers, written_numbers};
 ghost use Rattle.lin_flow.specs.Sizes.{HaveSmall};
 
 use bs_words::{Comp, List, Loc};
@@ -15,7 +15,7 @@ use std::alloc::{AllocError, Global};
 pub const REGISTERS: u32 = 32;
 
 fn is_val(comp: Comp) -> bool
-    ensures { result ≡ is_val comp }
+    ensures { result ≡ is_val_comp comp }
 {
     match comp {
         Comp::Int => false,
@@ -27,8 +27,8 @@ fn is_val(comp: Comp) -> bool
 
 /// The number of a location, which has to fit.
 pub fn number_of(loc: Loc) -> u32
-    requires { number_in loc < 2 ^ 32 }
-    ensures { result ≡ number_in loc }
+    requires { number_of_location loc < 2 ^ 32 }
+    ensures { result ≡ number_of_location loc }
 {
     match loc {
         Loc::Unset => 0,
@@ -62,7 +62,7 @@ pub fn reads_of(alloc: Global, args: &[Spot]) -> Result<List<u32>, AllocError>
 fn push_all(numbers: &mut Vec<u32>, spots: &[Spot]) -> Result<(), AllocError>
     requires { HaveSmall spots.now }
     ensures { IfOk result (λ _.
-        numbers.new.items ≡ numbers.old.items ++ map (λ s. number_in s.loc) spots.now) }
+        numbers.new.items ≡ numbers.old.items ++ map (λ s. number_of_location s.loc) spots.now) }
 {
     for spot in spots {
         numbers.push(number_of(spot.loc))?;
@@ -73,7 +73,7 @@ fn push_all(numbers: &mut Vec<u32>, spots: &[Spot]) -> Result<(), AllocError>
 /// Adds so many numbers from `first` on.
 fn push_run(numbers: &mut Vec<u32>, first: u32, count: u32) -> Result<(), AllocError>
     requires { first + count < 2 ^ 32 }
-    ensures { IfOk result (λ _. numbers.new.items ≡ numbers.old.items ++ run first count) }
+    ensures { IfOk result (λ _. numbers.new.items ≡ numbers.old.items ++ consecutive_from first count) }
 {
     for k in 0..count {
         numbers.push(first + k)?;
@@ -83,14 +83,14 @@ fn push_run(numbers: &mut Vec<u32>, first: u32, count: u32) -> Result<(), AllocE
 
 /// Adds every register of the machine.
 fn push_everything(numbers: &mut Vec<u32>) -> Result<(), AllocError>
-    ensures { IfOk result (λ _. numbers.new.items ≡ numbers.old.items ++ run 0 32) }
+    ensures { IfOk result (λ _. numbers.new.items ≡ numbers.old.items ++ consecutive_from 0 32) }
 {
     push_run(numbers, 0, 32)
 }
 
 /// Adds the registers that an external call destroys: a0 to a7 and t3 to t6.
 fn push_temporaries(numbers: &mut Vec<u32>) -> Result<(), AllocError>
-    ensures { IfOk result (λ _. numbers.new.items ≡ numbers.old.items ++ (run 10 8 ++ run 28 4)) }
+    ensures { IfOk result (λ _. numbers.new.items ≡ numbers.old.items ++ (consecutive_from 10 8 ++ consecutive_from 28 4)) }
 {
     push_run(numbers, 10, 8)?;
     push_run(numbers, 28, 4)
@@ -98,7 +98,7 @@ fn push_temporaries(numbers: &mut Vec<u32>) -> Result<(), AllocError>
 
 fn push_destroyed_by_call(numbers: &mut Vec<u32>, calling: &Calling) -> Result<(), AllocError>
     ensures { IfOk result (λ _.
-        numbers.new.items ≡ numbers.old.items ++ destroyed_numbers (destroyed
+        numbers.new.items ≡ numbers.old.items ++ destroyed_numbers (destroyed_by_operation
         (Op.Calling calling.now))) }
 {
     match calling {
@@ -110,7 +110,7 @@ fn push_destroyed_by_call(numbers: &mut Vec<u32>, calling: &Calling) -> Result<(
 
 fn push_destroyed_by_op(numbers: &mut Vec<u32>, op: &Op) -> Result<(), AllocError>
     ensures { IfOk result (λ _.
-        numbers.new.items ≡ numbers.old.items ++ destroyed_numbers (destroyed
+        numbers.new.items ≡ numbers.old.items ++ destroyed_numbers (destroyed_by_operation
         op.now)) }
 {
     match op {

@@ -1,7 +1,7 @@
 //! What is live where walks come.
 ghost use Rattle.std.specs.Prelude.{◌<◌, ◌↔◌, length, IfOk, IsTrue};
 ghost use Rattle.lin_ir.specs.declared.lin.Lin.{Lin};
-ghost use Rattle.lin_laws.specs.Graph.{AreNumbered, loc_of};
+ghost use Rattle.lin_laws.specs.Graph.{AreNumbered, location_of_number};
 ghost use Rattle.lin_flow.specs.Live.{ReadsOnFrom, ReadsOnAmong};
 ghost use Rattle.lin_flow.specs.Sizes.{IsCountable};
 ghost use Rattle.lin_flow.specs.Walked.{AreLive, IsReachedAt, IsReadAfter};
@@ -96,7 +96,7 @@ impl LiveWalks {
     /// number is live as val.
     pub fn is_live_after(&self, place: u32, number: u32) -> bool
         ensures { (m : Lin) → AreLive m self.now →
-            IsTrue result ↔ IsReadAfter m place (loc_of number) }
+            IsTrue result ↔ IsReadAfter m place (location_of_number number) }
     {
         for position in self.search.members(place) {
             if self.is_live_after_position(*position, place, number) {

@@ -1,9 +1,9 @@
 //! The places of the flow graph that are positions.
 ghost use Rattle.std.specs.Prelude.{◌≡◌, ◌<◌, ◌≤◌, ℕ, suc, true, option_copied, Some, length, slice_get, IfOk};
-ghost use Rattle.lin_flow.specs.Labels.{place_in};
-ghost use Rattle.lin_flow.specs.Search.{all_of, groups_of};
+ghost use Rattle.lin_flow.specs.Labels.{line_of_label};
+ghost use Rattle.lin_flow.specs.Search.{all_positions, groups_of};
 ghost use Rattle.lin_flow.specs.Sizes.{HaveSmall};
-ghost use Rattle.lin_flow.specs.Nodes.{landing_to, Landed, IsText, IsNodeOfLine, Visited, IsReady, Spread};
+ghost use Rattle.lin_flow.specs.Nodes.{landing_to, Landed, IsText, IsNodeOfLine, VisitedPosition, IsSearchReady, SpreadToAll};
 
 use crate::control::{may_raise, places_after};
 use crate::labels::Labels;
@@ -31,7 +31,7 @@ fn enter_innermost(
     search: &mut Search,
     tries: &[u32],
 ) -> Result<Vec<u32>, AllocError>
-    requires { (l : ℕ) → place_in labels.now l < length (groups_of search.old) }
+    requires { (l : ℕ) → line_of_label labels.now l < length (groups_of search.old) }
     ensures { IfOk result (λ numbers.
         Landed search.old search.new (landing_to labels.now true tries.now) numbers.items) }
 {
@@ -54,7 +54,7 @@ fn enter_handler(
     raises: bool,
     tries: &[u32],
 ) -> Result<Vec<u32>, AllocError>
-    requires { (l : ℕ) → place_in labels.now l < length (groups_of search.old) }
+    requires { (l : ℕ) → line_of_label labels.now l < length (groups_of search.old) }
     ensures { IfOk result (λ numbers.
         Landed search.old search.new (landing_to labels.now raises tries.now) numbers.items) }
 {
@@ -74,7 +74,7 @@ fn node_of_line(
     place: u32,
     tries: &[u32],
 ) -> Result<Place, AllocError>
-    requires labels { (l : ℕ) → place_in labels.now l < length (groups_of search.old) }
+    requires labels { (l : ℕ) → line_of_label labels.now l < length (groups_of search.old) }
     requires next { suc place < length (groups_of search.old) }
     requires small { length (groups_of search.old) ≤ 4294967296 }
     requires args { HaveSmall line.now.args }
@@ -108,8 +108,8 @@ fn node_at(
     requires text { IsText lin.now labels.now }
     requires groups { length (groups_of search.old) ≡ suc (length lin.now.code) }
     ensures { IfOk result (λ node. (number : ℕ) →
-        slice_get (all_of search.old) number ≡ Some position.now →
-        Visited lin.now search.old search.new number node) }
+        slice_get (all_positions search.old) number ≡ Some position.now →
+        VisitedPosition lin.now search.old search.new number node) }
 {
     match lin.code.get(position.place as usize) {
         None => Ok(Place {
@@ -136,8 +136,8 @@ fn visit(
 ) -> Result<Place, AllocError>
     requires text { IsText lin.now labels.now }
     requires groups { length (groups_of search.old) ≡ suc (length lin.now.code) }
-    requires number { number < length (all_of search.old) }
-    ensures { IfOk result (λ node. Visited lin.now search.old search.new number node) }
+    requires number { number < length (all_positions search.old) }
+    ensures { IfOk result (λ node. VisitedPosition lin.now search.old search.new number node) }
 {
     let position = search.copy_at(number)?;
     let node = node_at(alloc, lin, labels, search, &position)?;
@@ -156,8 +156,8 @@ pub fn spread(
     nodes: &mut Vec<Place>,
 ) -> Result<(), AllocError>
     requires text { IsText lin.now labels.now }
-    requires ready { IsReady lin.now search.old nodes.old.items }
-    ensures { IfOk result (λ _. Spread lin.now search.old search.new nodes.new.items) }
+    requires ready { IsSearchReady lin.now search.old nodes.old.items }
+    ensures { IfOk result (λ _. SpreadToAll lin.now search.old search.new nodes.new.items) }
 {
     for _visit in 0..u32::MAX {
         let number = nodes.len();

@@ -1,7 +1,7 @@
 //! The positions that walks come to, each with its number.
 ghost use Rattle.std.specs.Prelude.{◌≡◌, ◌<◌, ◌↔◌, option_copied, bytes_eq, Some, All, length, map, slice_get, IfOk, IfSome, IsTrue, IsFalse};
 ghost use Rattle.lin_laws.specs.Graph.{position, AreNumbersOf};
-ghost use Rattle.lin_flow.specs.Search.{all_of, groups_of, members, AreGrouped, HasMember, Grown, Entered, Starts, IsThere, HasFirst};
+ghost use Rattle.lin_flow.specs.Search.{all_positions, groups_of, search_members, AreGrouped, HasMember, Grown, PositionEntered, Starts, IsThere, HasFirst};
 
 use crate::tries::copy_of;
 use lin_laws::Position;
@@ -60,7 +60,7 @@ impl Search {
 
     /// The numbers of the positions that are at the place. There are none past the last place.
     pub fn members(&self, place: u32) -> &[u32]
-        ensures { result.now ≡ members (groups_of self.now) place }
+        ensures { result.now ≡ search_members (groups_of self.now) place }
     {
         match self.groups.get(place as usize) {
             None => &[],
@@ -70,15 +70,15 @@ impl Search {
 
     /// The position that has the number.
     pub fn position_at(&self, number: u32) -> Option<&Position>
-        ensures { option_copied result ≡ slice_get (all_of self.now) number }
+        ensures { option_copied result ≡ slice_get (all_positions self.now) number }
     {
         self.positions.get(number as usize)
     }
 
     /// A copy of the position that has the number. The only error is want of memory.
     pub fn copy_at(&self, number: usize) -> Result<Position, AllocError>
-        requires { number < length (all_of self.now) }
-        ensures { IfOk result (λ found. slice_get (all_of self.now) number ≡ Some found) }
+        requires { number < length (all_positions self.now) }
+        ensures { IfOk result (λ found. slice_get (all_positions self.now) number ≡ Some found) }
     {
         self.positions[number].clone()
     }
@@ -86,7 +86,7 @@ impl Search {
     /// Whether the number is that of the position.
     fn is_at(&self, number: u32, place: u32, tries: &[u32]) -> bool
         ensures { IsTrue result →
-            slice_get (all_of self.now) number ≡ Some (position place tries.now) }
+            slice_get (all_positions self.now) number ≡ Some (position place tries.now) }
     {
         match self.position_at(number) {
             None => false,
@@ -97,7 +97,7 @@ impl Search {
     /// The number of the position, if it has one.
     fn find(&self, place: u32, tries: &[u32]) -> Option<u32>
         ensures { IfSome result (λ number.
-            slice_get (all_of self.now) number ≡ Some (position place tries.now)) }
+            slice_get (all_positions self.now) number ≡ Some (position place tries.now)) }
     {
         for number in self.members(place) {
             if self.is_at(*number, place, tries) {
@@ -112,7 +112,7 @@ impl Search {
     fn add(&mut self, alloc: Global, place: u32, tries: &[u32]) -> Result<u32, AllocError>
         requires { place < length (groups_of self.old) }
         ensures { IfOk result (λ number.
-            Entered self.old self.new (position place tries.now) number) }
+            PositionEntered self.old self.new (position place tries.now) number) }
     {
         let count = self.positions.len();
         if count >= u32::MAX as usize {
@@ -130,7 +130,7 @@ impl Search {
     pub fn enter(&mut self, alloc: Global, place: u32, tries: &[u32]) -> Result<u32, AllocError>
         requires { place < length (groups_of self.old) }
         ensures { IfOk result (λ number.
-            Entered self.old self.new (position place tries.now) number) }
+            PositionEntered self.old self.new (position place tries.now) number) }
     {
         if let Some(number) = self.find(place, tries) {
             return Ok(number);
@@ -149,7 +149,7 @@ impl Search {
         requires { All (λ p. p < length (groups_of self.old)) places.now }
         ensures grown { IfOk result (λ _.
             Grown self.old self.new (map (λ p. position p tries.now) places.now)) }
-        ensures numbers { IfOk result (λ numbers. AreNumbersOf (all_of self.new) numbers.items
+        ensures numbers { IfOk result (λ numbers. AreNumbersOf (all_positions self.new) numbers.items
             (map (λ p. position p tries.now) places.now)) }
     {
         let mut numbers = Vec::with_capacity(alloc, places.len())?;

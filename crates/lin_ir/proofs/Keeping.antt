@@ -5,14 +5,14 @@ use Rattle.cmm_meaning.specs.Extends.{shape_of}
 use Rattle.mach_ir.specs.Acts.{Around, with_block, fresh_block}
 use Rattle.mach_ir.specs.declared.blocks.NewBlock.{NewBlock}
 use Rattle.mach_ir.specs.Keeps.{Ahead, ahead}
-use Rattle.mach_ir.specs.Runs.{Place, Tally, first_tally}
+use Rattle.mach_ir.specs.Runs.{ActivationSetting, Tally, first_tally}
 use Rattle.mach_ir.specs.Meaning as mach
 use Rattle.mach_ir.specs.Keeps as kept
 use Rattle.mach_ir.specs.Keeps.{Proper}
 use Rattle.mach_ir.proofs.Keeping.{alike_then, trails_then}
 use Rattle.mach_ir.specs.declared.mach.Mach.{Mach}
 use Rattle.lin_ir.specs.Meaning.{NamedAt, State}
-use Rattle.lin_ir.specs.Keeps.{NoLess, Follows, Does, Keeps}
+use Rattle.lin_ir.specs.Keeps.{NoLess, Follows, LinearSimulation, LinearKeeps}
 use Rattle.lin_ir.specs.declared.lin.Lin.{Lin}
 
 ahead_shapes : (blocks : List NewBlock) (x : Around) → NoLess x (ahead blocks x)
@@ -38,7 +38,7 @@ no_less_then x y z h k =
       blocks = k.blocks ∙ ap (λ l. l ++ k.more) h.blocks ∙ append_assoc (map shape_of x.memory.blocks) h.more k.more;
     }
 
-module _ (c : Place) (p q : Mach) (r : Lin) (named : NamedAt) (s u : mach.State) (v : State) (t : Tally) where
+module _ (c : ActivationSetting) (p q : Mach) (r : Lin) (named : NamedAt) (s u : mach.State) (v : State) (t : Tally) where
   follows_then : (n : ℕ) → kept.Follows c p q s u t n → ((k : ℕ) → Proper c q k u t → Follows c q r named u v t k) →
       Follows c p r named s v t n
   follows_then n one two =
@@ -57,7 +57,7 @@ module _ (c : Place) (p q : Mach) (r : Lin) (named : NamedAt) (s u : mach.State)
         };
       }
 
-does_then : (p q : Mach) (r : Lin) (named : NamedAt) → kept.Does p q → Does q r named → Does p r named
+does_then : (p q : Mach) (r : Lin) (named : NamedAt) → kept.MachSimulation p q → LinearSimulation q r named → LinearSimulation p r named
 does_then p q r named one two c arguments memory doings s e =
     let u = one c arguments memory doings s e in
     let v = two c arguments memory doings u.state u.begins in
@@ -68,7 +68,7 @@ does_then p q r named one two c arguments memory doings s e =
           follows_then c p q r named s u.state v.state (first_tally c doings) n (u.follows n proper) v.follows;
     }
 
-pub keeps_then : (p q : Mach) (r : Lin) (named : NamedAt) → kept.Keeps p q → Keeps q r named → Keeps p r named
+pub keeps_then : (p q : Mach) (r : Lin) (named : NamedAt) → kept.Keeps p q → LinearKeeps q r named → LinearKeeps p r named
 keeps_then p q r named one two =
     record {
       name = two.name ∙ one.name;

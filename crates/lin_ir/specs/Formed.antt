@@ -6,9 +6,9 @@ use Rattle.bs_words.specs.declared.types.Loc.{Loc}
 use Rattle.bs_words.specs.declared.types.Loc.TheVariants as loc
 use Rattle.rv_isa.specs.Registers.{t0}
 use Rattle.mach_ir.specs.Acts.{At}
-use Rattle.mach_ir.specs.Forms.{HasForm, IsTested, results_of}
-use Rattle.mach_ir.specs.Placed.{colours}
-use Rattle.mach_ir.specs.Seats.{Seats, Anywhere, InOrder, AreSeated, argument_places, result_places, operand_seats, result_seats}
+use Rattle.mach_ir.specs.Forms.{HasForm, IsTested, results_of_type}
+use Rattle.mach_ir.specs.Placed.{colour_numbers}
+use Rattle.mach_ir.specs.Seats.{Seats, Anywhere, InOrder, AreSeated, argument_locations, result_locations, operand_seats, result_seats}
 use Rattle.mach_ir.specs.Walks.{OneOf}
 use Rattle.mach_ir.specs.declared.op.CopyKind.{CopyKind}
 use Rattle.mach_ir.specs.declared.op.Pure.TheVariants as pure
@@ -17,7 +17,7 @@ use Rattle.mach_ir.specs.declared.op.Leaving.TheVariants as leaving
 use Rattle.mach_ir.specs.declared.op.Op.{Op}
 use Rattle.mach_ir.specs.declared.op.Op.TheVariants as op
 use Rattle.mach_ir.specs.declared.mach.Test.{Test}
-use Rattle.lin_ir.specs.Walks.{targets, Leads, Raises, Live, LiveAfter, Stands, Reached, Traps, TrapsBalance}
+use Rattle.lin_ir.specs.Walks.{targets, LineWalkStep, Raises, Live, LiveAfter, StandsAsLine, Reached, Traps, TrapsBalance}
 use Rattle.lin_ir.specs.declared.lin.Spot.{Spot}
 use Rattle.lin_ir.specs.declared.lin.Flow.{Flow}
 use Rattle.lin_ir.specs.declared.lin.Flow.TheVariants as flow
@@ -32,8 +32,8 @@ abbrev pub comps : List Spot → List Comp
 comps spots = map (λ (s : Spot). s.comp) spots
 
 -- a line of control with no operands
-abbrev pub bare : Flow → Line
-bare f = record { op = lin.Flow f; args = []; results = [] }
+abbrev pub bare_flow : Flow → Line
+bare_flow f = record { op = lin.Flow f; args = []; results = [] }
 
 -- the components of the operands and of the results that go with a line that is Linear's own
 pub data FlowHasForm : Flow → List Comp → List Comp → Type 0 where
@@ -48,12 +48,12 @@ pub data FlowHasForm : Flow → List Comp → List Comp → Type 0 where
   pop_form : FlowHasForm flow.PopTrap [] []
   enter_form : FlowHasForm flow.EnterTrap [] (comp.Val ∷ [])
 
-pub data IsFormed : Line → Type 0 where
+pub data IsFormedLine : Line → Type 0 where
   formed_op : {f : Op} {args results : List Spot} → HasForm f (comps args) (comps results) →
-      IsFormed (record { op = lin.Op f; args = args; results = results })
+      IsFormedLine (record { op = lin.Op f; args = args; results = results })
   formed_flow : {f : Flow} {args results : List Spot} →
       FlowHasForm f (comps args) (comps results) →
-      IsFormed (record { op = lin.Flow f; args = args; results = results })
+      IsFormedLine (record { op = lin.Flow f; args = args; results = results })
 
 -- ---- moves from a location to itself
 
@@ -75,7 +75,7 @@ pub record IsForType (m : Lin) (i : Line) (next : List Line) (from to : Spot) : 
 
 -- A function is tight where each move from a location to itself is for a type.
 pub record IsTight (m : Lin) : Type 0 where
-  pub tight : (i : Line) (next : List Line) → Stands i next m.code → (from to : Spot) →
+  pub tight : (i : Line) (next : List Line) → StandsAsLine i next m.code → (from to : Spot) →
       IsSelfMove i from to → IsForType m i next from to
 
 -- ---- locations
@@ -86,7 +86,7 @@ spare = loc.Machine t0
 
 -- a colour, or one of the function's slots
 pub data IsHome (m : Lin) : Loc → Type 0 where
-  is_colour : {n : ℕ} → Contains colours n → IsHome m (loc.Machine n)
+  is_colour : {n : ℕ} → Contains colour_numbers n → IsHome m (loc.Machine n)
   is_slot : {k : ℕ} → k < m.slots → IsHome m (loc.Slot k)
 
 -- or t0
@@ -111,8 +111,8 @@ pub data IsCopy : LinOp → Type 0 where
   is_copy : {kind : CopyKind} → IsCopy (lin.Op (op.Pure (pure.Copy kind)))
 
 -- the line has the location as a result
-abbrev pub Sets : Line → Loc → Type 0
-Sets i l = (t : Comp) × Contains i.results (record { loc = l; comp = t })
+abbrev pub SetsLocation : Line → Loc → Type 0
+SetsLocation i l = (t : Comp) × Contains i.results (record { loc = l; comp = t })
 
 -- T0 is in moves, spills and reloads alone, and each walk that reads it has written it before,
 -- with only quiet lines between.
@@ -120,9 +120,9 @@ pub record SpareIsPassing (m : Lin) : Type 0 where
   pub copies : (i : Line) → Contains m.code i → (t : Comp) →
       Contains (i.args ++ i.results) (record { loc = spare; comp = t }) → IsCopy i.op
   pub entry : (t : Comp) → Live m spare t m.code [] → ⊥
-  pub written : (i : Line) (next : List Line) (tries : List ℕ) → Stands i next m.code →
+  pub written : (i : Line) (next : List Line) (tries : List ℕ) → StandsAsLine i next m.code →
       Traps m (i ∷ next) tries → (t : Comp) → LiveAfter m spare t i next tries →
-      Sets i spare ⊎ IsQuiet i.op
+      SetsLocation i spare ⊎ IsQuiet i.op
 
 -- ---- seats
 
@@ -136,12 +136,12 @@ lin_operand_seats (lin.Flow f) = Anywhere
 -- a handler takes the raised value from where a result is
 abbrev pub lin_result_seats : LinOp → Seats
 lin_result_seats (lin.Op f) = result_seats f
-lin_result_seats (lin.Flow flow.EnterTrap) = InOrder result_places
+lin_result_seats (lin.Flow flow.EnterTrap) = InOrder result_locations
 lin_result_seats (lin.Flow _) = Anywhere
 
 -- Parameters, and operands and results that the conventions put at fixed places, are there.
 pub record Seated (m : Lin) : Type 0 where
-  pub params : AreSeated (InOrder argument_places) (places_of m.params)
+  pub params : AreSeated (InOrder argument_locations) (places_of m.params)
   pub operands : (i : Line) → Contains m.code i →
       AreSeated (lin_operand_seats i.op) (places_of i.args)
   pub results : (i : Line) → Contains m.code i →
@@ -184,7 +184,7 @@ pub record GoesDown (m : Lin) : Type 0 where
   pub labels : (i : Line) (next : List Line) (tries : List ℕ) → Reached m (i ∷ next) tries →
       is_label i.op ≡ true → order (length next) ≤ order (suc (length next))
   pub steps : (i : Line) (next to : List Line) (tries left : List ℕ) → Reached m (i ∷ next) tries →
-      is_exit i.op ≡ false → is_label i.op ≡ false → Leads m i next tries to left →
+      is_exit i.op ≡ false → is_label i.op ≡ false → LineWalkStep m i next tries to left →
       order (length to) < order (suc (length next))
   pub raises : (i : Line) (next to : List Line) (tries left : List ℕ) → Reached m (i ∷ next) tries →
       Raises m i tries to left → order (length to) < order (suc (length next))
@@ -192,10 +192,10 @@ pub record GoesDown (m : Lin) : Type 0 where
 -- ---- whole
 
 pub record WellFormed (m : Lin) : Type 0 where
-  pub forms : All IsFormed m.code
+  pub forms : All IsFormedLine m.code
   -- a return gives what the function is written with
   pub returns : (i : Line) → Contains m.code i → i.op ≡ lin.Op (op.Leaving leaving.Return) →
-      comps i.args ≡ results_of m.result
+      comps i.args ≡ results_of_type m.result
   pub params : All (λ (s : Spot). IsHome m s.loc) m.params
   pub locations : AreLocated m
   pub spare : SpareIsPassing m

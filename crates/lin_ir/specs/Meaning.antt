@@ -13,9 +13,9 @@ use Rattle.bs_words.specs.declared.types.Ty.TheVariants as ty
 use Rattle.bs_words.specs.declared.values.Value.{Value}
 use Rattle.bs_words.specs.declared.values.Value.TheVariants as value
 use Rattle.cmm_meaning.specs.Setting.{Setting}
-use Rattle.mach_ir.specs.Acts.{Around, Target, On, At, Landing, AtLabel, AtHandler, Act, Goes, Pushes, Jumps, Unwinds, Asks, Replaces, Ends, EndsRaising, Stuck, act, truth_of, branches, switched, drop_tries, takes_raised, has_descriptor}
-use Rattle.mach_ir.specs.Runs.{Place, taken, asked, Step, Continues, Pays, Deepens, Waits, FinishesBy, Finishes, FinishesRaising, IsStuck, Tally, Run, runs, entered}
-use Rattle.mach_ir.specs.Meaning.{Destroyed, Nothing, Everything, destroyed, is_destroyed}
+use Rattle.mach_ir.specs.Acts.{Around, Target, On, At, Landing, AtLabel, AtHandler, Act, Goes, Pushes, Jumps, Unwinds, Asks, Replaces, Ends, EndsRaising, Stuck, act, truth_of, goes_by_test, switched, drop_tries, takes_raised, has_descriptor}
+use Rattle.mach_ir.specs.Runs.{ActivationSetting, stack_in_use, asked_call, Step, Continues, Pays, Deepens, Waits, FinishesBy, Finishes, FinishesRaising, IsStuck, Tally, RunProgress, runs, entry_around}
+use Rattle.mach_ir.specs.Meaning.{Destroyed, Nothing, Everything, destroyed_by_operation, is_destroyed}
 use Rattle.lin_ir.specs.declared.lin.Spot.{Spot}
 use Rattle.lin_ir.specs.declared.lin.Flow.{Flow}
 use Rattle.lin_ir.specs.declared.lin.Flow.TheVariants as flow
@@ -36,12 +36,12 @@ same_loc (loc.Machine a) (loc.Machine b) = nat_eq a b
 same_loc (loc.Slot a) (loc.Slot b) = nat_eq a b
 same_loc _ _ = false
 
-abbrev pub put : Spot → Value → Locations → Locations
-put s v f = λ l. cond (same_loc s.loc l) (Some v) (f l)
+abbrev pub assign_spot : Spot → Value → Locations → Locations
+assign_spot s v f = λ l. cond (same_loc s.loc l) (Some v) (f l)
 
 -- a write that does not fit is stuck
 abbrev pub put_if : Bool → Spot → Value → Option Locations → Option Locations
-put_if true s v (Some f) = Some (put s v f)
+put_if true s v (Some f) = Some (assign_spot s v f)
 put_if true s v None = None
 put_if false s v o = None
 
@@ -67,12 +67,12 @@ values end f (s ∷ ss) = with_held end s.comp (f s.loc) (values end f ss)
 -- the registers of the machine that an operation destroys; the entry of a handler destroys every
 -- one
 abbrev pub destroyed_by : LinOp → Destroyed
-destroyed_by (lin.Op f) = destroyed f
+destroyed_by (lin.Op f) = destroyed_by_operation f
 destroyed_by (lin.Flow flow.EnterTrap) = Everything
 destroyed_by (lin.Flow _) = Nothing
 
-abbrev pub clear : Destroyed → Locations → Locations
-clear d f = λ l. cond (is_destroyed d l) None (f l)
+abbrev pub clear_destroyed : Destroyed → Locations → Locations
+clear_destroyed d f = λ l. cond (is_destroyed d l) None (f l)
 
 -- ---- frame points
 
@@ -84,9 +84,9 @@ abbrev pub passes_frame : LinOp → Bool
 passes_frame (lin.Op f) = has_descriptor f
 passes_frame (lin.Flow f) = false
 
-abbrev pub is_named : Loc → List Loc → Bool
-is_named l [] = false
-is_named l (k ∷ ks) = same_loc k l || is_named l ks
+abbrev pub is_named_location : Loc → List Loc → Bool
+is_named_location l [] = false
+is_named_location l (k ∷ ks) = same_loc k l || is_named_location l ks
 
 abbrev pub unless_pointer : Option Value → Option Value
 unless_pointer (Some (value.Word w)) = Some (value.Word w)
@@ -96,19 +96,19 @@ unless_pointer None = None
 
 -- each location that holds a heap pointer and is not named becomes poison
 abbrev pub poisoned : List Loc → Locations → Locations
-poisoned named f = λ l. cond (is_named l named) (f l) (unless_pointer (f l))
+poisoned named f = λ l. cond (is_named_location l named) (f l) (unless_pointer (f l))
 
 abbrev pub past_frame : Bool → List Loc → Locations → Locations
 past_frame passes named f = cond passes (poisoned named f) f
 
-abbrev pub is_val : ℕ → Option Value → Bool
-is_val end None = false
-is_val end (Some v) = fits end ty.Val v
+abbrev pub holds_val : ℕ → Option Value → Bool
+holds_val end None = false
+holds_val end (Some v) = fits end ty.Val v
 
 -- each named location holds what fits val
 abbrev pub are_vals : ℕ → List Loc → Locations → Bool
 are_vals end [] f = true
-are_vals end (l ∷ ls) f = is_val end (f l) && are_vals end ls f
+are_vals end (l ∷ ls) f = holds_val end (f l) && are_vals end ls f
 
 -- ---- places
 
@@ -146,7 +146,7 @@ abbrev pub flow_act : Flow → List Value → Around → Act
 flow_act (flow.Label l) [] a = Goes [] On a
 flow_act (flow.Jump l) [] a = Goes [] (At l) a
 flow_act (flow.Exit l) [] a = Jumps (AtLabel l) a
-flow_act (flow.Branch t l) vs a = branches a (At l) On (truth_of (sizes a.memory) t vs)
+flow_act (flow.Branch t l) vs a = goes_by_test a (At l) On (truth_of (sizes a.memory) t vs)
 flow_act (flow.Switch labels) vs a = switched a labels vs
 flow_act (flow.PushTrap l) [] a = Pushes (record a { tries = l ∷ a.tries })
 flow_act flow.PopTrap [] a = Goes [] On (record a { tries = drop_tries 1 a.tries })
@@ -162,19 +162,19 @@ wrote rest a None = IsStuck
 wrote rest a (Some f) = Continues (record { rest = rest; file = f; around = a })
 
 -- what a line does, before this code, by what its operation does
-abbrev pub on_act : Place → Lin → Line → List Line → Locations → Around → Act → Step State
+abbrev pub on_act : ActivationSetting → Lin → Line → List Line → Locations → Around → Act → Step State
 on_act c m i next f a (Goes vs to after) =
     wrote (code_at m.code next to) after
-    (put_all c.setting.end i.results vs (clear (destroyed_by i.op) f))
+    (put_all c.setting.end i.results vs (clear_destroyed (destroyed_by i.op) f))
 on_act c m i next f a (Pushes after) =
-    Deepens (taken c after) (record { rest = next; file = f; around = after })
+    Deepens (stack_in_use c after) (record { rest = next; file = f; around = after })
 on_act c m i next f a (Jumps to after) =
     Pays (record { rest = landing_code m.code a.tries to; file = f; around = after })
 on_act c m i next f a (Unwinds after) =
     Continues (record { rest = landing_code m.code a.tries AtHandler; file = f; around = after })
 on_act c m i next f a (Asks callee vs go) =
-    Waits (asked c callee vs false a) (λ d. on_act c m i next f a (go d))
-on_act c m i next f a (Replaces callee vs kept) = FinishesBy (asked c callee vs true a) kept
+    Waits (asked_call c callee vs false a) (λ d. on_act c m i next f a (go d))
+on_act c m i next f a (Replaces callee vs kept) = FinishesBy (asked_call c callee vs true a) kept
 on_act c m i next f a (Ends d) = Finishes d
 on_act c m i next f a (EndsRaising d) = FinishesRaising d
 on_act c m i next f a Stuck = IsStuck
@@ -183,31 +183,31 @@ abbrev pub unless_misnamed : Bool → Step State → Step State
 unless_misnamed named x = cond named x IsStuck
 
 -- a frame point at which a named location does not hold what fits val is stuck
-abbrev pub on_values : Place → List Loc → Lin → Line → List Line → Locations → Around →
+abbrev pub on_values : ActivationSetting → List Loc → Lin → Line → List Line → Locations → Around →
     Option (List Value) → Step State
 on_values c named m i next f a None = IsStuck
 on_values c named m i next f a (Some vs) =
     unless_misnamed (not (passes_frame i.op) || are_vals c.setting.end named f)
     (on_act c m i next (past_frame (passes_frame i.op) named f) a (lin_act c.setting i.op vs a))
 
-abbrev pub at_code : Place → NamedAt → Lin → List Line → Locations → Around → Step State
+abbrev pub at_code : ActivationSetting → NamedAt → Lin → List Line → Locations → Around → Step State
 at_code c named m [] f a = IsStuck
 at_code c named m (i ∷ next) f a =
     on_values c (named (length next)) m i next f a (values c.setting.end f i.args)
 
 -- reads, then the operation, then writes, then where control goes
-abbrev pub step : Place → NamedAt → Lin → State → Step State
+abbrev pub step : ActivationSetting → NamedAt → Lin → State → Step State
 step c named m s = at_code c named m s.rest s.file s.around
 
-abbrev pub run : Place → NamedAt → Lin → ℕ → State → Tally → Run State
-run c named m = runs (step c named m)
+abbrev pub run_of_linear : ActivationSetting → NamedAt → Lin → ℕ → State → Tally → RunProgress State
+run_of_linear c named m = runs (step c named m)
 
 -- ---- a function
 
-abbrev pub begun : Lin → Memory → Option Locations → Option State
-begun m memory None = None
-begun m memory (Some f) = Some (record { rest = m.code; file = f; around = entered memory })
+abbrev pub begin_linear : Lin → Memory → Option Locations → Option State
+begin_linear m memory None = None
+begin_linear m memory (Some f) = Some (record { rest = m.code; file = f; around = entry_around memory })
 
 -- its arguments are in its parameters; where they do not fit it does not begin
-abbrev pub start : Place → Lin → List Value → Memory → Option State
-start c m arguments memory = begun m memory (put_all c.setting.end m.params arguments (λ l. None))
+abbrev pub linear_start : ActivationSetting → Lin → List Value → Memory → Option State
+linear_start c m arguments memory = begin_linear m memory (put_all c.setting.end m.params arguments (λ l. None))

@@ -1,6 +1,6 @@
 -- The text of a Linear function: its name, and a line for each instruction.
 use Rattle.std.specs.Prelude.{ℕ, Bool, true, false, List, [], ◌∷◌, ◌++◌, codes}
-use Rattle.mach_ir.specs.Words.{comp_letter, place_text, label_text, separator, op_word, op_text, test_word, test_right, right_text}
+use Rattle.mach_ir.specs.Words.{comp_letter, location_text, label_text, separator, op_word, op_text, test_word, test_right, right_text}
 use Rattle.mach_ir.specs.declared.op.Right.{Right}
 use Rattle.mach_ir.specs.declared.op.Right.TheVariants as right
 use Rattle.lin_ir.specs.declared.lin.Spot.{Spot}
@@ -13,7 +13,7 @@ use Rattle.lin_ir.specs.declared.lin.Lin.{Lin}
 
 -- as `a0:i` or `[3]:i`
 abbrev pub spot_text : Spot → List ℕ
-spot_text s = place_text (codes "r") s.loc ++ codes ":" ++ comp_letter s.comp
+spot_text s = location_text (codes "r") s.loc ++ codes ":" ++ comp_letter s.comp
 
 -- each location after its mark, the first of all operands or not
 abbrev pub spots_text : Bool → List Spot → List ℕ
@@ -25,9 +25,9 @@ abbrev pub results_text : List Spot → List ℕ
 results_text [] = []
 results_text (s ∷ ss) = spot_text s ++ spots_text false ss ++ codes " = "
 
-abbrev pub is_first : List Spot → Bool
-is_first [] = true
-is_first (s ∷ ss) = false
+abbrev pub are_no_spots : List Spot → Bool
+are_no_spots [] = true
+are_no_spots (s ∷ ss) = false
 
 abbrev pub labels_text : Bool → List ℕ → List ℕ
 labels_text first [] = []
@@ -80,7 +80,7 @@ indent_of _ = codes "  "
 abbrev pub line_text : Line → List ℕ
 line_text i =
     indent_of i.op ++ results_text i.results ++ lin_word i.op ++ spots_text true i.args
-    ++ lin_op_text (is_first i.args) i.op ++ codes "\n"
+    ++ lin_op_text (are_no_spots i.args) i.op ++ codes "\n"
 
 abbrev pub lines_text : List Line → List ℕ
 lines_text [] = []

@@ -16,7 +16,7 @@ use Rattle.lin_ir.specs.declared.lin.Lin.{Lin}
 -- ---- where control may go, conditions ignored
 
 abbrev pub targets : LinOp → List Target
-targets (lin.Op f) = next_if (acts.goes_on f)
+targets (lin.Op f) = next_if (acts.falls_through f)
 targets (lin.Flow (flow.Label l)) = On ∷ []
 targets (lin.Flow (flow.Jump l)) = At l ∷ []
 targets (lin.Flow (flow.Exit l)) = At l ∷ []
@@ -43,10 +43,10 @@ tries_after _ tries = tries
 
 -- A step of a walk from a line, before this code and with these traps pushed, to the code where it
 -- goes on, and the traps there.
-pub data Leads (m : Lin) (i : Line) (next : List Line) (tries : List ℕ) : List Line → List ℕ →
+pub data LineWalkStep (m : Lin) (i : Line) (next : List Line) (tries : List ℕ) : List Line → List ℕ →
     Type 0 where
   goes : (t : Target) → OneOf t (targets i.op) →
-      Leads m i next tries (code_at m.code next t) (tries_after i.op tries)
+      LineWalkStep m i next tries (code_at m.code next t) (tries_after i.op tries)
 
 -- a raise edge, to the handler of the innermost trap, which it pops
 pub data Raises (m : Lin) (i : Line) : List ℕ → List Line → List ℕ → Type 0 where
@@ -57,15 +57,15 @@ pub data Raises (m : Lin) (i : Line) : List ℕ → List Line → List ℕ → T
 pub data Reached (m : Lin) : List Line → List ℕ → Type 0 where
   at_entry : Reached m m.code []
   by_step : {i : Line} {next to : List Line} {tries left : List ℕ} → Reached m (i ∷ next) tries →
-      Leads m i next tries to left → Reached m to left
+      LineWalkStep m i next tries to left → Reached m to left
   by_raise : {i : Line} {next to : List Line} {tries left : List ℕ} → Reached m (i ∷ next) tries →
       Raises m i tries to left → Reached m to left
 
 -- ---- what is live
 
 -- the location is read with this component
-abbrev pub ReadsAs : Loc → Comp → Line → Type 0
-ReadsAs l t i = Contains i.args (record { loc = l; comp = t })
+abbrev pub ReadsLocationAs : Loc → Comp → Line → Type 0
+ReadsLocationAs l t i = Contains i.args (record { loc = l; comp = t })
 
 -- Results are written. So are the registers that the operation destroys: every one at the return
 -- from a call and at the entry of a handler, a0 to a7 and t3 to t6 at that from an external call.
@@ -76,10 +76,10 @@ Writes i l =
 
 -- Some walk from this code on reads the location with this component before it writes it.
 pub data Live (m : Lin) (l : Loc) (t : Comp) : List Line → List ℕ → Type 0 where
-  read : {i : Line} {next : List Line} {tries : List ℕ} → ReadsAs l t i →
+  read : {i : Line} {next : List Line} {tries : List ℕ} → ReadsLocationAs l t i →
       Live m l t (i ∷ next) tries
   on : {i : Line} {next to : List Line} {tries left : List ℕ} → (Writes i l → ⊥) →
-      Leads m i next tries to left →
+      LineWalkStep m i next tries to left →
       Live m l t to left → Live m l t (i ∷ next) tries
   aside : {i : Line} {next to : List Line} {tries left : List ℕ} → Raises m i tries to left →
       Live m l t to left →
@@ -89,7 +89,7 @@ pub data Live (m : Lin) (l : Loc) (t : Comp) : List Line → List ℕ → Type 0
 -- innermost handler.
 pub data LiveAcross (m : Lin) (l : Loc) (t : Comp) (i : Line) (next : List Line)
     (tries : List ℕ) : Type 0 where
-  across_step : {to : List Line} {left : List ℕ} → (Writes i l → ⊥) → Leads m i next tries to left →
+  across_step : {to : List Line} {left : List ℕ} → (Writes i l → ⊥) → LineWalkStep m i next tries to left →
       Live m l t to left → LiveAcross m l t i next tries
   across_raise : {to : List Line} {left : List ℕ} → Raises m i tries to left → Live m l t to left →
       LiveAcross m l t i next tries
@@ -97,16 +97,16 @@ pub data LiveAcross (m : Lin) (l : Loc) (t : Comp) (i : Line) (next : List Line)
 -- live where a line goes on
 pub data LiveAfter (m : Lin) (l : Loc) (t : Comp) (i : Line) (next : List Line)
     (tries : List ℕ) : Type 0 where
-  after_step : {to : List Line} {left : List ℕ} → Leads m i next tries to left →
+  after_step : {to : List Line} {left : List ℕ} → LineWalkStep m i next tries to left →
       Live m l t to left →
       LiveAfter m l t i next tries
 
 -- ---- pushed traps
 
 -- a line of this code, and the code after it
-pub data Stands (i : Line) (next : List Line) : List Line → Type 0 where
-  here : Stands i next (i ∷ next)
-  below : {j : Line} {is : List Line} → Stands i next is → Stands i next (j ∷ is)
+pub data StandsAsLine (i : Line) (next : List Line) : List Line → Type 0 where
+  here : StandsAsLine i next (i ∷ next)
+  below : {j : Line} {is : List Line} → StandsAsLine i next is → StandsAsLine i next (j ∷ is)
 
 -- the traps that are pushed at a place: those of a walk, or none where no walk reaches it
 pub data Traps (m : Lin) (code : List Line) : List ℕ → Type 0 where
@@ -128,7 +128,7 @@ pub record TrapsBalance (m : Lin) : Type 0 where
 
 -- So many traps are pushed before each line to which a walk comes, by the number of lines after it.
 pub record ArePushed (m : Lin) (traps : ℕ → ℕ) : Type 0 where
-  pub pushed : (i : Line) (next : List Line) → Stands i next m.code → (tries : List ℕ) →
+  pub pushed : (i : Line) (next : List Line) → StandsAsLine i next m.code → (tries : List ℕ) →
       Reached m (i ∷ next) tries → traps (length next) ≡ length tries
 
 -- a location is live after a frame point with this component

@@ -1,7 +1,7 @@
 //! The text of a Linear function.
 ghost use Rattle.std.specs.Prelude.{◌≡◌, ◌++◌, true, false, IfOk};
 ghost use Rattle.bs_words.specs.Contents.{contents};
-ghost use Rattle.mach_ir.specs.Pages.{Adds};
+ghost use Rattle.mach_ir.specs.Pages.{AddsText};
 ghost use Rattle.mach_ir.specs.Words.{label_text, separator};
 ghost use Rattle.lin_ir.specs.Text.{spot_text, spots_text, results_text, labels_text, flow_word, flow_text, lin_word};
 ghost use Rattle.lin_ir.specs.Text.{lin_op_text, stays_first, indent_of, line_text, lines_text, lin_text};
@@ -25,7 +25,7 @@ pub fn text(alloc: Global, lin: &Lin) -> Result<List<u8>, AllocError>
 }
 
 fn put_lines(page: &mut Page, code: &[Line]) -> Result<(), AllocError>
-    ensures { IfOk result (λ _. Adds page.old page.new (lines_text code.now)) }
+    ensures { IfOk result (λ _. AddsText page.old page.new (lines_text code.now)) }
 {
     for line in code {
         put_line(page, line)?;
@@ -34,7 +34,7 @@ fn put_lines(page: &mut Page, code: &[Line]) -> Result<(), AllocError>
 }
 
 fn put_line(page: &mut Page, line: &Line) -> Result<(), AllocError>
-    ensures { IfOk result (λ _. Adds page.old page.new (line_text line.now)) }
+    ensures { IfOk result (λ _. AddsText page.old page.new (line_text line.now)) }
 {
     let args = line.args.as_slice();
     page.put(indent_of(&line.op))?;
@@ -63,7 +63,7 @@ fn indent_of(op: &LinOp) -> &'static [u8]
 }
 
 fn put_spot(page: &mut Page, spot: Spot) -> Result<(), AllocError>
-    ensures { IfOk result (λ _. Adds page.old page.new (spot_text spot)) }
+    ensures { IfOk result (λ _. AddsText page.old page.new (spot_text spot)) }
 {
     match spot.loc {
         Loc::Unset => page.put(b"r")?,
@@ -75,7 +75,7 @@ fn put_spot(page: &mut Page, spot: Spot) -> Result<(), AllocError>
 
 /// Locations after others.
 fn put_more(page: &mut Page, spots: &[Spot]) -> Result<(), AllocError>
-    ensures { IfOk result (λ _. Adds page.old page.new (spots_text false spots.now)) }
+    ensures { IfOk result (λ _. AddsText page.old page.new (spots_text false spots.now)) }
 {
     for spot in spots {
         page.put_separator(false)?;
@@ -85,7 +85,7 @@ fn put_more(page: &mut Page, spots: &[Spot]) -> Result<(), AllocError>
 }
 
 fn put_args(page: &mut Page, spots: &[Spot]) -> Result<(), AllocError>
-    ensures { IfOk result (λ _. Adds page.old page.new (spots_text true spots.now)) }
+    ensures { IfOk result (λ _. AddsText page.old page.new (spots_text true spots.now)) }
 {
     match spots.split_first() {
         None => Ok(()),
@@ -98,7 +98,7 @@ fn put_args(page: &mut Page, spots: &[Spot]) -> Result<(), AllocError>
 }
 
 fn put_results(page: &mut Page, spots: &[Spot]) -> Result<(), AllocError>
-    ensures { IfOk result (λ _. Adds page.old page.new (results_text spots.now)) }
+    ensures { IfOk result (λ _. AddsText page.old page.new (results_text spots.now)) }
 {
     match spots.split_first() {
         None => Ok(()),
@@ -111,7 +111,7 @@ fn put_results(page: &mut Page, spots: &[Spot]) -> Result<(), AllocError>
 }
 
 fn put_word(page: &mut Page, op: &LinOp) -> Result<(), AllocError>
-    ensures { IfOk result (λ _. Adds page.old page.new (lin_word op.now)) }
+    ensures { IfOk result (λ _. AddsText page.old page.new (lin_word op.now)) }
 {
     match op {
         LinOp::Op(op) => page.put_op_word(op),
@@ -120,7 +120,7 @@ fn put_word(page: &mut Page, op: &LinOp) -> Result<(), AllocError>
 }
 
 fn put_flow_word(page: &mut Page, flow: &Flow) -> Result<(), AllocError>
-    ensures { IfOk result (λ _. Adds page.old page.new (flow_word flow.now)) }
+    ensures { IfOk result (λ _. AddsText page.old page.new (flow_word flow.now)) }
 {
     match flow {
         Flow::Label(label) => {
@@ -142,7 +142,7 @@ fn put_flow_word(page: &mut Page, flow: &Flow) -> Result<(), AllocError>
 
 /// The operands of an operation that are no locations.
 fn put_rest(page: &mut Page, first: bool, op: &LinOp) -> Result<(), AllocError>
-    ensures { IfOk result (λ _. Adds page.old page.new (lin_op_text first op.now)) }
+    ensures { IfOk result (λ _. AddsText page.old page.new (lin_op_text first op.now)) }
 {
     match op {
         LinOp::Op(op) => page.put_op(first, op),
@@ -151,7 +151,7 @@ fn put_rest(page: &mut Page, first: bool, op: &LinOp) -> Result<(), AllocError>
 }
 
 fn put_flow(page: &mut Page, first: bool, flow: &Flow) -> Result<(), AllocError>
-    ensures { IfOk result (λ _. Adds page.old page.new (flow_text first flow.now)) }
+    ensures { IfOk result (λ _. AddsText page.old page.new (flow_text first flow.now)) }
 {
     match flow {
         Flow::Label(_) => Ok(()),
@@ -179,7 +179,7 @@ fn stays_first(first: bool, right: Right) -> bool
 }
 
 fn put_marked_label(page: &mut Page, first: bool, label: Label) -> Result<(), AllocError>
-    ensures { IfOk result (λ _. Adds page.old page.new (separator first ++ label_text label)) }
+    ensures { IfOk result (λ _. AddsText page.old page.new (separator first ++ label_text label)) }
 {
     page.put_separator(first)?;
     page.put_label(label)
@@ -187,7 +187,7 @@ fn put_marked_label(page: &mut Page, first: bool, label: Label) -> Result<(), Al
 
 /// Labels after others.
 fn put_more_labels(page: &mut Page, labels: &[Label]) -> Result<(), AllocError>
-    ensures { IfOk result (λ _. Adds page.old page.new (labels_text false labels.now)) }
+    ensures { IfOk result (λ _. AddsText page.old page.new (labels_text false labels.now)) }
 {
     for label in labels {
         put_marked_label(page, false, *label)?;
@@ -196,7 +196,7 @@ fn put_more_labels(page: &mut Page, labels: &[Label]) -> Result<(), AllocError>
 }
 
 fn put_labels(page: &mut Page, first: bool, labels: &[Label]) -> Result<(), AllocError>
-    ensures { IfOk result (λ _. Adds page.old page.new (labels_text first labels.now)) }
+    ensures { IfOk result (λ _. AddsText page.old page.new (labels_text first labels.now)) }
 {
     match labels.split_first() {
         None => Ok(()),

@@ -11,7 +11,7 @@ use Rattle.bs_words.specs.declared.types.Loc.{Loc}
 use Rattle.bs_words.specs.declared.types.Loc.TheVariants as loc
 use Rattle.bs_words.proofs.Lists.{none_in, first_in, later_in, in_cons}
 use Rattle.bs_bits.specs.Set.{has}
-use Rattle.lin_ir.specs.Descriptors.{frame_bytes, IsEntry, of_register, of_slot, ComesBefore, register_first, rising, NamesLive, IsDescr}
+use Rattle.lin_ir.specs.Descriptors.{frame_bytes, IsDescriptorEntry, of_register, of_slot, ComesBefore, register_first, rising, NamesLive, IsDescr}
 use Rattle.lin_ir.specs.Walks.{goes, raises, Live, read, on, aside, LiveAcross, across_step, across_raise, LiveAt}
 use Rattle.lin_ir.specs.declared.descr.Descr.{Descr}
 use Rattle.lin_ir.specs.declared.lin.Spot.{Spot}
@@ -19,8 +19,8 @@ use Rattle.lin_ir.specs.declared.lin.Line.{Line}
 use Rattle.lin_ir.specs.declared.lin.Lin.{Lin}
 use Rattle.lin_laws.proofs.Numbers.{loc_of_number}
 use Rattle.lin_laws.proofs.Places.{Ends, drop_is, target_ends, ends_label}
-use Rattle.lin_laws.specs.Graph.{loc_of, HasNumber, HaveNumbers, AreNumbered}
-use Rattle.lin_laws.specs.Numbers.{number_in, entry_of, entries_from}
+use Rattle.lin_laws.specs.Graph.{location_of_number, HasNumber, HaveNumbers, AreNumbered}
+use Rattle.lin_laws.specs.Numbers.{number_of_location, entry_of, trap_entries_from}
 
 -- ---- entries of a set
 
@@ -30,29 +30,29 @@ low t n h = ap (λ b. cond b (2 * n + 1) (8 * (n - 32) + 16 * t)) (lt-ltb n 32 h
 high : (t n : ℕ) → 32 ≤ n → entry_of t n ≡ 8 * (n - 32) + 16 * t
 high t n h = ap (λ b. cond b (2 * n + 1) (8 * (n - 32) + 16 * t)) (le-ltb n 32 h)
 
-pub entry_is : (t a : ℕ) (set : List Bool) (e : ℕ) → Contains (entries_from t a set) e →
+pub entry_is : (t a : ℕ) (set : List Bool) (e : ℕ) → Contains (trap_entries_from t a set) e →
     (n : ℕ) × (has set n ≡ true) × (entry_of t (a + n) ≡ e)
 entry_is t a [] e c = absurd (none_in e c)
 entry_is t a (true ∷ set) e c =
     ⊎_elim (λ f. let z : a + 0 ≡ a = omega arith in (0, refl, ap (entry_of t) z ∙ f))
     (λ d. let r = entry_is t (suc a) set e d in let z : a + suc r.0 ≡ suc a + r.0 = omega arith in (suc r.0, r.1, ap (entry_of t) z ∙ r.2))
-    (in_cons (entry_of t a) e (entries_from t (suc a) set) c)
+    (in_cons (entry_of t a) e (trap_entries_from t (suc a) set) c)
 entry_is t a (false ∷ set) e c =
     let r = entry_is t (suc a) set e c in let z : a + suc r.0 ≡ suc a + r.0 = omega arith in (suc r.0, r.1, ap (entry_of t) z ∙ r.2)
 
-pub entry_all : (t a : ℕ) (set : List Bool) (n : ℕ) → has set n ≡ true → Contains (entries_from t a set) (entry_of t (a + n))
+pub entry_all : (t a : ℕ) (set : List Bool) (n : ℕ) → has set n ≡ true → Contains (trap_entries_from t a set) (entry_of t (a + n))
 entry_all t a [] n h = absurd (cc)
 entry_all t a (true ∷ set) zero h =
     let z : a ≡ a + 0 = omega arith in
-    subst (λ k. Contains (entry_of t a ∷ entries_from t (suc a) set) (entry_of t k)) z (first_in (entry_of t a) (entries_from t (suc a) set))
+    subst (λ k. Contains (entry_of t a ∷ trap_entries_from t (suc a) set) (entry_of t k)) z (first_in (entry_of t a) (trap_entries_from t (suc a) set))
 entry_all t a (false ∷ set) zero h = absurd (cc)
 entry_all t a (true ∷ set) (suc n) h =
     let z : suc a + n ≡ a + suc n = omega arith in
-    subst (λ k. Contains (entry_of t a ∷ entries_from t (suc a) set) (entry_of t k)) z
-    (later_in (entry_of t a) (entry_of t (suc a + n)) (entries_from t (suc a) set) (entry_all t (suc a) set n h))
+    subst (λ k. Contains (entry_of t a ∷ trap_entries_from t (suc a) set) (entry_of t k)) z
+    (later_in (entry_of t a) (entry_of t (suc a + n)) (trap_entries_from t (suc a) set) (entry_all t (suc a) set n h))
 entry_all t a (false ∷ set) (suc n) h =
     let z : suc a + n ≡ a + suc n = omega arith in
-    subst (λ k. Contains (entries_from t (suc a) set) (entry_of t k)) z (entry_all t (suc a) set n h)
+    subst (λ k. Contains (trap_entries_from t (suc a) set) (entry_of t k)) z (entry_all t (suc a) set n h)
 
 odd : (n : ℕ) → (2 * n + 1) % 2 ≡ 1
 odd n = omega arith
@@ -92,10 +92,10 @@ pairs_cons {A} R x xs first rest = λ i j d. by d i j
     by d (suc i) zero lt le = absurd (omega (arith, lt))
     by d (suc i) (suc j) lt le = rest i j d (omega (arith, lt)) (omega (arith, le))
 
-pub entries_order : (t a : ℕ) (set : List Bool) → AllPairs ComesBefore (entries_from t a set)
+pub entries_order : (t a : ℕ) (set : List Bool) → AllPairs ComesBefore (trap_entries_from t a set)
 entries_order t a [] = λ i j d lt le. absurd (omega (arith, le))
 entries_order t a (true ∷ set) =
-    pairs_cons ComesBefore (entry_of t a) (entries_from t (suc a) set)
+    pairs_cons ComesBefore (entry_of t a) (trap_entries_from t (suc a) set)
     (λ e c.
     let r = entry_is t (suc a) set e c in
     subst (λ y. ComesBefore (entry_of t a) y) r.2 (comes t a (suc a + r.0) (omega arith)))
@@ -125,18 +125,18 @@ module _ (m : Lin) (numbered : AreNumbered m) where
   -- ---- descriptors
 
   module _ (i : Line) (next : List Line) (p : ℕ) (at : drop p m.code ≡ i ∷ next) (t : ℕ) (set : List Bool)
-      (live : (n : ℕ) → (has set n ≡ true) ↔ LiveAt m (loc_of n) comp.Val i next) where
-    entry_at : (n : ℕ) → IsEntry t (loc_of n) (entry_of t n)
+      (live : (n : ℕ) → (has set n ≡ true) ↔ LiveAt m (location_of_number n) comp.Val i next) where
+    entry_at : (n : ℕ) → IsDescriptorEntry t (location_of_number n) (entry_of t n)
     entry_at n =
         ⊎_elim
         (λ h.
-        subst (λ l. IsEntry t l (entry_of t n)) (sym (ap (λ b. cond b (loc.Machine n) (loc.Slot (n - 32))) (lt-ltb n 32 h)))
-        (subst (λ e. IsEntry t (loc.Machine n) e) (sym (low t n h)) of_register))
+        subst (λ l. IsDescriptorEntry t l (entry_of t n)) (sym (ap (λ b. cond b (loc.Machine n) (loc.Slot (n - 32))) (lt-ltb n 32 h)))
+        (subst (λ e. IsDescriptorEntry t (loc.Machine n) e) (sym (low t n h)) of_register))
         (λ h.
-        subst (λ l. IsEntry t l (entry_of t n)) (sym (ap (λ b. cond b (loc.Machine n) (loc.Slot (n - 32))) (le-ltb n 32 h)))
-        (subst (λ e. IsEntry t (loc.Slot (n - 32)) e) (sym (high t n h)) of_slot)) (cases_lt n 32)
+        subst (λ l. IsDescriptorEntry t l (entry_of t n)) (sym (ap (λ b. cond b (loc.Machine n) (loc.Slot (n - 32))) (le-ltb n 32 h)))
+        (subst (λ e. IsDescriptorEntry t (loc.Slot (n - 32)) e) (sym (high t n h)) of_slot)) (cases_lt n 32)
 
-    entry_of_loc : (l : Loc) (e : ℕ) → HasNumber m.slots l → IsEntry t l e → entry_of t (number_in l) ≡ e
+    entry_of_loc : (l : Loc) (e : ℕ) → HasNumber m.slots l → IsDescriptorEntry t l e → entry_of t (number_of_location l) ≡ e
     entry_of_loc loc.Unset e h k = elim h [ ]
     entry_of_loc (loc.Machine r) e h (of_register) = low t r h
     entry_of_loc (loc.Slot k) e h (of_slot) = let z : k + 32 - 32 ≡ k = omega arith in high t (k + 32) (omega arith) ∙ ap (λ j. 8 * j + 16 * t) z
@@ -144,28 +144,28 @@ module _ (m : Lin) (numbered : AreNumbered m) where
     ends : Ends m.code (i ∷ next)
     ends = let d = drop_is p m.code i next at in let lt = d.0 in record { at = p; within = omega (arith, lt); is = at }
 
-    names : (e : ℕ) → Contains (entries_from t 0 set) e → NamesLive m i next t e
+    names : (e : ℕ) → Contains (trap_entries_from t 0 set) e → NamesLive m i next t e
     names e c =
         let r = entry_is t 0 set e c in
         let z : 0 + r.0 ≡ r.0 = omega arith in
         record {
-          location = loc_of r.0;
+          location = location_of_number r.0;
           live = (live r.0).0 r.1;
-          entry = subst (λ k. IsEntry t (loc_of r.0) k) (ap (entry_of t) (sym z) ∙ r.2) (entry_at r.0);
+          entry = subst (λ k. IsDescriptorEntry t (location_of_number r.0) k) (ap (entry_of t) (sym z) ∙ r.2) (entry_at r.0);
         }
 
-    named : (e : ℕ) → NamesLive m i next t e → Contains (entries_from t 0 set) e
+    named : (e : ℕ) → NamesLive m i next t e → Contains (trap_entries_from t 0 set) e
     named e h =
         let number = across_numbered h.live.across ends in
-        let n : ℕ = number_in h.location in
+        let n : ℕ = number_of_location h.location in
         let same = loc_of_number m.slots h.location number in
         let z : 0 + n ≡ n = omega arith in
         let is = (live n).1 (subst (λ l. LiveAt m l comp.Val i next) (sym same) h.live) in
-        subst (Contains (entries_from t 0 set)) (ap (entry_of t) z ∙ entry_of_loc h.location e number h.entry) (entry_all t 0 set n is)
+        subst (Contains (trap_entries_from t 0 set)) (ap (entry_of t) z ∙ entry_of_loc h.location e number h.entry) (entry_all t 0 set n is)
 
     -- a descriptor whose entries are those of the set
     pub is_descr : (tries : List ℕ) (d : Descr) → t ≡ length tries → d.after ≡ p → d.size ≡ frame_bytes m + 16 * t →
-        d.entries ≡ entries_from t 0 set → IsDescr m i next tries d
+        d.entries ≡ trap_entries_from t 0 set → IsDescr m i next tries d
     is_descr tries d traps after size entries =
         let b = drop_is p m.code i next at in
         let lt = b.0 in

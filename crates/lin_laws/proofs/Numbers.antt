@@ -12,28 +12,28 @@ use Rattle.mach_ir.specs.Meaning.{Destroyed, Nothing, Temporaries, Everything, i
 use Rattle.lin_ir.specs.Meaning.{destroyed_by}
 use Rattle.lin_ir.specs.declared.lin.Spot.{Spot}
 use Rattle.lin_ir.specs.declared.lin.Line.{Line}
-use Rattle.lin_laws.specs.Graph.{loc_of, HasNumber, HaveNumbers, AreReads, AreWrites}
-use Rattle.lin_laws.specs.Numbers.{number_in, is_val, val_numbers, numbers, run, destroyed_numbers, written_numbers}
+use Rattle.lin_laws.specs.Graph.{location_of_number, HasNumber, HaveNumbers, AreReads, AreWritesAt}
+use Rattle.lin_laws.specs.Numbers.{number_of_location, is_val_comp, val_numbers, numbers_of_spots, consecutive_from, destroyed_numbers, written_numbers}
 
 -- ---- numbers of locations
 
-loc_low : (r : ℕ) → r < 32 → loc_of r ≡ loc.Machine r
+loc_low : (r : ℕ) → r < 32 → location_of_number r ≡ loc.Machine r
 loc_low r h = ap (λ b. cond b (loc.Machine r) (loc.Slot (r - 32))) (lt-ltb r 32 h)
 
-loc_high : (n : ℕ) → 32 ≤ n → loc_of n ≡ loc.Slot (n - 32)
+loc_high : (n : ℕ) → 32 ≤ n → location_of_number n ≡ loc.Slot (n - 32)
 loc_high n h = ap (λ b. cond b (loc.Machine n) (loc.Slot (n - 32))) (le-ltb n 32 h)
 
-pub loc_of_number : (slots : ℕ) (l : Loc) → HasNumber slots l → loc_of (number_in l) ≡ l
+pub loc_of_number : (slots : ℕ) (l : Loc) → HasNumber slots l → location_of_number (number_of_location l) ≡ l
 loc_of_number slots loc.Unset h = absurd h
 loc_of_number slots (loc.Machine r) h = loc_low r h
 loc_of_number slots (loc.Slot k) h = let e : k + 32 - 32 ≡ k = omega arith in loc_high (k + 32) (omega arith) ∙ ap loc.Slot e
 
-pub number_of_loc : (n : ℕ) → number_in (loc_of n) ≡ n
+pub number_of_loc : (n : ℕ) → number_of_location (location_of_number n) ≡ n
 number_of_loc n =
-    ⊎_elim (λ h. ap number_in (loc_low n h))
-    (λ h. let e : n - 32 + 32 ≡ n = omega (arith, h) in ap number_in (loc_high n h) ∙ e) (cases_lt n 32)
+    ⊎_elim (λ h. ap number_of_location (loc_low n h))
+    (λ h. let e : n - 32 + 32 ≡ n = omega (arith, h) in ap number_of_location (loc_high n h) ∙ e) (cases_lt n 32)
 
-pub number_below : (slots : ℕ) (l : Loc) → HasNumber slots l → number_in l < slots + 32
+pub number_below : (slots : ℕ) (l : Loc) → HasNumber slots l → number_of_location l < slots + 32
 number_below slots loc.Unset h = absurd h
 number_below slots (loc.Machine r) h = omega (arith, h)
 number_below slots (loc.Slot k) h = omega (arith, h)
@@ -45,20 +45,20 @@ module _ (slots : ℕ) where
   IsNumbered s = HasNumber slots s.loc
 
   abbrev spot_at : ℕ → Comp → Spot
-  spot_at n t = record { loc = loc_of n; comp = t }
+  spot_at n t = record { loc = location_of_number n; comp = t }
 
   vals_within : (ss : List Spot) → HaveNumbers slots ss → All (λ n. n < slots + 32) (val_numbers ss)
   vals_within [] h = All-nil (λ n. n < slots + 32)
-  vals_within (s ∷ ss) h = by (is_val s.comp) (vals_within ss (All-tail IsNumbered s ss h))
+  vals_within (s ∷ ss) h = by (is_val_comp s.comp) (vals_within ss (All-tail IsNumbered s ss h))
     where
       by : (b : Bool) → All (λ n. n < slots + 32) (val_numbers ss) →
-          All (λ n. n < slots + 32) (cond b (number_in s.loc ∷ val_numbers ss) (val_numbers ss))
+          All (λ n. n < slots + 32) (cond b (number_of_location s.loc ∷ val_numbers ss) (val_numbers ss))
       by true a =
-          All-cons (λ n. n < slots + 32) (number_in s.loc) (val_numbers ss)
+          All-cons (λ n. n < slots + 32) (number_of_location s.loc) (val_numbers ss)
           (number_below slots s.loc (All-head IsNumbered s ss h)) a
       by false a = a
 
-  val_is : (t : Comp) → is_val t ≡ true → t ≡ comp.Val
+  val_is : (t : Comp) → is_val_comp t ≡ true → t ≡ comp.Val
   val_is comp.Int e = absurd (cc)
   val_is comp.Val e = refl
   val_is comp.Addr e = absurd (cc)
@@ -72,18 +72,18 @@ module _ (slots : ℕ) where
 
   vals_read : (n : ℕ) (ss : List Spot) → HaveNumbers slots ss → Contains (val_numbers ss) n → Contains ss (spot_at n comp.Val)
   vals_read n [] h c = absurd (none_in n c)
-  vals_read n (s ∷ ss) h c = by (is_val s.comp) refl (vals_read n ss (All-tail IsNumbered s ss h)) c
+  vals_read n (s ∷ ss) h c = by (is_val_comp s.comp) refl (vals_read n ss (All-tail IsNumbered s ss h)) c
     where
-      by : (b : Bool) → is_val s.comp ≡ b → (Contains (val_numbers ss) n → Contains ss (spot_at n comp.Val)) →
-          Contains (cond b (number_in s.loc ∷ val_numbers ss) (val_numbers ss)) n → Contains (s ∷ ss) (spot_at n comp.Val)
+      by : (b : Bool) → is_val_comp s.comp ≡ b → (Contains (val_numbers ss) n → Contains ss (spot_at n comp.Val)) →
+          Contains (cond b (number_of_location s.loc ∷ val_numbers ss) (val_numbers ss)) n → Contains (s ∷ ss) (spot_at n comp.Val)
       by true e rest d =
           ⊎_elim
           (λ f.
-          let l : s.loc ≡ loc_of n =
-          sym (loc_of_number slots s.loc (All-head IsNumbered s ss h)) ∙ ap loc_of f in
-          subst (λ x. Contains (x ∷ ss) (spot_at n comp.Val)) (sym (same_spot s (loc_of n) comp.Val l (val_is s.comp e)))
+          let l : s.loc ≡ location_of_number n =
+          sym (loc_of_number slots s.loc (All-head IsNumbered s ss h)) ∙ ap location_of_number f in
+          subst (λ x. Contains (x ∷ ss) (spot_at n comp.Val)) (sym (same_spot s (location_of_number n) comp.Val l (val_is s.comp e)))
           (first_in (spot_at n comp.Val) ss))
-          (λ g. later_in s (spot_at n comp.Val) ss (rest g)) (in_cons (number_in s.loc) n (val_numbers ss) d)
+          (λ g. later_in s (spot_at n comp.Val) ss (rest g)) (in_cons (number_of_location s.loc) n (val_numbers ss) d)
       by false e rest d = later_in s (spot_at n comp.Val) ss (rest d)
 
   vals_all : (n : ℕ) (ss : List Spot) → Contains ss (spot_at n comp.Val) → Contains (val_numbers ss) n
@@ -91,12 +91,12 @@ module _ (slots : ℕ) where
   vals_all n (s ∷ ss) c =
       ⊎_elim
       (λ e.
-      subst (λ (x : Spot). Contains (cond (is_val x.comp) (number_in x.loc ∷ val_numbers ss) (val_numbers ss)) n) (sym e)
+      subst (λ (x : Spot). Contains (cond (is_val_comp x.comp) (number_of_location x.loc ∷ val_numbers ss) (val_numbers ss)) n) (sym e)
       (subst (λ k. Contains (k ∷ val_numbers ss) n) (sym (number_of_loc n)) (first_in n (val_numbers ss))))
-      (λ d. later (is_val s.comp) (vals_all n ss d)) (in_cons s (spot_at n comp.Val) ss c)
+      (λ d. later (is_val_comp s.comp) (vals_all n ss d)) (in_cons s (spot_at n comp.Val) ss c)
     where
-      later : (b : Bool) → Contains (val_numbers ss) n → Contains (cond b (number_in s.loc ∷ val_numbers ss) (val_numbers ss)) n
-      later true d = later_in (number_in s.loc) n (val_numbers ss) d
+      later : (b : Bool) → Contains (val_numbers ss) n → Contains (cond b (number_of_location s.loc ∷ val_numbers ss) (val_numbers ss)) n
+      later true d = later_in (number_of_location s.loc) n (val_numbers ss) d
       later false d = d
 
   pub are_reads : (i : Line) (next : List Line) → HaveNumbers slots i.args → AreReads (slots + 32) (i ∷ next) (val_numbers i.args)
@@ -105,59 +105,59 @@ module _ (slots : ℕ) where
 
   -- ---- what is written
 
-  numbers_within : (ss : List Spot) → HaveNumbers slots ss → All (λ n. n < slots + 32) (numbers ss)
+  numbers_within : (ss : List Spot) → HaveNumbers slots ss → All (λ n. n < slots + 32) (numbers_of_spots ss)
   numbers_within [] h = All-nil (λ n. n < slots + 32)
   numbers_within (s ∷ ss) h =
-      All-cons (λ n. n < slots + 32) (number_in s.loc) (numbers ss) (number_below slots s.loc (All-head IsNumbered s ss h))
+      All-cons (λ n. n < slots + 32) (number_of_location s.loc) (numbers_of_spots ss) (number_below slots s.loc (All-head IsNumbered s ss h))
       (numbers_within ss (All-tail IsNumbered s ss h))
 
-  numbers_named : (n : ℕ) (ss : List Spot) → HaveNumbers slots ss → Contains (numbers ss) n → (t : Comp) × Contains ss (spot_at n t)
+  numbers_named : (n : ℕ) (ss : List Spot) → HaveNumbers slots ss → Contains (numbers_of_spots ss) n → (t : Comp) × Contains ss (spot_at n t)
   numbers_named n [] h c = absurd (none_in n c)
   numbers_named n (s ∷ ss) h c =
       ⊎_elim
       (λ f.
-      let l : s.loc ≡ loc_of n = sym (loc_of_number slots s.loc (All-head IsNumbered s ss h)) ∙ ap loc_of f in (
+      let l : s.loc ≡ location_of_number n = sym (loc_of_number slots s.loc (All-head IsNumbered s ss h)) ∙ ap location_of_number f in (
         s.comp,
-        subst (λ x. Contains (x ∷ ss) (spot_at n s.comp)) (sym (same_spot s (loc_of n) s.comp l refl)) (first_in (spot_at n s.comp) ss),
+        subst (λ x. Contains (x ∷ ss) (spot_at n s.comp)) (sym (same_spot s (location_of_number n) s.comp l refl)) (first_in (spot_at n s.comp) ss),
       ))
       (λ d. let r = numbers_named n ss (All-tail IsNumbered s ss h) d in (r.0, later_in s (spot_at n r.0) ss r.1))
-      (in_cons (number_in s.loc) n (numbers ss) c)
+      (in_cons (number_of_location s.loc) n (numbers_of_spots ss) c)
 
-  numbers_all : (n : ℕ) (t : Comp) (ss : List Spot) → Contains ss (spot_at n t) → Contains (numbers ss) n
+  numbers_all : (n : ℕ) (t : Comp) (ss : List Spot) → Contains ss (spot_at n t) → Contains (numbers_of_spots ss) n
   numbers_all n t [] c = absurd (none_in (spot_at n t) c)
   numbers_all n t (s ∷ ss) c =
       ⊎_elim
       (λ e.
-      subst (λ (x : Spot). Contains (number_in x.loc ∷ numbers ss) n) (sym e)
-      (subst (λ k. Contains (k ∷ numbers ss) n) (sym (number_of_loc n)) (first_in n (numbers ss))))
-      (λ d. later_in (number_in s.loc) n (numbers ss) (numbers_all n t ss d)) (in_cons s (spot_at n t) ss c)
+      subst (λ (x : Spot). Contains (number_of_location x.loc ∷ numbers_of_spots ss) n) (sym e)
+      (subst (λ k. Contains (k ∷ numbers_of_spots ss) n) (sym (number_of_loc n)) (first_in n (numbers_of_spots ss))))
+      (λ d. later_in (number_of_location s.loc) n (numbers_of_spots ss) (numbers_all n t ss d)) (in_cons s (spot_at n t) ss c)
 
 -- ---- what is destroyed
 
-pub in_run : (a c n : ℕ) → a ≤ n → n < a + c → Contains (run a c) n
-unfolding run
+pub in_run : (a c n : ℕ) → a ≤ n → n < a + c → Contains (consecutive_from a c) n
+unfolding consecutive_from
 in_run a zero n le lt = absurd (omega (arith, le, lt))
 in_run a (suc c) n le lt =
-    ⊎_elim (λ (h : n < suc a). let e : n ≡ a = omega (arith, h, le) in subst (λ k. Contains (a ∷ run (suc a) c) k) (sym e) (first_in a (run (suc a) c)))
-    (λ (h : suc a ≤ n). later_in a n (run (suc a) c) (in_run (suc a) c n h (omega (arith, lt)))) (cases_lt n (suc a))
+    ⊎_elim (λ (h : n < suc a). let e : n ≡ a = omega (arith, h, le) in subst (λ k. Contains (a ∷ consecutive_from (suc a) c) k) (sym e) (first_in a (consecutive_from (suc a) c)))
+    (λ (h : suc a ≤ n). later_in a n (consecutive_from (suc a) c) (in_run (suc a) c n h (omega (arith, lt)))) (cases_lt n (suc a))
 
-pub run_bounds : (a c n : ℕ) → Contains (run a c) n → (a ≤ n) × (n < a + c)
-unfolding run
+pub run_bounds : (a c n : ℕ) → Contains (consecutive_from a c) n → (a ≤ n) × (n < a + c)
+unfolding consecutive_from
 run_bounds a zero n h = absurd (none_in n h)
 run_bounds a (suc c) n h =
     ⊎_elim (λ (e : a ≡ n). ((let le : a ≤ n = omega (arith, e) in le), (let lt : n < a + suc c = omega (arith, e) in lt)))
     (λ d.
     let r = run_bounds (suc a) c n d in
     let le = r.0 in let lt = r.1 in ((let x : a ≤ n = omega (arith, le) in x), (let y : n < a + suc c = omega (arith, lt) in y)))
-    (in_cons a n (run (suc a) c) h)
+    (in_cons a n (consecutive_from (suc a) c) h)
 
-pub run_within : (a c bound : ℕ) → a + c ≤ bound → All (λ n. n < bound) (run a c)
-unfolding run
+pub run_within : (a c bound : ℕ) → a + c ≤ bound → All (λ n. n < bound) (consecutive_from a c)
+unfolding consecutive_from
 run_within a zero bound h = All-nil (λ n. n < bound)
 run_within a (suc c) bound h =
-    All-cons (λ n. n < bound) a (run (suc a) c) (omega (arith, h)) (run_within (suc a) c bound (omega (arith, h)))
+    All-cons (λ n. n < bound) a (consecutive_from (suc a) c) (omega (arith, h)) (run_within (suc a) c bound (omega (arith, h)))
 
-temporary_is : (n : ℕ) → n < 32 → Contains (run 10 8 ++ run 28 4) n → is_temporary n ≡ true
+temporary_is : (n : ℕ) → n < 32 → Contains (consecutive_from 10 8 ++ consecutive_from 28 4) n → is_temporary n ≡ true
 temporary_is n lt h =
     ⊎_elim
     (λ c.
@@ -166,18 +166,18 @@ temporary_is n lt h =
     (λ c.
     let r = run_bounds 28 4 n c in let lo = r.0 in
     or_right (nat_le 10 n && nat_le n 17) (nat_le 28 n) (le-leb 28 n (omega (arith, lo))))
-    (Contains-append_cases (run 10 8) (run 28 4) n h)
+    (Contains-append_cases (consecutive_from 10 8) (consecutive_from 28 4) n h)
 
-temporary_all : (n : ℕ) → n < 32 → is_temporary n ≡ true → Contains (run 10 8 ++ run 28 4) n
+temporary_all : (n : ℕ) → n < 32 → is_temporary n ≡ true → Contains (consecutive_from 10 8 ++ consecutive_from 28 4) n
 temporary_all n lt h =
     ⊎_elim
     (λ a.
     let p = and_parts (nat_le 10 n) (nat_le n 17) a in
     let lo = leb-true 10 n p.0 in let hi = leb-true n 17 p.1 in
-    Contains-append_left (run 10 8) (run 28 4) n (in_run 10 8 n (omega (arith, lo)) (omega (arith, hi))))
+    Contains-append_left (consecutive_from 10 8) (consecutive_from 28 4) n (in_run 10 8 n (omega (arith, lo)) (omega (arith, hi))))
     (λ a.
     let lo = leb-true 28 n a in
-    Contains-append_right (run 10 8) (run 28 4) n (in_run 28 4 n (omega (arith, lo)) (omega (arith, lt))))
+    Contains-append_right (consecutive_from 10 8) (consecutive_from 28 4) n (in_run 28 4 n (omega (arith, lo)) (omega (arith, lt))))
     (or_cases (nat_le 10 n && nat_le n 17) (nat_le 28 n) h)
 
 -- a register is destroyed just where its number is in the list, and a slot never
@@ -190,10 +190,10 @@ destroyed_below : (d : Destroyed) (n : ℕ) → Contains (destroyed_numbers d) n
 destroyed_below Nothing n h = absurd (none_in n h)
 destroyed_below Temporaries n h =
     ⊎_elim (λ c. let r = run_bounds 10 8 n c in let hi = r.1 in omega (arith, hi))
-    (λ c. let r = run_bounds 28 4 n c in let hi = r.1 in omega (arith, hi)) (Contains-append_cases (run 10 8) (run 28 4) n h)
+    (λ c. let r = run_bounds 28 4 n c in let hi = r.1 in omega (arith, hi)) (Contains-append_cases (consecutive_from 10 8) (consecutive_from 28 4) n h)
 destroyed_below Everything n h = let r = run_bounds 0 32 n h in let hi = r.1 in omega (arith, hi)
 
-destroyed_is : (d : Destroyed) (n : ℕ) → Contains (destroyed_numbers d) n → is_destroyed d (loc_of n) ≡ true
+destroyed_is : (d : Destroyed) (n : ℕ) → Contains (destroyed_numbers d) n → is_destroyed d (location_of_number n) ≡ true
 destroyed_is d n h =
     let lt = destroyed_below d n h in
     ap (is_destroyed d) (loc_low n lt) ∙ destroyed_low d n lt h
@@ -208,7 +208,7 @@ register_all Nothing n lt e = absurd (cc)
 register_all Temporaries n lt e = temporary_all n lt e
 register_all Everything n lt e = in_run 0 32 n (omega arith) (omega (arith, lt))
 
-destroyed_all : (d : Destroyed) (n : ℕ) → is_destroyed d (loc_of n) ≡ true → Contains (destroyed_numbers d) n
+destroyed_all : (d : Destroyed) (n : ℕ) → is_destroyed d (location_of_number n) ≡ true → Contains (destroyed_numbers d) n
 destroyed_all d n e =
     ⊎_elim (λ h. register_all d n h (sym (ap (is_destroyed d) (loc_low n h)) ∙ e))
     (λ h. absurd (slot_stays d (n - 32) (sym (ap (is_destroyed d) (loc_high n h)) ∙ e))) (cases_lt n 32)
@@ -216,24 +216,24 @@ destroyed_all d n e =
 destroyed_within : (slots : ℕ) (d : Destroyed) → All (λ n. n < slots + 32) (destroyed_numbers d)
 destroyed_within slots Nothing = All-nil (λ n. n < slots + 32)
 destroyed_within slots Temporaries =
-    All-append (λ n. n < slots + 32) (run 10 8) (run 28 4) (run_within 10 8 (slots + 32) (omega arith)) (run_within 28 4 (slots + 32) (omega arith))
+    All-append (λ n. n < slots + 32) (consecutive_from 10 8) (consecutive_from 28 4) (run_within 10 8 (slots + 32) (omega arith)) (run_within 28 4 (slots + 32) (omega arith))
 destroyed_within slots Everything = run_within 0 32 (slots + 32) (omega arith)
 
 pub are_writes : (slots : ℕ) (i : Line) (next : List Line) → HaveNumbers slots i.results →
-    AreWrites (slots + 32) (i ∷ next) (written_numbers i)
+    AreWritesAt (slots + 32) (i ∷ next) (written_numbers i)
 are_writes slots i next h =
     record {
       within =
-          All-append (λ n. n < slots + 32) (numbers i.results) (destroyed_numbers (destroyed_by i.op))
+          All-append (λ n. n < slots + 32) (numbers_of_spots i.results) (destroyed_numbers (destroyed_by i.op))
           (numbers_within slots i.results h) (destroyed_within slots (destroyed_by i.op));
       exact = λ n. (
         λ c.
             ⊎_elim (λ a. inl (numbers_named slots n i.results h a)) (λ a. inr (destroyed_is (destroyed_by i.op) n a))
-            (Contains-append_cases (numbers i.results) (destroyed_numbers (destroyed_by i.op)) n c),
+            (Contains-append_cases (numbers_of_spots i.results) (destroyed_numbers (destroyed_by i.op)) n c),
         λ w.
             ⊎_elim
-            (λ a. Contains-append_left (numbers i.results) (destroyed_numbers (destroyed_by i.op)) n (numbers_all slots n a.0 i.results a.1))
-            (λ a. Contains-append_right (numbers i.results) (destroyed_numbers (destroyed_by i.op)) n (destroyed_all (destroyed_by i.op) n a))
+            (λ a. Contains-append_left (numbers_of_spots i.results) (destroyed_numbers (destroyed_by i.op)) n (numbers_all slots n a.0 i.results a.1))
+            (λ a. Contains-append_right (numbers_of_spots i.results) (destroyed_numbers (destroyed_by i.op)) n (destroyed_all (destroyed_by i.op) n a))
             w,
       );
     }

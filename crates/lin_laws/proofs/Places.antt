@@ -11,7 +11,7 @@ use Rattle.lin_ir.specs.Meaning.{code_at, after_label, has_label}
 use Rattle.lin_ir.specs.declared.lin.Line.{Line}
 use Rattle.lin_ir.specs.declared.lin.Lin.{Lin}
 use Rattle.bs_words.proofs.Lists.{drop_none}
-use Rattle.lin_laws.specs.Graph.{place_of, place_at, position, AreNumbersOf}
+use Rattle.lin_laws.specs.Graph.{line_index, place_at, position, AreNumbersOf}
 use Rattle.lin_laws.specs.declared.position.Position.{Position}
 
 -- ---- tables
@@ -75,10 +75,10 @@ after_within l (i ∷ is) = by (has_label l i.op) (after_within l is)
     by false le = omega (arith, le)
 
 module _ (m : Lin) where
-  pub place_ends : {rest : List Line} (e : Ends m.code rest) → place_of m rest ≡ e.at
+  pub place_ends : {rest : List Line} (e : Ends m.code rest) → line_index m rest ≡ e.at
   place_ends e = ap (λ xs. length m.code - length xs) (sym e.is) ∙ place_drop e.at m.code e.within
 
-  pub place_is : {rest : List Line} → Ends m.code rest → drop (place_of m rest) m.code ≡ rest
+  pub place_is : {rest : List Line} → Ends m.code rest → drop (line_index m rest) m.code ≡ rest
   place_is e = ap (λ k. drop k m.code) (place_ends e) ∙ e.is
 
   pub next_ends : {i : Line} {next : List Line} → Ends m.code (i ∷ next) → Ends m.code next
@@ -97,7 +97,7 @@ module _ (m : Lin) where
   place_target p i next (At l) e = place_is (ends_label l m.code)
 
   pub place_of_target : (i : Line) (next : List Line) (t : Target) → Ends m.code (i ∷ next) →
-      place_of m (code_at m.code next t) ≡ place_at m (place_of m (i ∷ next)) t
+      line_index m (code_at m.code next t) ≡ place_at m (line_index m (i ∷ next)) t
   unfolding next_ends
   place_of_target i next On e = place_ends (next_ends e) ∙ ap suc (sym (place_ends e))
   place_of_target i next (At l) e = refl

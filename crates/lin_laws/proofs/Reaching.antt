@@ -12,7 +12,7 @@ use Rattle.lin_ir.specs.declared.lin.Line.{Line}
 use Rattle.lin_ir.specs.declared.lin.Lin.{Lin}
 use Rattle.lin_laws.proofs.Places.{Ends, number_all, place_target, place_is, place_of_target, target_ends, ends_label}
 use Rattle.lin_laws.proofs.Walking.{step_is, in_steps, landing_is, in_landing}
-use Rattle.lin_laws.specs.Graph.{place_of, place_at, position, steps, steps_at, raises_at, raise_steps, AreNodes}
+use Rattle.lin_laws.specs.Graph.{line_index, place_at, position, steps, steps_at, raises_at, raise_steps, ArePositionNodes}
 use Rattle.lin_laws.specs.declared.position.Position.{Position}
 
 module _ (m : Lin) where
@@ -54,19 +54,19 @@ module _ (m : Lin) where
   -- ---- all that is reached
 
   module _ (bound : ℕ) (all : List Position) (nodes : List place.Place) (len : length all ≤ length nodes)
-      (is : AreNodes m bound all nodes) (entry : (q : ℕ) × (slice_get all q ≡ Some (position 0 []))) where
+      (is : ArePositionNodes m bound all nodes) (entry : (q : ℕ) × (slice_get all q ≡ Some (position 0 []))) where
     node_at : (q : ℕ) (x : Position) → slice_get all q ≡ Some x → (node : place.Place) × (slice_get nodes q ≡ Some node)
     node_at q x e = let lt : q < length all = slice_get_within all q x e in got nodes q (omega (arith, lt, len))
 
     pub all_reached : {rest : List Line} {tries : List ℕ} → Reached m rest tries →
-        (q : ℕ) × (slice_get all q ≡ Some (position (place_of m rest) tries))
+        (q : ℕ) × (slice_get all q ≡ Some (position (line_index m rest) tries))
     all_reached at_entry =
-        let none : 0 ≡ place_of m m.code = omega arith in
+        let none : 0 ≡ line_index m m.code = omega arith in
         (entry.0, entry.1 ∙ ap (λ k. Some (position k [])) none)
     all_reached (by_step {i = i} {next = next} {tries = tries} r (goes t o)) =
         let h = all_reached r in
         let e = reached_ends r in
-        let x : Position = position (place_of m (i ∷ next)) tries in
+        let x : Position = position (line_index m (i ∷ next)) tries in
         let y : Position = position (place_at m x.place t) (tries_after i.op tries) in
         let node = node_at h.0 x h.1 in
         let k = is h.0 x node.0 h.1 node.1 in
@@ -77,8 +77,8 @@ module _ (m : Lin) where
     all_reached (by_raise {i = i} {next = next} r (raises {h = l} {tries = tries} b)) =
         let h = all_reached r in
         let e = reached_ends r in
-        let x : Position = position (place_of m (i ∷ next)) (l ∷ tries) in
-        let y : Position = position (place_of m (after_label l m.code)) tries in
+        let x : Position = position (line_index m (i ∷ next)) (l ∷ tries) in
+        let y : Position = position (line_index m (after_label l m.code)) tries in
         let node = node_at h.0 x h.1 in
         let k = is h.0 x node.0 h.1 node.1 in
         let c : Contains (raise_steps m x) y =

@@ -13,7 +13,7 @@ use Rattle.dataflow.specs.declared.flow.Flow as flow
 use Rattle.dataflow.specs.declared.flow.Place as place
 use Rattle.mach_ir.specs.Acts.{Target, On, At}
 use Rattle.lin_ir.specs.Meaning.{after_label}
-use Rattle.lin_ir.specs.Walks.{targets, may_raise, tries_after, ReadsAs, Writes, Reached, Traps}
+use Rattle.lin_ir.specs.Walks.{targets, may_raise, tries_after, ReadsLocationAs, Writes, Reached, Traps}
 use Rattle.lin_ir.specs.declared.lin.Spot.{Spot}
 use Rattle.lin_ir.specs.declared.lin.Line.{Line}
 use Rattle.lin_ir.specs.declared.lin.Lin.{Lin}
@@ -22,8 +22,8 @@ use Rattle.lin_laws.specs.declared.position.Position.{Position}
 -- ---- numbers of locations
 
 -- the location of a number: first the registers of the machine, and then the slots
-abbrev pub loc_of : ℕ → Loc
-loc_of n = cond (nat_lt n 32) (loc.Machine n) (loc.Slot (n - 32))
+abbrev pub location_of_number : ℕ → Loc
+location_of_number n = cond (nat_lt n 32) (loc.Machine n) (loc.Slot (n - 32))
 
 -- the location has a number, where there are so many slots
 abbrev pub HasNumber : ℕ → Loc → Type 0
@@ -42,13 +42,13 @@ pub record AreNumbered (m : Lin) : Type 0 where
 -- ---- positions
 
 -- the number of the place from which this code is left
-abbrev pub place_of : Lin → List Line → ℕ
-place_of m rest = length m.code - length rest
+abbrev pub line_index : Lin → List Line → ℕ
+line_index m rest = length m.code - length rest
 
 -- where a line at this place goes on
 abbrev pub place_at : Lin → ℕ → Target → ℕ
 place_at m p On = suc p
-place_at m p (At l) = place_of m (after_label l m.code)
+place_at m p (At l) = line_index m (after_label l m.code)
 
 abbrev pub position : ℕ → List ℕ → Position
 position p tries = record { place = p; tries = tries }
@@ -65,7 +65,7 @@ steps m x = steps_at m x.place (drop x.place m.code) x.tries
 abbrev pub landing : Lin → Bool → List ℕ → List Position
 landing m false tries = []
 landing m true [] = []
-landing m true (h ∷ tries) = position (place_of m (after_label h m.code)) tries ∷ []
+landing m true (h ∷ tries) = position (line_index m (after_label h m.code)) tries ∷ []
 
 abbrev pub raises_at : Lin → List Line → List ℕ → List Position
 raises_at m [] tries = []
@@ -79,7 +79,7 @@ raise_steps m x = raises_at m (drop x.place m.code) x.tries
 
 abbrev pub ReadsAt : Loc → Comp → List Line → Type 0
 ReadsAt l t [] = ⊥
-ReadsAt l t (i ∷ next) = ReadsAs l t i
+ReadsAt l t (i ∷ next) = ReadsLocationAs l t i
 
 abbrev pub WritesAt : Loc → List Line → Type 0
 WritesAt l [] = ⊥
@@ -94,35 +94,35 @@ pub record AreNumbersOf (all : List Position) (ns : List ℕ) (ys : List Positio
       slice_get all (slice_index ns k) ≡ Some (slice_index_or ys k d)
 
 -- exactly what is written at this code, and nothing from the bound on
-pub record AreWrites (bound : ℕ) (rest : List Line) (ns : List ℕ) : Type 0 where
+pub record AreWritesAt (bound : ℕ) (rest : List Line) (ns : List ℕ) : Type 0 where
   pub within : All (λ n. n < bound) ns
-  pub exact : (n : ℕ) → Contains ns n ↔ WritesAt (loc_of n) rest
+  pub exact : (n : ℕ) → Contains ns n ↔ WritesAt (location_of_number n) rest
 
 -- exactly what is read at this code as val
 pub record AreReads (bound : ℕ) (rest : List Line) (ns : List ℕ) : Type 0 where
   pub within : All (λ n. n < bound) ns
-  pub exact : (n : ℕ) → Contains ns n ↔ ReadsAt (loc_of n) comp.Val rest
+  pub exact : (n : ℕ) → Contains ns n ↔ ReadsAt (location_of_number n) comp.Val rest
 
 -- the place of the graph that is a position
-pub record IsNode (m : Lin) (bound : ℕ) (all : List Position) (x : Position)
+pub record IsPositionNode (m : Lin) (bound : ℕ) (all : List Position) (x : Position)
     (node : place.Place) : Type 0 where
   pub next : AreNumbersOf all (contents node.next) (steps m x)
   pub aside : AreNumbersOf all (contents node.aside) (raise_steps m x)
   pub reads : AreReads bound (drop x.place m.code) (contents node.reads)
-  pub writes : AreWrites bound (drop x.place m.code) (contents node.writes)
+  pub writes : AreWritesAt bound (drop x.place m.code) (contents node.writes)
 
 -- each place of the graph that has the number of a position is that position
-abbrev pub AreNodes : Lin → ℕ → List Position → List place.Place → Type 0
-AreNodes m bound all nodes =
+abbrev pub ArePositionNodes : Lin → ℕ → List Position → List place.Place → Type 0
+ArePositionNodes m bound all nodes =
     (q : ℕ) (x : Position) (node : place.Place) → slice_get all q ≡ Some x →
-    slice_get nodes q ≡ Some node → IsNode m bound all x node
+    slice_get nodes q ≡ Some node → IsPositionNode m bound all x node
 
 -- The place of the graph before which is live what is live at this frame point: one that reads
 -- nothing, and from which control goes where it goes from any position of the frame point.
-pub record IsAfter (m : Lin) (bound : ℕ) (all : List Position) (p : ℕ) (node : place.Place) :
+pub record IsNodeAfterPoint (m : Lin) (bound : ℕ) (all : List Position) (p : ℕ) (node : place.Place) :
     Type 0 where
   pub reads : contents node.reads ≡ []
-  pub writes : AreWrites bound (drop p m.code) (contents node.writes)
+  pub writes : AreWritesAt bound (drop p m.code) (contents node.writes)
   pub next_is : (q : ℕ) → Contains (contents node.next) q →
       (tries : List ℕ) × Traps m (drop p m.code) tries × ((y : Position) ×
       Contains (steps m (position p tries)) y × (slice_get all q ≡ Some y))
@@ -139,7 +139,7 @@ pub record IsAfter (m : Lin) (bound : ℕ) (all : List Position) (p : ℕ) (node
 -- The positions have numbers, and each is a place of the graph of the same number.
 pub record IsGraphOf (m : Lin) (all : List Position) (f : flow.Flow) : Type 0 where
   pub len : length all ≤ length (contents f.places)
-  pub nodes : AreNodes m f.bound all (contents f.places)
+  pub nodes : ArePositionNodes m f.bound all (contents f.places)
 
 -- ---- which positions there are
 
@@ -148,4 +148,4 @@ pub record AreReached (m : Lin) (all : List Position) : Type 0 where
   pub sound : (q : ℕ) (x : Position) → slice_get all q ≡ Some x →
       Reached m (drop x.place m.code) x.tries
   pub complete : (rest : List Line) (tries : List ℕ) → Reached m rest tries →
-      (q : ℕ) × (slice_get all q ≡ Some (position (place_of m rest) tries))
+      (q : ℕ) × (slice_get all q ≡ Some (position (line_index m rest) tries))

@@ -3,11 +3,11 @@ use Rattle.std.proofs.Common.{◌≡◌, ℕ, ◌+◌, ◌*◌, ◌/◌, ◌<◌
 use Rattle.std.specs.List.{All}
 use Rattle.std.specs.Prelude.{slice_get, slice_index_or}
 use Rattle.std.proofs.lemmas.Option.{slice_get_within, slice_get-get_or, get_or_from_slice_get}
-use Rattle.lin_ir.specs.Descriptors.{has_frame_point, frame_bytes, IsWithin}
+use Rattle.lin_ir.specs.Descriptors.{has_frame_point, frame_bytes, FitsDescriptors}
 use Rattle.lin_ir.specs.Walks.{Reached, at_entry, Traps, by_walk, unreached, OneDepth}
 use Rattle.lin_ir.specs.declared.lin.Line.{Line}
 use Rattle.lin_ir.specs.declared.lin.Lin.{Lin}
-use Rattle.lin_laws.specs.Graph.{place_of, position}
+use Rattle.lin_laws.specs.Graph.{line_index, position}
 use Rattle.lin_laws.specs.declared.position.Position.{Position}
 use Rattle.lin_tests.specs.Positions.{Agree, AreAgreed, Fits, ArePositions}
 
@@ -20,8 +20,8 @@ module _ (m : Lin) (all : List Position) (are : ArePositions m all) where
   one_number h code tries others (by_walk r) (by_walk s) =
       let a = are.reached.complete code tries r in
       let b = are.reached.complete code others s in
-      let x : Position = position (place_of m code) tries in
-      let y : Position = position (place_of m code) others in
+      let x : Position = position (line_index m code) tries in
+      let y : Position = position (line_index m code) others in
       in_all (Agree x) all b.0 y b.1 (in_all (λ x. All (Agree x) all) all a.0 x a.1 h) refl
   one_number h code tries others (by_walk r) (unreached none) = absurd (none tries r)
   one_number h code tries others (unreached none) (by_walk s) = absurd (none others s)
@@ -44,17 +44,17 @@ module _ (m : Lin) (all : List Position) (are : ArePositions m all) where
       frame_bytes m + 16 * length tries ≤ 1048576
   fits_walk h code tries r =
       let a = are.reached.complete code tries r in
-      in_all (Fits (frame_bytes m)) all a.0 (position (place_of m code) tries) a.1 h
+      in_all (Fits (frame_bytes m)) all a.0 (position (line_index m code) tries) a.1 h
 
   fits_at : All (Fits (frame_bytes m)) all → (code : List Line) (tries : List ℕ) → Traps m code tries →
       frame_bytes m + 16 * length tries ≤ 1048576
   fits_at h code tries (by_walk r) = fits_walk h code tries r
   fits_at h code tries (unreached none) = fits_walk h m.code [] at_entry
 
-  pub within : All (Fits (frame_bytes m)) all → IsWithin m
+  pub within : All (Fits (frame_bytes m)) all → FitsDescriptors m
   within h = record { lines = are.lines; frame = fits_at h }
 
-  pub all_fit : IsWithin m → All (Fits (frame_bytes m)) all
+  pub all_fit : FitsDescriptors m → All (Fits (frame_bytes m)) all
   all_fit w = λ k d lt.
       let x = slice_index_or all k d in
       w.frame (drop x.place m.code) x.tries (by_walk (walk_to k d lt))
@@ -71,7 +71,7 @@ round_least slots false le = omega (arith, le)
 pub frame_small : (m : Lin) → m.slots ≤ 131072 → frame_bytes m < 2147483648
 frame_small m le = round_least m.slots (has_frame_point m.code) le
 
-pub few_slots : (m : Lin) → IsWithin m → m.slots ≤ 131072
+pub few_slots : (m : Lin) → FitsDescriptors m → m.slots ≤ 131072
 few_slots m w =
     let frame : frame_bytes m + 16 * length {A = ℕ} [] ≤ 1048576 = w.frame m.code [] (by_walk at_entry) in
     let least = round_up m.slots (cond (has_frame_point m.code) 8 0) in

@@ -1,6 +1,6 @@
 //! Whether each location of a function is a colour, t0 or one of its slots.
 ghost use Rattle.std.specs.Prelude.{◌↔◌, All, Contains, IsTrue};
-ghost use Rattle.mach_ir.specs.Placed.{colours};
+ghost use Rattle.mach_ir.specs.Placed.{colour_numbers};
 ghost use Rattle.lin_ir.specs.Formed.{IsLocation, Locates, AreLocated};
 ghost use Rattle.lin_ir.specs.declared.lin.Line.{Line};
 
@@ -12,7 +12,7 @@ use rv_isa::{COLOURS, Register};
 const SPARE: u8 = Register::T0 as u8;
 
 fn is_colour(register: u8) -> bool
-    ensures { IsTrue result ↔ Contains colours register }
+    ensures { IsTrue result ↔ Contains colour_numbers register }
 {
     COLOURS.contains(&register)
 }

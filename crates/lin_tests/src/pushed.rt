@@ -1,6 +1,6 @@
 //! Whether the numbers of traps that are pushed where walks come are such as descriptors need.
 ghost use Rattle.std.specs.Prelude.{◌+◌, ◌*◌, ◌<◌, ◌↔◌, All, IfOk, IsTrue};
-ghost use Rattle.lin_ir.specs.Descriptors.{IsWithin};
+ghost use Rattle.lin_ir.specs.Descriptors.{FitsDescriptors};
 ghost use Rattle.lin_ir.specs.Formed.{AreLocated};
 ghost use Rattle.lin_ir.specs.Walks.{OneDepth};
 ghost use Rattle.lin_flow.specs.Sizes.{IsCountable};
@@ -87,7 +87,7 @@ pub fn has_one_depth(alloc: Global, lin: &Lin) -> Result<bool, AllocError>
 /// More positions than a number can count are want of memory.
 pub fn is_within(alloc: Global, lin: &Lin) -> Result<bool, AllocError>
     requires { AreLocated lin.now }
-    ensures { IfOk result (λ yes. IsTrue yes ↔ IsWithin lin.now) }
+    ensures { IfOk result (λ yes. IsTrue yes ↔ FitsDescriptors lin.now) }
 {
     if lin.slots > SLOTS {
         return Ok(false);

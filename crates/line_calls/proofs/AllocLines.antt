@@ -10,20 +10,20 @@ use Rattle.bs_words.specs.declared.types.Loc.{Loc}
 use Rattle.bs_words.specs.declared.types.Loc.TheVariants as loc
 use Rattle.bs_words.specs.declared.values.Value.{Value}
 use Rattle.emit_rules.specs.Memory.{addresses, alloc_part, reserved}
-use Rattle.layout_rules.specs.Laid.{desc_at}
+use Rattle.layout_rules.specs.Laid.{descriptor_laid_at}
 use Rattle.layout_rules.specs.Forms.{total_words}
-use Rattle.layout_rules.specs.Words.{Named}
+use Rattle.layout_rules.specs.Words.{NameAddresses}
 use Rattle.lin_ir.specs.Formed.{Locates, spare}
-use Rattle.lin_ir.specs.Meaning.{Locations, NamedAt, are_vals, is_named, on_act, poisoned, put, put_all, same_loc, step, unless_misnamed, wrote}
+use Rattle.lin_ir.specs.Meaning.{Locations, NamedAt, are_vals, is_named_location, on_act, poisoned, assign_spot, put_all, same_loc, step, unless_misnamed, wrote}
 use Rattle.lin_ir.specs.declared.descr.Descr.{Descr}
 use Rattle.lin_ir.specs.declared.lin.Lin.{Lin}
 use Rattle.lin_ir.specs.declared.lin.Line.{Line}
 use Rattle.lin_ir.specs.declared.lin.LinOp.TheVariants as lin
 use Rattle.lin_ir.specs.declared.lin.Spot.{Spot}
-use Rattle.mach_ir.specs.Acts.{Around, fresh_block, is_complete, new_blocks, only_if, with_block}
-use Rattle.mach_ir.specs.Blocks.{bytes_of}
+use Rattle.mach_ir.specs.Acts.{Around, fresh_block, is_complete, new_blocks, stuck_unless, with_block}
+use Rattle.mach_ir.specs.Blocks.{total_block_bytes}
 use Rattle.mach_ir.specs.Forms.{IsBlock}
-use Rattle.mach_ir.specs.Runs.{Place}
+use Rattle.mach_ir.specs.Runs.{ActivationSetting}
 use Rattle.mach_ir.specs.declared.blocks.NewBlock.{NewBlock}
 use Rattle.mach_ir.specs.declared.op.Access.TheVariants as access
 use Rattle.mach_ir.specs.declared.op.Op.TheVariants as op
@@ -60,11 +60,11 @@ are_new (b ∷ bs) all =
       are_new bs (All-tail IsBlock b bs all),
     )
 
-bytes_even : (bs : List NewBlock) → bytes_of bs % 8 ≡ 0
+bytes_even : (bs : List NewBlock) → total_block_bytes bs % 8 ≡ 0
 bytes_even [] = refl
 bytes_even (b ∷ bs) = let e = bytes_even bs in omega (arith, e)
 
-is_request : (bs : List NewBlock) → (bs ≡ [] → ⊥) → AreNew bs → bytes_of bs ≤ 2056 → IsRequest (bytes_of bs)
+is_request : (bs : List NewBlock) → (bs ≡ [] → ⊥) → AreNew bs → total_block_bytes bs ≤ 2056 → IsRequest (total_block_bytes bs)
 is_request [] some new most = absurd (some refl)
 is_request (b ∷ bs) some new most = let l = new.0.some in record { even = bytes_even (b ∷ bs); some = omega (arith, l); most = most }
 
@@ -95,7 +95,7 @@ put_all_is end [] (x ∷ xs) f g e = absurd (cc)
 put_all_is end (r ∷ rs) [] f g e = absurd (cc)
 put_all_is end (r ∷ rs) (x ∷ xs) f g e =
     let w = was_put end r x (put_all end rs xs f) g e in
-    w.is ∙ ap (put r x) (put_all_is end rs xs f w.before w.was)
+    w.is ∙ ap (assign_spot r x) (put_all_is end rs xs f w.before w.was)
 
 -- t0 is none of what is held
 pub no_t0 : (held : Locations) (x : Value) → dropped 5 held (loc.Machine 5) ≡ Some x → ⊥
@@ -115,13 +115,13 @@ dropped_others held l n = by_test (same_loc (loc.Machine 5) l) refl
     by_test true e = absurd (n (same_loc-true (loc.Machine 5) l e))
     by_test false e = refl
 
-module _ (s : Fixed) (n : Named) (laid : Laid) (live : List Line → Type 0) (entry : ℕ → ℕ) (c : Below) (place : Place) (named : NamedAt) (m : Lin)
+module _ (s : Fixed) (n : NameAddresses) (laid : Laid) (live : List Line → Type 0) (entry : ℕ → ℕ) (c : Below) (place : ActivationSetting) (named : NamedAt) (m : Lin)
     (slots_are : m.slots ≡ laid.slots) (next : List Line)
     (v : View) (young : List Placed) (held file : Locations) (a : Around) (within : Within s laid v young 0 held a c) (before : Type 0)
     (agrees : Agrees before held file) (k : ℕ) (none : a.raised ≡ None) (behind : laid.part (length next) ≡ v.place + k) (saves : laid.saves ≡ true)
-    (e : Descr) (is : (at : ℕ) → IsDescribed laid (length a.tries) (named (length next)) (desc_at at e))
-    (end_is : place.setting.end ≡ data_start + length s.image.bytes) (spared : is_named spare (named (length next)) ≡ false) (dead : live next → ⊥)
-    (blocks : List NewBlock) (some : blocks ≡ [] → ⊥) (all : All IsBlock blocks) (most : bytes_of blocks ≤ 2056) (rs : List Spot)
+    (e : Descr) (is : (at : ℕ) → IsDescribed laid (length a.tries) (named (length next)) (descriptor_laid_at at e))
+    (end_is : place.setting.end ≡ data_start + length s.image.bytes) (spared : is_named_location spare (named (length next)) ≡ false) (dead : live next → ⊥)
+    (blocks : List NewBlock) (some : blocks ≡ [] → ⊥) (all : All IsBlock blocks) (most : total_block_bytes blocks ≤ 2056) (rs : List Spot)
     (as_many : length rs ≡ length blocks) (located : Locates m rs)
     (part : PartStands s n v.place (v.place + k) (alloc_part (length a.tries) (Descriptor e ∷ []) blocks rs))
     (marks : AreMarked s v.place (alloc_part (length a.tries) (Descriptor e ∷ []) blocks rs) part.forms) where
@@ -142,28 +142,28 @@ module _ (s : Fixed) (n : Named) (laid : Laid) (live : List Line → Type 0) (en
       ArrivesIn 0 k s (needs_of laid c (record { rest = next; file = new; around = around_made blocks a })) v
       (IsAt s laid live c (record { rest = next; file = new; around = around_made blocks a }))
   arrives fits whole new is_new =
-      let cut = marked_between s n v.place (v.place + k) (reserved (bytes_of blocks)) (addresses (length a.tries) blocks rs) e part marks in
+      let cut = marked_between s n v.place (v.place + k) (reserved (total_block_bytes blocks)) (addresses (length a.tries) blocks rs) e part marks in
       let fit : are_vals (data_start + length s.image.bytes) (named (length next)) (dropped 5 held) ≡ true =
       subst (λ z. are_vals z (named (length next)) (dropped 5 held) ≡ true) end_is
       (vals_held place.setting.end ⊥ (dropped 5 held) file (named (length next)) agrees_less spared ∙ fits) in
       let need = need_more blocks a in
       let e1 = cut.first.past in
       let e2 = cut.second.past in
-      let k1 : ℕ = total_words (reserved (bytes_of blocks)) cut.first.forms in
+      let k1 : ℕ = total_words (reserved (total_block_bytes blocks)) cut.first.forms in
       let k2 : ℕ = total_words (addresses (length a.tries) blocks rs) cut.second.forms in
       let sum : k1 + k2 ≤ k = omega (arith, e1, e2) in
       at_least 0 0 (k1 + k2) k s v (IsAt s laid live c (record { rest = next; file = new; around = around_made blocks a })) (omega arith) sum
       (then_arrives k1 k2 s v
-      (λ w. (w.place ≡ cut.middle) × IsReserved s laid (bytes_of blocks) (poisoned (named (length next)) (dropped 5 held)) a c w)
+      (λ w. (w.place ≡ cut.middle) × IsReserved s laid (total_block_bytes blocks) (poisoned (named (length next)) (dropped 5 held)) a c w)
       (IsAt s laid live c (record { rest = next; file = new; around = around_made blocks a }))
       (reserve_arrives s n laid v young (dropped 5 held) a c (within_less s laid v young 0 held (dropped 5 held) a c (dropped_less held) within) none whole
-      (bytes_of blocks) (is_request blocks some (are_new blocks all) most) (named (length next)) (desc_at cut.middle e) (is cut.middle) saves fit (no_t0 held)
+      (total_block_bytes blocks) (is_request blocks some (are_new blocks all) most) (named (length next)) (descriptor_laid_at cut.middle e) (is cut.middle) saves fit (no_t0 held)
       cut.middle cut.there (needs_of laid c (record { rest = next; file = new; around = around_made blocks a })) need k1 e1 cut.first)
       (λ w h. lands new is_new cut.middle w h.0 h.1 cut.second k2 e2))
     where
       lands : (new : Locations) → new ≡ put_values rs (values_made blocks a) (poisoned (named (length next)) file) → (middle : ℕ) (w : View) →
           w.place ≡ middle →
-          IsReserved s laid (bytes_of blocks) (poisoned (named (length next)) (dropped 5 held)) a c w →
+          IsReserved s laid (total_block_bytes blocks) (poisoned (named (length next)) (dropped 5 held)) a c w →
           PartStands s n middle (v.place + k) (addresses (length a.tries) blocks rs) → (k2 : ℕ) → v.place + k ≡ middle + k2 →
           ArrivesIn 0 k2 s (needs_of laid c (record { rest = next; file = new; around = around_made blocks a })) w
           (IsAt s laid live c (record { rest = next; file = new; around = around_made blocks a }))
@@ -202,7 +202,7 @@ module _ (s : Fixed) (n : Named) (laid : Laid) (live : List Line → Type 0) (en
       arrives fits whole new (put_all_is place.setting.end rs (values_made blocks a) (poisoned (named (length next)) file) new h)
 
   by_complete : are_vals place.setting.end (named (length next)) file ≡ true → (t : Bool) → is_complete a ≡ t →
-      FollowsStep k s laid live entry c v (on_act place m line next (poisoned (named (length next)) file) a (only_if t (new_blocks blocks [] a)))
+      FollowsStep k s laid live entry c v (on_act place m line next (poisoned (named (length next)) file) a (stuck_unless t (new_blocks blocks [] a)))
   by_complete fits false h = tt
   by_complete fits true h =
       subst (λ act. FollowsStep k s laid live entry c v (on_act place m line next (poisoned (named (length next)) file) a act)) (sym
@@ -211,7 +211,7 @@ module _ (s : Fixed) (n : Named) (laid : Laid) (live : List Line → Type 0) (en
 
   by_fit : (t : Bool) → are_vals place.setting.end (named (length next)) file ≡ t →
       FollowsStep k s laid live entry c v (unless_misnamed t (on_act place m line next (poisoned (named (length next)) file) a
-      (only_if (is_complete a) (new_blocks blocks [] a))))
+      (stuck_unless (is_complete a) (new_blocks blocks [] a))))
   by_fit false h = tt
   by_fit true h = by_complete h (is_complete a) refl
 

@@ -4,10 +4,10 @@ use Rattle.bs_words.specs.declared.values.Value.{Value}
 use Rattle.bs_words.specs.declared.values.Value.TheVariants.{Block}
 use Rattle.lin_ir.specs.Meaning.{Locations}
 use Rattle.mach_ir.specs.Acts.{Around, Goes, On, fresh_block, new_blocks, with_block}
-use Rattle.mach_ir.specs.Blocks.{bytes_of}
+use Rattle.mach_ir.specs.Blocks.{total_block_bytes}
 use Rattle.mach_ir.specs.declared.blocks.NewBlock.{NewBlock}
 use Rattle.rv_machine.specs.Hart.{Placed}
-use Rattle.rv_machine.specs.Observation.{cells_of, young_start}
+use Rattle.rv_machine.specs.Observation.{cells_of_header, young_start}
 use Rattle.moving_laws.specs.Values.{start_of}
 use Rattle.moving_laws.specs.Young.{Rises}
 use Rattle.moving_laws.proofs.Rewriting.{at_start}
@@ -49,7 +49,7 @@ raised_made (b ∷ bs) a = raised_made bs (with_block b a)
 pub record IsNew (b : NewBlock) : Type 0 where
   pub some : 1 ≤ b.cells
   pub most : b.cells ≤ 256
-  pub head : cells_of b.header ≡ b.cells
+  pub head : cells_of_header b.header ≡ b.cells
 
 abbrev pub AreNew : List NewBlock → Type 0
 AreNew [] = Unit {0}
@@ -65,7 +65,7 @@ abbrev pub AllStand : Fixed → (young : List Placed) → (count at : ℕ) → L
 AllStand s young count at [] [] = Unit {0}
 AllStand s young count at [] (x ∷ xs) = ⊥
 AllStand s young count at (b ∷ bs) [] = ⊥
-AllStand s young count at (b ∷ bs) (x ∷ xs) = StandsAnywhere s young count (at + (bytes_of bs + 8)) x × AllStand s young count at bs xs
+AllStand s young count at (b ∷ bs) (x ∷ xs) = StandsAnywhere s young count (at + (total_block_bytes bs + 8)) x × AllStand s young count at bs xs
 
 -- where young blocks begin is known by them
 pub rises_same : (a b : ℕ) (bs : List Placed) → Rises a bs → Rises b bs → a ≡ b
@@ -117,27 +117,27 @@ block_count b a = let n = length-append a.memory.blocks (fresh_block b ∷ []) i
 
 pub all_made :
     (s : Fixed) (laid : Laid) (v : View) (held : Locations) (c : Below) (young : List Placed) (bs : List NewBlock) (a : Around) → AreNew bs →
-    young_start ≤ slice_index v.registers 26 → Within s laid v young (bytes_of bs) held a c → AllMade s laid v held c young bs a
+    young_start ≤ slice_index v.registers 26 → Within s laid v young (total_block_bytes bs) held a c → AllMade s laid v held c young bs a
 all_made s laid v held c young [] a new room within = record { new = young; within = within; stand = tt; keeps = λ w x st. st }
 all_made s laid v held c young (b ∷ bs) a new room within =
     let is = new.0 in
-    let low : young_start ≤ slice_index v.registers 26 + bytes_of bs = omega (arith, room) in
-    let bytes : bytes_of (b ∷ bs) ≡ bytes_of bs + 8 * (b.cells + 1) = omega arith in
-    let p : Placed = made s laid v young (bytes_of (b ∷ bs)) (bytes_of bs) held a c within b is.some is.most is.head bytes low in
-    let one = within_made s laid v young (bytes_of (b ∷ bs)) (bytes_of bs) held a c within b is.some is.most is.head bytes low in
+    let low : young_start ≤ slice_index v.registers 26 + total_block_bytes bs = omega (arith, room) in
+    let bytes : total_block_bytes (b ∷ bs) ≡ total_block_bytes bs + 8 * (b.cells + 1) = omega arith in
+    let p : Placed = made s laid v young (total_block_bytes (b ∷ bs)) (total_block_bytes bs) held a c within b is.some is.most is.head bytes low in
+    let one = within_made s laid v young (total_block_bytes (b ∷ bs)) (total_block_bytes bs) held a c within b is.some is.most is.head bytes low in
     let rest = all_made s laid v held c (p ∷ young) bs (with_block b a) new.1 room one in
     let count = block_count b a in
-    let top = rises_top (slice_index v.registers 26 + bytes_of (b ∷ bs)) young within.own.rises in
-    let address : p.start ≡ slice_index v.registers 26 + (bytes_of bs + 8) = omega arith in
-    let first : StandsAnywhere s (p ∷ young) (length (with_block b a).memory.blocks) (slice_index v.registers 26 + (bytes_of bs + 8)) (Block
+    let top = rises_top (slice_index v.registers 26 + total_block_bytes (b ∷ bs)) young within.own.rises in
+    let address : p.start ≡ slice_index v.registers 26 + (total_block_bytes bs + 8) = omega arith in
+    let first : StandsAnywhere s (p ∷ young) (length (with_block b a).memory.blocks) (slice_index v.registers 26 + (total_block_bytes bs + 8)) (Block
     (length a.memory.blocks) 0) =
-    subst (λ z. StandsAnywhere s (p ∷ young) z (slice_index v.registers 26 + (bytes_of bs + 8)) (Block (length a.memory.blocks) 0)) (sym count)
+    subst (λ z. StandsAnywhere s (p ∷ young) z (slice_index v.registers 26 + (total_block_bytes bs + 8)) (Block (length a.memory.blocks) 0)) (sym count)
     (subst (λ z. StandsAnywhere s (p ∷ young) (suc (length a.memory.blocks)) z (Block (length a.memory.blocks) 0)) address
     (anywhere_new s young p (length a.memory.blocks) (omega (arith, top)))) in
     record {
       new = rest.new;
       within = rest.within;
-      stand = (rest.keeps (slice_index v.registers 26 + (bytes_of bs + 8)) (Block (length a.memory.blocks) 0) first, rest.stand);
+      stand = (rest.keeps (slice_index v.registers 26 + (total_block_bytes bs + 8)) (Block (length a.memory.blocks) 0) first, rest.stand);
       keeps = λ w x st. rest.keeps w x (subst (λ z. StandsAnywhere s (p ∷ young) z w x) (sym count)
           (anywhere_more s young p (length a.memory.blocks) w x st));
     }

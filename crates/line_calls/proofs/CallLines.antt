@@ -12,25 +12,25 @@ use Rattle.cmm_meaning.specs.Evaluation.{fit_parameters}
 use Rattle.cmm_meaning.specs.State.{Doing, Inside}
 use Rattle.emit_rules.specs.Calls.{call_words}
 use Rattle.emit_rules.specs.Instructions.{calls_at}
-use Rattle.emit_rules.specs.Slots.{fetched, first, register_of}
-use Rattle.layout_rules.specs.Laid.{address_of_place, desc_at}
-use Rattle.layout_rules.specs.Words.{Named}
+use Rattle.emit_rules.specs.Slots.{fetch_pieces, first_location, register_of}
+use Rattle.layout_rules.specs.Laid.{address_of_place, descriptor_laid_at}
+use Rattle.layout_rules.specs.Words.{NameAddresses}
 use Rattle.lin_ir.specs.Formed.{IsLocation, comps, places_of, spare}
-use Rattle.lin_ir.specs.Meaning.{Locations, NamedAt, after_label, are_vals, is_named, on_act, on_values, poisoned, step, unless_misnamed, values}
+use Rattle.lin_ir.specs.Meaning.{Locations, NamedAt, after_label, are_vals, is_named_location, on_act, on_values, poisoned, step, unless_misnamed, values}
 use Rattle.lin_ir.specs.declared.descr.Descr.{Descr}
 use Rattle.lin_ir.specs.declared.lin.Lin.{Lin}
 use Rattle.lin_ir.specs.declared.lin.Line.{Line}
 use Rattle.lin_ir.specs.declared.lin.LinOp.TheVariants as lin
 use Rattle.lin_ir.specs.declared.lin.Spot.{Spot}
-use Rattle.mach_ir.specs.Acts.{Around, Asks, Stuck, after_call, asks, asks_value, is_complete, only_if}
-use Rattle.mach_ir.specs.Forms.{results_of}
-use Rattle.mach_ir.specs.Runs.{Place}
-use Rattle.mach_ir.specs.Seats.{AfterFirst, AreSeated, InOrder, after_first, argument_places, in_order, result_places}
+use Rattle.mach_ir.specs.Acts.{Around, Asks, Stuck, act_after_call, asks, asks_value, is_complete, stuck_unless}
+use Rattle.mach_ir.specs.Forms.{results_of_type}
+use Rattle.mach_ir.specs.Runs.{ActivationSetting}
+use Rattle.mach_ir.specs.Seats.{AfterFirst, AreSeated, InOrder, after_first, argument_locations, in_order, result_locations}
 use Rattle.mach_ir.specs.declared.op.Callee.{Callee}
 use Rattle.mach_ir.specs.declared.op.Callee.TheVariants as callee
 use Rattle.mach_ir.specs.declared.op.Calling.TheVariants as calling
 use Rattle.mach_ir.specs.declared.op.Op.TheVariants as op
-use Rattle.rv_isa.specs.Registers.{number}
+use Rattle.rv_isa.specs.Registers.{register_number}
 use Rattle.rv_isa.specs.declared.instr.Instr.TheVariants.{Jalr}
 use Rattle.rv_isa.specs.declared.register.Register.TheVariants.{T1}
 use Rattle.rv_machine.specs.Frames.{descriptor_at, names_register}
@@ -38,7 +38,7 @@ use Rattle.rv_machine.specs.Hart.{Placed}
 use Rattle.rv_machine.specs.Memory.{code_start}
 use Rattle.linear_machine.specs.Follows.{Agrees, IsAfter, IsDone}
 use Rattle.linear_machine.specs.Relation.{Below, IsDescribed, Laid, StandsFor, Within}
-use Rattle.linear_machine.specs.View.{Fixed, IsCode, Leads, View}
+use Rattle.linear_machine.specs.View.{Fixed, IsInstructionAt, ReachesView, View}
 use Rattle.linear_machine.proofs.Arriving.{leads_in}
 use Rattle.linear_machine.proofs.Pure.{Reads, reads_held}
 use Rattle.linear_machine.proofs.Standing.{within_past}
@@ -55,18 +55,18 @@ use Rattle.line_calls.proofs.Leaving.{no_offset}
 use Rattle.line_calls.proofs.Seats.{arguments_read, first_seated, was_read}
 use Rattle.line_calls.proofs.Tailing.{entry_near}
 
-module _ (s : Fixed) (n : Named) (laid : Laid) (live : List Line → Type 0) (entry : ℕ → ℕ) (c : Below) (place : Place) (named : NamedAt) (m : Lin)
+module _ (s : Fixed) (n : NameAddresses) (laid : Laid) (live : List Line → Type 0) (entry : ℕ → ℕ) (c : Below) (place : ActivationSetting) (named : NamedAt) (m : Lin)
     (slots_are : m.slots ≡ laid.slots) (next : List Line)
     (v : View) (young : List Placed) (held file : Locations) (a : Around) (within : Within s laid v young 0 held a c) (before : Type 0)
     (agrees : Agrees before held file) (k : ℕ)
     (none : a.raised ≡ None) (behind : laid.part (length next) ≡ v.place + k) (saves : laid.saves ≡ true)
-    (e : Descr) (is : IsDescribed laid (length a.tries) (named (length next)) (desc_at (v.place + k) e))
-    (there : descriptor_at s.image.descs (address_of_place (v.place + k)) ≡ Some (desc_at (v.place + k) e)) (inside : v.place + k < length s.image.code)
+    (e : Descr) (is : IsDescribed laid (length a.tries) (named (length next)) (descriptor_laid_at (v.place + k) e))
+    (there : descriptor_at s.image.descs (address_of_place (v.place + k)) ≡ Some (descriptor_laid_at (v.place + k) e)) (inside : v.place + k < length s.image.code)
     (handlers : (l : ℕ) (rest : List ℕ) → a.tries ≡ l ∷ rest → laid.handler l ≡ address_of_place (laid.part (length (after_label l m.code))))
     (dead : (l : ℕ) (rest : List ℕ) → a.tries ≡ l ∷ rest → live (after_label l m.code) → ⊥)
-    (end_is : place.setting.end ≡ data_start + length s.image.bytes) (spared : is_named spare (named (length next)) ≡ false)
+    (end_is : place.setting.end ≡ data_start + length s.image.bytes) (spared : is_named_location spare (named (length next)) ≡ false)
     (registers : names_register e.entries ≡ false) (entries : EntriesStand s entry) (result : Ret) (results : List Spot)
-    (typed : comps results ≡ results_of result) (seated : AreSeated (InOrder result_places) (places_of results)) where
+    (typed : comps results ≡ results_of_type result) (seated : AreSeated (InOrder result_locations) (places_of results)) where
   -- what a call does, by what is called
   abbrev does : Callee → List Spot → Line
   does whom args = record { op = lin.Op (op.Calling (calling.Call whom result)); args = args; results = results }
@@ -77,14 +77,14 @@ module _ (s : Fixed) (n : Named) (laid : Laid) (live : List Line → Type 0) (en
   -- ---- after the callee, whatever it did
 
   resumes_by : (whom : Callee) (args : List Spot) (fit : are_vals (data_start + length s.image.bytes) (named (length next)) held ≡ true)
-      (whole : is_complete a ≡ true) (w : View) (there_w : Within s laid w young 0 held a c) (r : Ret) (rs : List Spot) → comps rs ≡ results_of r →
-      AreSeated (InOrder result_places) (places_of rs) → (doing : Doing) (u : View) →
-      IsDone s (below s laid live entry c place named m next v young held file a before agrees k none behind saves (desc_at (v.place + k) e) is there inside
+      (whole : is_complete a ≡ true) (w : View) (there_w : Within s laid w young 0 held a c) (r : Ret) (rs : List Spot) → comps rs ≡ results_of_type r →
+      AreSeated (InOrder result_locations) (places_of rs) → (doing : Doing) (u : View) →
+      IsDone s (below s laid live entry c place named m next v young held file a before agrees k none behind saves (descriptor_laid_at (v.place + k) e) is there inside
       handlers dead fit whole w there_w) doing u →
       IsAfter s laid live c (on_act place m (record { op = lin.Op (op.Calling (calling.Call whom r)); args = args; results = rs }) next
-      (poisoned (named (length next)) file) a (after_call place.setting r a doing)) u
+      (poisoned (named (length next)) file) a (act_after_call place.setting r a doing)) u
   resumes_by whom args fit whole w there_w ret.Unit [] t seats doing u done =
-      resumes_without s laid live entry c place named m next v young held file a before agrees k none behind saves (desc_at (v.place + k) e) is there inside
+      resumes_without s laid live entry c place named m next v young held file a before agrees k none behind saves (descriptor_laid_at (v.place + k) e) is there inside
       handlers dead fit whole w there_w whom args doing u done
   resumes_by whom args fit whole w there_w ret.Unit (p ∷ ps) t seats doing u done = absurd (cc)
   resumes_by whom args fit whole w there_w (ret.Comp q) [] t seats doing u done = absurd (cc)
@@ -96,32 +96,32 @@ module _ (s : Fixed) (n : Named) (laid : Laid) (live : List Line → Type 0) (en
         args = args;
         results = p ∷ z;
       }) next
-      (poisoned (named (length next)) file) a (after_call place.setting (ret.Comp q) a doing)) u) (sym one.1)
-      (resumes_with s laid live entry c place named m next v young held file a before agrees k none behind saves (desc_at (v.place + k) e) is there inside
+      (poisoned (named (length next)) file) a (act_after_call place.setting (ret.Comp q) a doing)) u) (sym one.1)
+      (resumes_with s laid live entry c place named m next v young held file a before agrees k none behind saves (descriptor_laid_at (v.place + k) e) is there inside
       handlers dead fit whole w there_w whom q args p one.0 doing u done)
 
   -- ---- the call of a function that is known
 
   pub calls_at_view :
-      (whom : Callee) (args : List Spot) (f : ℕ) (arguments : List Value) (w : View) (n1 n2 : ℕ) → n1 + n2 ≡ k → 1 ≤ n2 → Leads s n1 v w →
+      (whom : Callee) (args : List Spot) (f : ℕ) (arguments : List Value) (w : View) (n1 n2 : ℕ) → n1 + n2 ≡ k → 1 ≤ n2 → ReachesView s n1 v w →
       Within s laid w young 0 held a c →
-      Leads s n2 w (record w { place = entry f; registers = slice_set w.registers 1 (address_of_place (v.place + k)) }) →
+      ReachesView s n2 w (record w { place = entry f; registers = slice_set w.registers 1 (address_of_place (v.place + k)) }) →
       are_vals place.setting.end (named (length next)) file ≡ true → is_complete a ≡ true →
       ((j : ℕ) (x : Value) → slice_get arguments j ≡ Some x → (j < 16) × (held (loc.Machine (10 + j)) ≡ Some x)) →
       CalledSo k s laid live entry c v (laid.frame + 16 * length a.tries) f arguments a.memory (λ doing. on_act place m (does whom args) next (poisoned
       (named (length next)) file) a
-      (after_call place.setting result a doing))
-  calls_at_view whom args g arguments w n1 n2 sum some first there_w second fits whole passed =
+      (act_after_call place.setting result a doing))
+  calls_at_view whom args g arguments w n1 n2 sum some first_location there_w second fits whole passed =
       let held_fit : are_vals (data_start + length s.image.bytes) (named (length next)) held ≡ true =
       subst (λ z. are_vals z (named (length next)) held ≡ true) end_is (vals_held place.setting.end before held file (named
       (length next)) agrees spared ∙ fits) in
       let f = there_w.frame in
       record {
         call = record {
-          below = below s laid live entry c place named m next v young held file a before agrees k none behind saves (desc_at (v.place + k) e) is there inside
+          below = below s laid live entry c place named m next v young held file a before agrees k none behind saves (descriptor_laid_at (v.place + k) e) is there inside
               handlers dead held_fit whole w there_w;
-          enters = leads_in 1 k s (n1 + n2) (omega (arith, some)) (omega (arith, sum)) v _ _ (then_leads s n1 n2 v w _ first second)
-              (callee_begins s laid live entry c place named m next v young held file a before agrees k none behind saves (desc_at
+          enters = leads_in 1 k s (n1 + n2) (omega (arith, some)) (omega (arith, sum)) v _ _ (then_leads s n1 n2 v w _ first_location second)
+              (callee_begins s laid live entry c place named m next v young held file a before agrees k none behind saves (descriptor_laid_at
               (v.place + k) e) is there inside
               handlers dead held_fit whole w there_w g arguments registers (omega (arith, some, sum)) passed);
           resumes = λ doing u done. resumes_by whom args held_fit whole w there_w result results typed seated doing u done;
@@ -136,9 +136,9 @@ module _ (s : Fixed) (n : Named) (laid : Laid) (live : List Line → Type 0) (en
       ((f : ℕ) → o ≡ Some (Function f) → is_complete a ≡ true →
       CalledSo k s laid live entry c v (laid.frame + 16 * length a.tries) f arguments a.memory (λ doing. on_act place m (does whom args) next (poisoned
       (named (length next)) file) a
-      (after_call place.setting result a doing))) →
+      (act_after_call place.setting result a doing))) →
       FollowsSo k s laid live entry c v (laid.frame + 16 * length a.tries) (on_act place m (does whom args) next (poisoned (named (length next)) file) a
-      (asks_value place.setting o arguments a (λ f xs. Asks f xs (after_call place.setting result a))))
+      (asks_value place.setting o arguments a (λ f xs. Asks f xs (act_after_call place.setting result a))))
   asks_follows whom args None arguments calls = record { follows = tt; calls = tt }
   asks_follows whom args (Some (Word w)) arguments calls = record { follows = tt; calls = tt }
   asks_follows whom args (Some (Block b o)) arguments calls = record { follows = tt; calls = tt }
@@ -147,19 +147,19 @@ module _ (s : Fixed) (n : Named) (laid : Laid) (live : List Line → Type 0) (en
       by_test : (b t : Bool) → (b && t) ≡ (b && is_complete a) → (b && t) ≡ (b && t) →
           ((b && t) ≡ true → is_complete a ≡ true) →
           FollowsSo k s laid live entry c v (laid.frame + 16 * length a.tries) (on_act place m (does whom args) next (poisoned (named (length next)) file) a
-          (only_if (b && t) (Asks (Inside f) arguments (after_call place.setting result a))))
+          (stuck_unless (b && t) (Asks (Inside f) arguments (act_after_call place.setting result a))))
       by_test b t same again whole = tested (b && t) whole
         where
           tested : (q : Bool) → (q ≡ true → is_complete a ≡ true) →
               FollowsSo k s laid live entry c v (laid.frame + 16 * length a.tries) (on_act place m (does whom args) next (poisoned (named
               (length next)) file) a
-              (only_if q (Asks (Inside f) arguments (after_call place.setting result a))))
+              (stuck_unless q (Asks (Inside f) arguments (act_after_call place.setting result a))))
           tested false h = record { follows = tt; calls = tt }
           tested true h = let g = calls f refl (h refl) in record { follows = g.call; calls = g.top }
 
       by_parameters : (o : Option (List Comp)) → FollowsSo k s laid live entry c v (laid.frame + 16 * length a.tries) (on_act place m (does whom args) next
           (poisoned (named (length next)) file) a
-          (asks place.setting o f arguments a (λ f xs. Asks f xs (after_call place.setting result a))))
+          (asks place.setting o f arguments a (λ f xs. Asks f xs (act_after_call place.setting result a))))
       by_parameters None = record { follows = tt; calls = tt }
       by_parameters (Some cs) =
           by_test (fit_parameters place.setting.end cs arguments) (is_complete a) refl refl
@@ -170,7 +170,7 @@ module _ (s : Fixed) (n : Named) (laid : Laid) (live : List Line → Type 0) (en
   not_spare j q = absurd (let z = same_machine (10 + j) 5 q in omega (arith, z))
 
   passed_on :
-      (args : List Spot) (xs : List Value) → AreSeated (InOrder argument_places) (places_of args) → values place.setting.end file args ≡ Some xs →
+      (args : List Spot) (xs : List Value) → AreSeated (InOrder argument_locations) (places_of args) → values place.setting.end file args ≡ Some xs →
       (j : ℕ) (x : Value) → slice_get xs j ≡ Some x → (j < 16) × (held (loc.Machine (10 + j)) ≡ Some x)
   passed_on args xs seats h j x g =
       let r = arguments_read place.setting.end file args xs seats h j x g in
@@ -179,7 +179,7 @@ module _ (s : Fixed) (n : Named) (laid : Laid) (live : List Line → Type 0) (en
   -- ---- a call by name
 
   pub call_named :
-      (name : List ℕ) (args : List Spot) → AreSeated (InOrder argument_places) (places_of args) →
+      (name : List ℕ) (args : List Spot) → AreSeated (InOrder argument_locations) (places_of args) →
       ((x : Value) → place.setting.symbol name ≡ Some x → StandsFor s [] (n.symbol name) x) →
       PartStands s n v.place (v.place + k) (call_words (length a.tries) (callee.Symbol name) args) →
       FollowsSo k s laid live entry c v (laid.frame + 16 * length a.tries) (step place named m (record {
@@ -192,7 +192,7 @@ module _ (s : Fixed) (n : Named) (laid : Laid) (live : List Line → Type 0) (en
       found : (xs : List Value) → values place.setting.end file args ≡ Some xs → are_vals place.setting.end (named (length next)) file ≡ true →
           (f : ℕ) → place.setting.symbol name ≡ Some (Function f) → is_complete a ≡ true →
           CalledSo k s laid live entry c v (laid.frame + 16 * length a.tries) f xs a.memory (λ doing. on_act place m (does (callee.Symbol name) args) next
-          (poisoned (named (length next)) file) a (after_call place.setting result a doing))
+          (poisoned (named (length next)) file) a (act_after_call place.setting result a doing))
       found xs h fits f is_f whole =
           let known = symbol (Function f) is_f in
           let address : n.symbol name ≡ code_start + 4 * entry f = known.is ∙ entries.is f known.known in
@@ -205,7 +205,7 @@ module _ (s : Fixed) (n : Named) (laid : Laid) (live : List Line → Type 0) (en
       by_fit : (xs : List Value) → values place.setting.end file args ≡ Some xs → (t : Bool) → are_vals place.setting.end (named (length next)) file ≡ t →
           FollowsSo k s laid live entry c v (laid.frame + 16 * length a.tries) (unless_misnamed t (on_act place m (does (callee.Symbol name) args) next
           (poisoned (named (length next)) file) a
-          (asks_value place.setting (place.setting.symbol name) xs a (λ f ys. Asks f ys (after_call place.setting result a)))))
+          (asks_value place.setting (place.setting.symbol name) xs a (λ f ys. Asks f ys (act_after_call place.setting result a)))))
       by_fit xs h false f = record { follows = tt; calls = tt }
       by_fit xs h true f = asks_follows (callee.Symbol name) args (place.setting.symbol name) xs (λ g q whole. found xs h f g q whole)
 
@@ -218,7 +218,7 @@ module _ (s : Fixed) (n : Named) (laid : Laid) (live : List Line → Type 0) (en
   -- ---- a call to the address in a location
 
   pub call_registered :
-      (p : Spot) (args : List Spot) → IsLocation m p.loc → Reads before p.loc → AreSeated (AfterFirst argument_places) (places_of (p ∷ args)) →
+      (p : Spot) (args : List Spot) → IsLocation m p.loc → Reads before p.loc → AreSeated (AfterFirst argument_locations) (places_of (p ∷ args)) →
       PartStands s n v.place (v.place + k) (call_words (length a.tries) callee.Register (p ∷ args)) →
       FollowsSo k s laid live entry c v (laid.frame + 16 * length a.tries) (step place named m (record {
         rest = record { op = lin.Op (op.Calling (calling.Call callee.Register result)); args = p ∷ args; results = results } ∷ next;
@@ -230,10 +230,10 @@ module _ (s : Fixed) (n : Named) (laid : Laid) (live : List Line → Type 0) (en
       found : (f : ℕ) (xs : List Value) → held p.loc ≡ Some (Function f) → values place.setting.end file args ≡ Some xs →
           are_vals place.setting.end (named (length next)) file ≡ true → is_complete a ≡ true →
           CalledSo k s laid live entry c v (laid.frame + 16 * length a.tries) f xs a.memory (λ doing. on_act place m (does callee.Register (p ∷ args)) next
-          (poisoned (named (length next)) file) a (after_call place.setting result a doing))
+          (poisoned (named (length next)) file) a (act_after_call place.setting result a doing))
       found f xs there_p h fits whole =
-          let parts = counts s n v.place k (fetched (length a.tries) T1 p.loc) (calls_at (register_of T1 p.loc) ∷ []) part in
-          let one = last s n (v.place + parts.own) parts.others (Jalr 1 (number (register_of T1 p.loc)) 0) parts.second in
+          let parts = counts s n v.place k (fetch_pieces (length a.tries) T1 p.loc) (calls_at (register_of T1 p.loc) ∷ []) part in
+          let one = last s n (v.place + parts.own) parts.others (Jalr 1 (register_number (register_of T1 p.loc)) 0) parts.second in
           let g = fetches s n laid m slots_are v young held a c none within T1 5 refl (inl refl) v.place parts.own p.loc at_p parts.first in
           let get = g.gets (Function f) there_p in
           let ch = get.by v refl within in
@@ -243,13 +243,13 @@ module _ (s : Fixed) (n : Named) (laid : Laid) (live : List Line → Type 0) (en
           let last_one = one.1 in
           let stands = ch.holds in
           let near = entry_near s entry f entries stands.known in
-          let code : IsCode s w.place (Jalr 1 (suc g.r) 0) =
-          subst (λ z. IsCode s z (Jalr 1 (suc g.r) 0)) (sym at) (subst (λ z. IsCode s (v.place + parts.own) (Jalr 1 z 0)) g.is one.0) in
+          let code : IsInstructionAt s w.place (Jalr 1 (suc g.r) 0) =
+          subst (λ z. IsInstructionAt s z (Jalr 1 (suc g.r) 0)) (sym at) (subst (λ z. IsInstructionAt s (v.place + parts.own) (Jalr 1 z 0)) g.is one.0) in
           let address : slice_index w.registers (suc g.r) ≡ code_start + 4 * entry f = stands.is ∙ entries.is f stands.known in
           let same : w.place + 1 ≡ v.place + k = omega (arith, at, sum, last_one) in
           calls_at_view callee.Register (p ∷ args) f xs w parts.own 1 (omega (arith, sum, last_one)) (omega arith) ch.leads
           (within_past s laid v w young 0 held a c parts.own g.list ch.past get.are within)
-          (subst (λ z. Leads s 1 w (record w { place = entry f; registers = slice_set w.registers 1 (address_of_place z) })) same
+          (subst (λ z. ReachesView s 1 w (record w { place = entry f; registers = slice_set w.registers 1 (address_of_place z) })) same
           (call_leads s w (suc g.r) 0 (entry f) code (no_offset (slice_index w.registers (suc g.r)) (code_start + 4 * entry f) address (omega
           (arith, near)))))
           fits whole (passed_on args xs (in_order more q) h)
@@ -258,7 +258,7 @@ module _ (s : Fixed) (n : Named) (laid : Laid) (live : List Line → Type 0) (en
           are_vals place.setting.end (named (length next)) file ≡ t →
           FollowsSo k s laid live entry c v (laid.frame + 16 * length a.tries) (unless_misnamed t (on_act place m (does callee.Register (p ∷ args)) next
           (poisoned (named (length next)) file) a
-          (asks_value place.setting (Some x) xs a (λ f ys. Asks f ys (after_call place.setting result a)))))
+          (asks_value place.setting (Some x) xs a (λ f ys. Asks f ys (act_after_call place.setting result a)))))
       by_fit x xs here h false f = record { follows = tt; calls = tt }
       by_fit x xs here h true f = asks_follows callee.Register (p ∷ args) (Some x) xs (λ g e whole. found g xs (here ∙ e) h f whole)
 
@@ -275,7 +275,7 @@ module _ (s : Fixed) (n : Named) (laid : Laid) (live : List Line → Type 0) (en
           by_none true = record { follows = tt; calls = tt }
       by_values (Some (x ∷ xs)) h =
           let w = was_read place.setting.end p.comp (file p.loc) (values place.setting.end file args) (x ∷ xs) h in
-          let first : w.value ≡ x = (let q = w.are in cc) in
+          let first_location : w.value ≡ x = (let q = w.are in cc) in
           let others : w.others ≡ xs = (let q = w.are in cc) in
-          by_fit x xs (reads_held before held file p.loc agrees reads ∙ w.held ∙ ap Some first) (w.rest ∙ ap Some others)
+          by_fit x xs (reads_held before held file p.loc agrees reads ∙ w.held ∙ ap Some first_location) (w.rest ∙ ap Some others)
           (are_vals place.setting.end (named (length next)) file) refl

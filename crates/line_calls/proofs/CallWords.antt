@@ -2,7 +2,7 @@
 use Rattle.std.proofs.Common.{◌≡◌, ℕ, ◌+◌, ◌*◌, ◌^◌, ◌<◌, ◌≤◌, inl, List, [], ◌∷◌, slice_index, slice_set, ap, arith, ◌∙◌, subst, set-set, get_or-set_same}
 use Rattle.bs_words.specs.Word.{add_word}
 use Rattle.layout_rules.specs.Laid.{address_of_place}
-use Rattle.layout_rules.specs.Words.{Named, call_code, distance, upper}
+use Rattle.layout_rules.specs.Words.{NameAddresses, call_code, distance, upper}
 use Rattle.layout_rules.specs.declared.form.Form.{Form}
 use Rattle.layout_rules.specs.declared.form.Form.TheVariants.{Near, Middle, Far}
 use Rattle.layout_rules.specs.Forms.{call_words}
@@ -14,7 +14,7 @@ use Rattle.rv_machine.specs.Arithmetic.{imm_i, imm_u}
 use Rattle.rv_machine.specs.Memory.{code_start}
 use Rattle.rv_machine.specs.Sound.{AreRegisters}
 use Rattle.rv_pieces.specs.declared.piece.Piece.TheVariants.{Call}
-use Rattle.linear_machine.specs.View.{Fixed, HasCode, IsCode, Leads, View}
+use Rattle.linear_machine.specs.View.{Fixed, HasCode, IsInstructionAt, ReachesView, View}
 use Rattle.linear_machine.proofs.Formats.{sets_auipc, sets_imm, sets_jalr, sets_lui}
 use Rattle.linear_machine.proofs.Sequences.{sets_as}
 use Rattle.linear_machine.proofs.Steps.{reg, set_in, set_step, set_to_step, then_leads}
@@ -25,8 +25,8 @@ use Rattle.line_calls.proofs.Tailing.{place_near}
 
 -- a call to the address in a register
 pub call_leads :
-    (s : Fixed) (w : View) (r imm dest : ℕ) → IsCode s w.place (Jalr 1 r imm) → add_word (reg w.registers r) (imm_i imm) ≡ code_start + 4 * dest →
-    Leads s 1 w (record w { place = dest; registers = slice_set w.registers 1 (address_of_place (w.place + 1)) })
+    (s : Fixed) (w : View) (r imm dest : ℕ) → IsInstructionAt s w.place (Jalr 1 r imm) → add_word (reg w.registers r) (imm_i imm) ≡ code_start + 4 * dest →
+    ReachesView s 1 w (record w { place = dest; registers = slice_set w.registers 1 (address_of_place (w.place + 1)) })
 call_leads s w r imm dest code e =
     set_to_step s w (Jalr 1 r imm) 1 (code_start + 4 * (w.place + 1)) dest code (inl (λ q. omega (arith, q))) (sets_jalr s w 1 r imm dest e)
 
@@ -35,7 +35,7 @@ pub record CalledBy (s : Fixed) (v : View) (to dest : ℕ) : Type 0 where
   pub count : ℕ
   pub past : to ≡ v.place + count
   pub some : 1 ≤ count
-  pub leads : Leads s count v (record v { place = dest; registers = slice_set v.registers 1 (address_of_place to) })
+  pub leads : ReachesView s count v (record v { place = dest; registers = slice_set v.registers 1 (address_of_place to) })
 
 -- a call by name, wherever the callee lies: by the distance to it, or by its address
 module _ (s : Fixed) (v : View) (are : AreRegisters v.registers) (address to dest : ℕ) (is : address ≡ code_start + 4 * dest)
@@ -51,10 +51,10 @@ module _ (s : Fixed) (v : View) (are : AreRegisters v.registers) (address to des
   in_ra : (x : ℕ) → slice_index (slice_set v.registers 1 x) 1 ≡ x
   in_ra x = let count = are.count in get_or-set_same v.registers 1 x 0 (omega (arith, count))
 
-  near_first : IsCode s v.place (Auipc 1 (upper apart)) → Leads s 1 v (set_in 1 half v)
+  near_first : IsInstructionAt s v.place (Auipc 1 (upper apart)) → ReachesView s 1 v (set_in 1 half v)
   near_first code = set_step s v (Auipc 1 (upper apart)) 1 half code (inl (λ q. omega (arith, q))) (sets_auipc s v 1 (upper apart))
 
-  near_second : IsCode s v.place (Auipc 1 (upper apart)) → IsCode s (v.place + 1) (Jalr 1 1 (low_12 apart)) → Leads s 1 (set_in 1 half v) (record (set_in 1 half v) {
+  near_second : IsInstructionAt s v.place (Auipc 1 (upper apart)) → IsInstructionAt s (v.place + 1) (Jalr 1 1 (low_12 apart)) → ReachesView s 1 (set_in 1 half v) (record (set_in 1 half v) {
     place = dest;
     registers = slice_set (slice_set v.registers 1 half) 1 (address_of_place (v.place + 1 + 1));
   })
@@ -74,7 +74,7 @@ module _ (s : Fixed) (v : View) (are : AreRegisters v.registers) (address to des
         count = 2;
         past = past;
         some = omega arith;
-        leads = subst (λ rs. Leads s 2 v (record v { place = dest; registers = rs })) same
+        leads = subst (λ rs. ReachesView s 2 v (record v { place = dest; registers = rs })) same
             (then_leads s 1 1 v (set_in 1 half v) _ (near_first code.0) (near_second code.0 code.1.0));
       }
 
@@ -86,10 +86,10 @@ module _ (s : Fixed) (v : View) (are : AreRegisters v.registers) (address to des
   abbrev between : View
   between = set_in 1 address (set_in 1 high v)
 
-  far_first : IsCode s v.place (Lui 1 (upper address)) → Leads s 1 v (set_in 1 high v)
+  far_first : IsInstructionAt s v.place (Lui 1 (upper address)) → ReachesView s 1 v (set_in 1 high v)
   far_first code = set_step s v (Lui 1 (upper address)) 1 high code (inl (λ q. omega (arith, q))) (sets_lui s v 1 (upper address))
 
-  far_second : IsCode s (v.place + 1) (OpImm Addi 1 1 (low_12 address)) → Leads s 1 (set_in 1 high v) between
+  far_second : IsInstructionAt s (v.place + 1) (OpImm Addi 1 1 (low_12 address)) → ReachesView s 1 (set_in 1 high v) between
   far_second code =
       set_step s (set_in 1 high v) (OpImm Addi 1 1 (low_12 address)) 1 address code (inl (λ q. omega (arith, q)))
       (sets_as s (set_in 1 high v) (OpImm Addi 1 1 (low_12 address)) 1 _ address
@@ -99,7 +99,7 @@ module _ (s : Fixed) (v : View) (are : AreRegisters v.registers) (address to des
   both_set : slice_set (slice_set v.registers 1 high) 1 address ≡ slice_set v.registers 1 address
   both_set = set-set v.registers 1 high address
 
-  far_third : IsCode s (v.place + 1 + 1) (Jalr 1 1 0) → Leads s 1 between (record between {
+  far_third : IsInstructionAt s (v.place + 1 + 1) (Jalr 1 1 0) → ReachesView s 1 between (record between {
     place = dest;
     registers = slice_set (slice_set (slice_set v.registers 1 high) 1 address) 1 (address_of_place (v.place + 1 + 1 + 1));
   })
@@ -118,7 +118,7 @@ module _ (s : Fixed) (v : View) (are : AreRegisters v.registers) (address to des
         count = 3;
         past = past;
         some = omega arith;
-        leads = subst (λ rs. Leads s 3 v (record v { place = dest; registers = rs })) same
+        leads = subst (λ rs. ReachesView s 3 v (record v { place = dest; registers = rs })) same
             (then_leads s 2 1 v between _ (then_leads s 1 1 v (set_in 1 high v) between (far_first code.0) (far_second code.1.0)) (far_third code.1.1.0));
       }
 
@@ -127,7 +127,7 @@ module _ (s : Fixed) (v : View) (are : AreRegisters v.registers) (address to des
   by_form Middle code past = by_address code past
   by_form Far code past = by_address code past
 
-pub named_leads : (s : Fixed) (n : Named) (v : View) → AreRegisters v.registers → (name : List ℕ) (to dest : ℕ) → n.symbol name ≡ code_start + 4 * dest →
+pub named_leads : (s : Fixed) (n : NameAddresses) (v : View) → AreRegisters v.registers → (name : List ℕ) (to dest : ℕ) → n.symbol name ≡ code_start + 4 * dest →
     code_start + 4 * dest < 2 ^ 28 → PartStands s n v.place to (Call name ∷ []) → CalledBy s v to dest
 named_leads s n v are name to dest is low st =
     let b = begins s n v.place to (Call name) [] st in

@@ -11,14 +11,14 @@ use Rattle.cmm_meaning.specs.State.{Doing, Gave, Threw}
 use Rattle.image_form.specs.Tables.{Desc}
 use Rattle.layout_rules.specs.Laid.{address_of_place}
 use Rattle.lin_ir.specs.Formed.{spare}
-use Rattle.lin_ir.specs.Meaning.{Locations, NamedAt, after_label, are_vals, at_handler, clear, is_named, is_val, on_act, poisoned, put, put_if, same_loc, unless_pointer, wrote}
+use Rattle.lin_ir.specs.Meaning.{Locations, NamedAt, after_label, are_vals, at_handler, clear_destroyed, is_named_location, holds_val, on_act, poisoned, assign_spot, put_if, same_loc, unless_pointer, wrote}
 use Rattle.lin_ir.specs.declared.lin.Lin.{Lin}
 use Rattle.lin_ir.specs.declared.lin.Line.{Line}
 use Rattle.lin_ir.specs.declared.lin.LinOp.TheVariants as lin
 use Rattle.lin_ir.specs.declared.lin.Spot.{Spot}
-use Rattle.mach_ir.specs.Acts.{Around, Goes, On, after_call, callee_raises, is_complete, only_if}
+use Rattle.mach_ir.specs.Acts.{Around, Goes, On, act_after_call, callee_raises, is_complete, stuck_unless}
 use Rattle.mach_ir.specs.Meaning.{Everything}
-use Rattle.mach_ir.specs.Runs.{Place}
+use Rattle.mach_ir.specs.Runs.{ActivationSetting}
 use Rattle.mach_ir.specs.declared.op.Callee.{Callee}
 use Rattle.mach_ir.specs.declared.op.Calling.TheVariants as calling
 use Rattle.mach_ir.specs.declared.op.Op.TheVariants as op
@@ -26,7 +26,7 @@ use Rattle.rv_machine.specs.Frames.{descriptor_at, names_register}
 use Rattle.rv_machine.specs.Hart.{Placed}
 use Rattle.moving_laws.specs.Waiting.{IsBack}
 use Rattle.linear_machine.specs.Follows.{Agrees, IsAfter, IsAt, IsDone, IsEntered}
-use Rattle.linear_machine.specs.Relation.{AreCarried, Below, IsDescribed, Laid, Within, all_of, pushed}
+use Rattle.linear_machine.specs.Relation.{AreCarried, Below, IsDescribed, Laid, Within, blocks_by_serial, pushed}
 use Rattle.linear_machine.specs.View.{Fixed, View}
 use Rattle.linear_machine.proofs.Calls.{IsCaller, IsFresh, catches, catches_place, comes_back, enters, passes_on}
 use Rattle.linear_machine.proofs.Frames.{poisoned_some, none_left}
@@ -36,19 +36,19 @@ use Rattle.line_calls.proofs.Handlers.{cleared_alone}
 
 -- poison does to both what it does to one
 pub poisoned_same : (named : List Loc) (held file : Locations) (l : Loc) → held l ≡ file l → poisoned named held l ≡ poisoned named file l
-poisoned_same named held file l e = ap (λ o. cond (is_named l named) o (unless_pointer o)) e
+poisoned_same named held file l e = ap (λ o. cond (is_named_location l named) o (unless_pointer o)) e
 
-pub vals_held : (end : ℕ) (before : Type 0) (held file : Locations) (ls : List Loc) → Agrees before held file → is_named spare ls ≡ false →
+pub vals_held : (end : ℕ) (before : Type 0) (held file : Locations) (ls : List Loc) → Agrees before held file → is_named_location spare ls ≡ false →
     are_vals end ls held ≡ are_vals end ls file
 vals_held end before held file [] agrees e = refl
 vals_held end before held file (l ∷ ls) agrees e = by_test (same_loc l spare) refl e (vals_held end before held file ls agrees)
   where
-    by_test : (t : Bool) → same_loc l spare ≡ t → (t || is_named spare ls) ≡ false →
-        (is_named spare ls ≡ false → are_vals end ls held ≡ are_vals end ls file) → are_vals end (l ∷ ls) held ≡ are_vals end (l ∷ ls) file
+    by_test : (t : Bool) → same_loc l spare ≡ t → (t || is_named_location spare ls) ≡ false →
+        (is_named_location spare ls ≡ false → are_vals end ls held ≡ are_vals end ls file) → are_vals end (l ∷ ls) held ≡ are_vals end (l ∷ ls) file
     by_test true f e later = absurd (cc)
     by_test false f e later =
         let other : l ≡ spare → ⊥ = λ q. absurd (let g : same_loc spare spare ≡ false = subst (λ z. same_loc z spare ≡ false) q f in cc) in
-        ap₂ (λ x y. is_val end x && y) (agrees.others l other) (later e)
+        ap₂ (λ x y. holds_val end x && y) (agrees.others l other) (later e)
 
 -- a memory in which every block is whole, with no raise on its way
 pub around_whole : (a : Around) (memory : Memory) → is_complete a ≡ true → a.raised ≡ None →
@@ -62,7 +62,7 @@ pub around_raised : (a : Around) (memory : Memory) (rest : List ℕ) (x : Value)
 around_raised a memory rest x whole =
     ap (λ u. record { memory = memory; unwritten = u; tries = rest; raised = Some x }) (sym (none_left a.unwritten whole))
 
-module _ (s : Fixed) (laid : Laid) (live : List Line → Type 0) (entry : ℕ → ℕ) (c : Below) (place : Place) (named : NamedAt) (m : Lin) (next : List Line)
+module _ (s : Fixed) (laid : Laid) (live : List Line → Type 0) (entry : ℕ → ℕ) (c : Below) (place : ActivationSetting) (named : NamedAt) (m : Lin) (next : List Line)
     (v : View) (young : List Placed) (held file : Locations) (a : Around) (before : Type 0) (agrees : Agrees before held file) (k : ℕ)
     (none : a.raised ≡ None) (behind : laid.part (length next) ≡ v.place + k) (saves : laid.saves ≡ true)
     (d : Desc) (is : IsDescribed laid (length a.tries) (named (length next)) d)
@@ -105,7 +105,7 @@ module _ (s : Fixed) (laid : Laid) (live : List Line → Type 0) (entry : ℕ �
   -- ---- after the call
 
   -- what is after a call: no register but a result
-  clear_same : (l : Loc) → clear Everything (poisoned (named (length next)) held) l ≡ clear Everything (poisoned (named (length next)) file) l
+  clear_same : (l : Loc) → clear_destroyed Everything (poisoned (named (length next)) held) l ≡ clear_destroyed Everything (poisoned (named (length next)) file) l
   clear_same (loc.Machine r) = refl
   clear_same (loc.Slot j) = poisoned_same (named (length next)) held file (loc.Slot j) (agrees.others (loc.Slot j) (λ e. absurd (cc)))
   clear_same loc.Unset = poisoned_same (named (length next)) held file loc.Unset (agrees.others loc.Unset (λ e. absurd (cc)))
@@ -158,9 +158,9 @@ module _ (s : Fixed) (laid : Laid) (live : List Line → Type 0) (entry : ℕ �
         op = lin.Op (op.Calling (calling.Call whom ret.Unit));
         args = args;
         results = [];
-      }) next (poisoned (named (length next)) file) a (after_call place.setting ret.Unit a doing)) u
+      }) next (poisoned (named (length next)) file) a (act_after_call place.setting ret.Unit a doing)) u
   resumes_without whom args (Gave value memory) u r =
-      back_at u value memory (clear Everything slots) (clear Everything (poisoned (named (length next)) file))
+      back_at u value memory (clear_destroyed Everything slots) (clear_destroyed Everything (poisoned (named (length next)) file))
       (record { register = λ q x h. absurd (cc); slot = λ j x h. h }) clear_same r
   resumes_without whom args (Threw x memory) u r = by_test (fits place.setting.end ty.Val x)
     where
@@ -168,7 +168,7 @@ module _ (s : Fixed) (laid : Laid) (live : List Line → Type 0) (entry : ℕ �
         op = lin.Op (op.Calling (calling.Call whom ret.Unit));
         args = args;
         results = [];
-      }) next (poisoned (named (length next)) file) a (only_if t (callee_raises x memory a a.tries))) u
+      }) next (poisoned (named (length next)) file) a (stuck_unless t (callee_raises x memory a a.tries))) u
       by_test false = tt
       by_test true = raised_in u (record { op = lin.Op (op.Calling (calling.Call whom ret.Unit)); args = args; results = [] }) x memory a.tries refl r
 
@@ -178,7 +178,7 @@ module _ (s : Fixed) (laid : Laid) (live : List Line → Type 0) (entry : ℕ �
         op = lin.Op (op.Calling (calling.Call whom (ret.Comp t)));
         args = args;
         results = p ∷ [];
-      }) next (poisoned (named (length next)) file) a (after_call place.setting (ret.Comp t) a doing)) u
+      }) next (poisoned (named (length next)) file) a (act_after_call place.setting (ret.Comp t) a doing)) u
   resumes_with whom t args p seat (Gave None memory) u r = tt
   resumes_with whom t args p seat (Gave (Some x) memory) u r = by_test (fits place.setting.end (type_of_comp t) x)
     where
@@ -186,11 +186,11 @@ module _ (s : Fixed) (laid : Laid) (live : List Line → Type 0) (entry : ℕ �
       line = record { op = lin.Op (op.Calling (calling.Call whom (ret.Comp t))); args = args; results = p ∷ [] }
 
       put_by : (b : Bool) → IsAfter s laid live c (wrote next (record a { memory = memory })
-          (put_if b p x (Some (clear Everything (poisoned (named (length next)) file))))) u
+          (put_if b p x (Some (clear_destroyed Everything (poisoned (named (length next)) file))))) u
       put_by false = tt
       put_by true =
           let alone = cleared_alone p x slots seat in
-          back_at u (Some x) memory (put p x (clear Everything slots)) (put p x (clear Everything (poisoned (named (length next)) file)))
+          back_at u (Some x) memory (assign_spot p x (clear_destroyed Everything slots)) (assign_spot p x (clear_destroyed Everything (poisoned (named (length next)) file)))
           (record { register = λ q y h. let g = alone.register q y h in (g.0, ap Some g.1); slot = alone.slot })
           (λ l. ap (cond (same_loc p.loc l) (Some x)) (clear_same l)) r
 
@@ -198,7 +198,7 @@ module _ (s : Fixed) (laid : Laid) (live : List Line → Type 0) (entry : ℕ �
         op = lin.Op (op.Calling (calling.Call whom (ret.Comp t)));
         args = args;
         results = p ∷ [];
-      }) next (poisoned (named (length next)) file) a (only_if b (Goes (x ∷ []) On (record a { memory = memory })))) u
+      }) next (poisoned (named (length next)) file) a (stuck_unless b (Goes (x ∷ []) On (record a { memory = memory })))) u
       by_test false = tt
       by_test true = put_by (fits place.setting.end (type_of_comp p.comp) x)
   resumes_with whom t args p seat (Threw x memory) u r = by_test (fits place.setting.end ty.Val x)
@@ -207,7 +207,7 @@ module _ (s : Fixed) (laid : Laid) (live : List Line → Type 0) (entry : ℕ �
         op = lin.Op (op.Calling (calling.Call whom (ret.Comp t)));
         args = args;
         results = p ∷ [];
-      }) next (poisoned (named (length next)) file) a (only_if b (callee_raises x memory a a.tries))) u
+      }) next (poisoned (named (length next)) file) a (stuck_unless b (callee_raises x memory a a.tries))) u
       by_test false = tt
       by_test true = raised_in u (record { op = lin.Op (op.Calling (calling.Call whom (ret.Comp t))); args = args; results = p ∷ [] }) x memory a.tries refl r
 
@@ -218,7 +218,7 @@ module _ (s : Fixed) (laid : Laid) (live : List Line → Type 0) (entry : ℕ �
       ((j : ℕ) (x : Value) → slice_get arguments j ≡ Some x → (j < 16) × (held (loc.Machine (10 + j)) ≡ Some x)) →
       IsEntered s entry f arguments a.memory below (record w { place = entry f; registers = slice_set w.registers 1 (address_of_place (v.place + k)) })
   callee_begins f arguments registers some args =
-      let hold = subst (λ o. AreCarried s (all_of w young) w.registers held o) none within.carried in (
+      let hold = subst (λ o. AreCarried s (blocks_by_serial w young) w.registers held o) none within.carried in (
         young,
         enters s laid w young held a c within (named (length next)) d is saves fit (entry f) back arguments back_is (λ e. omega
             (arith, e, some)) there registers whole

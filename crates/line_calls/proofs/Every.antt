@@ -1,11 +1,11 @@
 -- Every line, of whatever kind.
 use Rattle.std.proofs.Common.{◌≡◌, ◌⊎◌, inl, inr, ⊎_elim, ℕ, suc, ◌+◌, ◌*◌, true, List, ◌∷◌, length, Option, refl, sym, subst, ◌∙◌, arith}
-use Rattle.emit_rules.specs.Emitted.{part_of}
-use Rattle.emit_rules.specs.Entry.{Frame}
+use Rattle.emit_rules.specs.Emitted.{part_of_line}
+use Rattle.emit_rules.specs.Entry.{FrameLayout}
 use Rattle.emit_rules.specs.Units.{is_branch}
 use Rattle.emit_rules.proofs.Units.{if_branch}
 use Rattle.layout_rules.specs.Forms.{total_words}
-use Rattle.layout_rules.specs.Words.{Named}
+use Rattle.layout_rules.specs.Words.{NameAddresses}
 use Rattle.lin_ir.specs.Meaning.{Locations, NamedAt, step}
 use Rattle.lin_ir.specs.declared.descr.Descr.{Descr}
 use Rattle.lin_ir.specs.declared.lin.Flow.TheVariants as flow
@@ -14,7 +14,7 @@ use Rattle.lin_ir.specs.declared.lin.Line.{Line}
 use Rattle.lin_ir.specs.declared.lin.LinOp.{LinOp}
 use Rattle.lin_ir.specs.declared.lin.LinOp.TheVariants as lin
 use Rattle.mach_ir.specs.Acts.{Around}
-use Rattle.mach_ir.specs.Runs.{Place}
+use Rattle.mach_ir.specs.Runs.{ActivationSetting}
 use Rattle.mach_ir.specs.declared.op.Access.TheVariants as access
 use Rattle.mach_ir.specs.declared.op.Leaving.TheVariants as leaving
 use Rattle.mach_ir.specs.declared.op.Op.TheVariants as op
@@ -89,7 +89,7 @@ without_service o k plain_switch = refl
 pub every_line : (live : List Line → Type 0) → EveryLineFollows live
 every_line live s n laid entry c place named m f d i next v file a k lines points fit behind at =
     let past = lines.part.past in
-    let many = total_words (part_of (length a.tries) f d i) lines.part.forms in
+    let many = total_words (part_of_line (length a.tries) f d i) lines.part.forms in
     let does = step place named m (record { rest = i ∷ next; file = file; around = a }) in
     let same : many ≡ k = omega (arith, past, behind) in
     ⊎_elim
@@ -101,14 +101,14 @@ every_line live s n laid entry c place named m f d i next v file a k lines point
     (λ turn. lines_follow s n laid live entry c place named m f d i next v file a k turn lines (points turn) fit behind at) (kinds i.op)
 
 -- And a branch takes at least one instruction.
-pub every_branch : (live : List Line → Type 0) (s : Fixed) (n : Named) (laid : Laid) (c : Below) (place : Place) (named : NamedAt) (m : Lin) (f : Frame)
+pub every_branch : (live : List Line → Type 0) (s : Fixed) (n : NameAddresses) (laid : Laid) (c : Below) (place : ActivationSetting) (named : NamedAt) (m : Lin) (f : FrameLayout)
     (d : Option Descr) (i : Line) (next : List Line) (v : View) (file : Locations) (a : Around) (words : ℕ) → is_branch i.op ≡ true →
     LineStands s laid n m place.setting live a.tries f d i next → IsReadyFor i a → laid.part (length next) ≡ laid.part (suc (length next)) + words →
     IsAt s laid live c (record { rest = i ∷ next; file = file; around = a }) v →
     FollowsBranch (before_service i.op words) s laid live c v (step place named m (record { rest = i ∷ next; file = file; around = a }))
 every_branch live s n laid c place named m f d i next v file a k branch lines fit behind at =
     let past = lines.part.past in
-    let many = total_words (part_of (length a.tries) f d i) lines.part.forms in
+    let many = total_words (part_of_line (length a.tries) f d i) lines.part.forms in
     let does = step place named m (record { rest = i ∷ next; file = file; around = a }) in
     let same : many ≡ k = omega (arith, past, behind) in
     let plain : IsPlain i.op = if_branch IsPlain (λ t l. plain_branch) i.op branch in

@@ -5,12 +5,12 @@ use Rattle.bs_words.specs.Fits.{data_start}
 use Rattle.bs_words.specs.declared.types.Ret.TheVariants as ret
 use Rattle.bs_words.specs.declared.values.Value.{Value}
 use Rattle.cmm_types.proofs.Containing.{contains_none}
-use Rattle.emit_rules.specs.Entry.{Frame}
+use Rattle.emit_rules.specs.Entry.{FrameLayout}
 use Rattle.emit_rules.specs.Named.{IsExternalOf}
 use Rattle.layout_rules.specs.declared.form.Form.TheVariants.{Near}
-use Rattle.layout_rules.specs.Laid.{address_of_place, desc_at}
+use Rattle.layout_rules.specs.Laid.{address_of_place, descriptor_laid_at}
 use Rattle.layout_rules.specs.Stands.{HasPieces}
-use Rattle.layout_rules.specs.Words.{Named}
+use Rattle.layout_rules.specs.Words.{NameAddresses}
 use Rattle.lin_ir.specs.Formed.{formed_op, goes_to, pushes}
 use Rattle.lin_ir.specs.Meaning.{Locations, step}
 use Rattle.lin_ir.specs.declared.descr.Descr.{Descr}
@@ -19,8 +19,8 @@ use Rattle.lin_ir.specs.declared.lin.Line.{Line}
 use Rattle.lin_ir.specs.declared.lin.LinOp.TheVariants as lin
 use Rattle.mach_ir.specs.Acts.{Around}
 use Rattle.mach_ir.specs.Forms.{by_symbol, calls}
-use Rattle.mach_ir.specs.Runs.{Place}
-use Rattle.mach_ir.specs.Seats.{argument_places, in_order, result_places}
+use Rattle.mach_ir.specs.Runs.{ActivationSetting}
+use Rattle.mach_ir.specs.Seats.{argument_locations, in_order, result_locations}
 use Rattle.mach_ir.specs.Walks.{other}
 use Rattle.mach_ir.specs.declared.op.Callee.TheVariants as callee
 use Rattle.mach_ir.specs.declared.op.Calling.TheVariants as calling
@@ -50,7 +50,7 @@ function = record { name = []; params = []; result = ret.Unit; slots = 0; code =
 abbrev descr : Descr
 descr = record { after = 0; size = 16; entries = [] }
 
-abbrev frame : Frame
+abbrev frame : FrameLayout
 frame = record { bytes = 16; saves = true }
 
 abbrev MakesNone : declared.External → Bool → Line → Type 0
@@ -62,11 +62,11 @@ no_external row e =
     (All-cons (MakesNone row e.frame) itself (back ∷ []) (λ q. absurd (cc)) (All-cons (MakesNone row e.frame) back [] (λ q. absurd (cc))
     (All-nil (MakesNone row e.frame)))) e.among e.is
 
-module _ (s : Fixed) (n : Named) (entry : ℕ → ℕ) (entries : EntriesStand s entry) (place : Place)
+module _ (s : Fixed) (n : NameAddresses) (entry : ℕ → ℕ) (entries : EntriesStand s entry) (place : ActivationSetting)
     (end : place.setting.end ≡ data_start + length s.image.bytes)
     (symbol : (name : List ℕ) (x : Value) → place.setting.symbol name ≡ Some x → StandsFor s [] (n.symbol name) x × (n.symbol name < 2 ^ 30)) (at : ℕ)
     (has : HasPieces s.image.code n at (Call [] ∷ Descriptor descr ∷ []) (Near ∷ Near ∷ []))
-    (there : descriptor_at s.image.descs (address_of_place (at + 2)) ≡ Some (desc_at (at + 2) descr)) (inside : at + 2 < length s.image.code) where
+    (there : descriptor_at s.image.descs (address_of_place (at + 2)) ≡ Some (descriptor_laid_at (at + 2) descr)) (inside : at + 2 < length s.image.code) where
   -- the call has two words, and the return three
   abbrev laid : Laid
   laid = record {
@@ -104,8 +104,8 @@ module _ (s : Fixed) (n : Named) (entry : ℕ → ℕ) (entries : EntriesStand s
     offset = tt;
     args = All-nil _;
     results = All-nil _;
-    operand_seats = in_order argument_places refl;
-    result_seats = in_order result_places refl;
+    operand_seats = in_order argument_locations refl;
+    result_seats = in_order result_locations refl;
     named = λ l q. absurd (elim q [ goes_to t ↦ elim t [ other u ↦ elim u [ ] ] | pushes e ↦ cc ]);
     handlers = λ l i. absurd (contains_none l i);
     spare = record {
@@ -115,7 +115,7 @@ module _ (s : Fixed) (n : Named) (entry : ℕ → ℕ) (entries : EntriesStand s
     };
   }
 
-  described : (p : ℕ) → IsDescribed laid 0 [] (desc_at p descr)
+  described : (p : ℕ) → IsDescribed laid 0 [] (descriptor_laid_at p descr)
   described p = record {
     size = omega arith;
     slot = λ k e. absurd (cc);
@@ -131,7 +131,7 @@ module _ (s : Fixed) (n : Named) (entry : ℕ → ℕ) (entries : EntriesStand s
     marks = (tt, ((there, inside), tt));
     mark = λ e. (descr, refl);
     saves = λ e. refl;
-    described = λ e q p. subst (λ d. IsDescribed laid 0 [] (desc_at p d)) (let z : descr ≡ e = cc in z) (described p);
+    described = λ e q p. subst (λ d. IsDescribed laid 0 [] (descriptor_laid_at p d)) (let z : descr ≡ e = cc in z) (described p);
     unnamed = λ e q whom result f. ap (λ d. names_register d.entries) (let z : e ≡ descr = cc in z);
     spared = λ e. refl;
     unwritten = λ t i. contains_none _ i;

@@ -10,23 +10,23 @@ use Rattle.bs_words.specs.declared.types.Loc.TheVariants as loc
 use Rattle.bs_words.specs.declared.values.Value.{Value}
 use Rattle.cmm_meaning.specs.State.{Gave, Outside}
 use Rattle.emit_rules.specs.Calls.{external_words}
-use Rattle.emit_rules.specs.Constants.{constant}
+use Rattle.emit_rules.specs.Constants.{constant_pieces}
 use Rattle.emit_rules.specs.Instructions.{ecall, low_12}
 use Rattle.image_form.specs.Image.{IsArgument, IsExt}
-use Rattle.layout_rules.specs.Laid.{address_of_place, desc_at}
-use Rattle.layout_rules.specs.Words.{Named, upper}
+use Rattle.layout_rules.specs.Laid.{address_of_place, descriptor_laid_at}
+use Rattle.layout_rules.specs.Words.{NameAddresses, upper}
 use Rattle.layout_rules.proofs.Offsets.{number_lands}
 use Rattle.lin_ir.specs.Formed.{comps, places_of, spare}
-use Rattle.lin_ir.specs.Meaning.{Locations, NamedAt, after_label, are_vals, is_named, on_act, on_values, poisoned, step, unless_misnamed, values}
+use Rattle.lin_ir.specs.Meaning.{Locations, NamedAt, after_label, are_vals, is_named_location, on_act, on_values, poisoned, step, unless_misnamed, values}
 use Rattle.lin_ir.specs.declared.descr.Descr.{Descr}
 use Rattle.lin_ir.specs.declared.lin.Lin.{Lin}
 use Rattle.lin_ir.specs.declared.lin.Line.{Line}
 use Rattle.lin_ir.specs.declared.lin.LinOp.TheVariants as lin
 use Rattle.lin_ir.specs.declared.lin.Spot.{Spot}
-use Rattle.mach_ir.specs.Acts.{Around, Asks, after_external, is_complete, only_if, row_of}
-use Rattle.mach_ir.specs.Forms.{results_of}
-use Rattle.mach_ir.specs.Runs.{Place}
-use Rattle.mach_ir.specs.Seats.{AreSeated, InOrder, argument_places, in_order, result_places}
+use Rattle.mach_ir.specs.Acts.{Around, Asks, after_external, is_complete, stuck_unless, external_row}
+use Rattle.mach_ir.specs.Forms.{results_of_type}
+use Rattle.mach_ir.specs.Runs.{ActivationSetting}
+use Rattle.mach_ir.specs.Seats.{AreSeated, InOrder, argument_locations, in_order, result_locations}
 use Rattle.mach_ir.specs.declared.op.External as declared
 use Rattle.mach_ir.specs.declared.op.Calling.TheVariants as calling
 use Rattle.mach_ir.specs.declared.op.Op.TheVariants as op
@@ -40,13 +40,13 @@ use Rattle.rv_machine.specs.Memory.{code_start}
 use Rattle.rv_machine.specs.Services.{Machine, arguments_from, call_made}
 use Rattle.rv_machine.specs.Sound.{AreRegisters}
 use Rattle.rv_pieces.specs.declared.piece.Piece.TheVariants.{ExternalNumber}
-use Rattle.moving_laws.specs.Stands.{Among}
-use Rattle.linear_machine.specs.Arrival.{ArrivesIn, nothing}
+use Rattle.moving_laws.specs.Stands.{AmongNumbers}
+use Rattle.linear_machine.specs.Arrival.{ArrivesIn, needs_nothing}
 use Rattle.linear_machine.specs.Follows.{Agrees, IsAfter}
-use Rattle.linear_machine.specs.Outside.{IsAsking, Taken, counted, shown, taken_alone, taken_moving}
+use Rattle.linear_machine.specs.Outside.{IsAsking, Taken, counted_call, observed_argument, taken_alone, taken_moving}
 use Rattle.cmm_meaning.specs.Run.{given_back}
-use Rattle.linear_machine.specs.Relation.{AreCarried, Below, IsDescribed, Laid, Within, all_of}
-use Rattle.linear_machine.specs.View.{Fixed, IsCode, Stands, View}
+use Rattle.linear_machine.specs.Relation.{AreCarried, Below, IsDescribed, Laid, Within, blocks_by_serial}
+use Rattle.linear_machine.specs.View.{Fixed, IsInstructionAt, HasView, View}
 use Rattle.linear_machine.proofs.Arriving.{leads_in}
 use Rattle.linear_machine.proofs.Formats.{sets_imm, sets_lui}
 use Rattle.linear_machine.proofs.Moving.{hart_of, within_like}
@@ -72,21 +72,21 @@ use Rattle.line_calls.proofs.Shown.{each_at, few_externals, shown_from, tabled_f
 
 -- ---- up to the service
 
-module _ (s : Fixed) (n : Named) (v : View) (are : AreRegisters v.registers) (row : declared.External) (is : IsRowAt s row (n.external (row_of row)))
-    (service : ℕ) (small : service < 2 ^ 64) (to : ℕ) (st : PartStands s n v.place to (ExternalNumber T0 row ∷ constant T2 service ++ ecall ∷ [])) where
+module _ (s : Fixed) (n : NameAddresses) (v : View) (are : AreRegisters v.registers) (row : declared.External) (is : IsRowAt s row (n.external (external_row row)))
+    (service : ℕ) (small : service < 2 ^ 64) (to : ℕ) (st : PartStands s n v.place to (ExternalNumber T0 row ∷ constant_pieces T2 service ++ ecall ∷ [])) where
   abbrev number : ℕ
-  number = n.external (row_of row)
+  number = n.external (external_row row)
 
   pub record AtService : Type 0 where
     pub middle : ℕ
-    pub reach : Reaches s v middle (5 ∷ 7 ∷ []) v.memory (λ w. (slice_index w.registers 5 ≡ n.external (row_of row)) × (slice_index w.registers 7 ≡ service))
-    pub code : IsCode s middle Ecall
+    pub reach : Reaches s v middle (5 ∷ 7 ∷ []) v.memory (λ w. (slice_index w.registers 5 ≡ n.external (external_row row)) × (slice_index w.registers 7 ≡ service))
+    pub code : IsInstructionAt s middle Ecall
     pub lands : to ≡ middle + 1
 
   pub at_service : AtService
   at_service =
-      let ends = splits s n v.place to (ExternalNumber T0 row ∷ constant T2 service) (ecall ∷ []) st in
-      let open' = begins s n v.place ends.middle (ExternalNumber T0 row) (constant T2 service) ends.first in
+      let ends = splits s n v.place to (ExternalNumber T0 row ∷ constant_pieces T2 service) (ecall ∷ []) st in
+      let open' = begins s n v.place ends.middle (ExternalNumber T0 row) (constant_pieces T2 service) ends.first in
       let last = single s n ends.middle to Ecall ends.second in
       let few = few_externals s number is.ext is.there in
       let high : ℕ = imm_u (upper number) in
@@ -101,7 +101,7 @@ module _ (s : Fixed) (n : Named) (v : View) (are : AreRegisters v.registers) (ro
       (λ q i. ⊎_elim (λ h. inl h) (λ z. absurd z) i) (λ w m p h. h.0)
       (reaches_more s v (v.place + 1) (v.place + 1 + 1) (5 ∷ []) (5 ∷ []) v.memory _ _ one (λ q i. i)
       (reaches_set s u (v.place + 1 + 1) (OpImm Addi 5 5 (low_12 number)) 4 number
-      (subst (λ p. IsCode s p (OpImm Addi 5 5 (low_12 number))) (sym here) open'.code.1.0) (omega (arith, here)) (inl (λ q. omega (arith, q)))
+      (subst (λ p. IsInstructionAt s p (OpImm Addi 5 5 (low_12 number))) (sym here) open'.code.1.0) (omega (arith, here)) (inl (λ q. omega (arith, q)))
       (sets_as s u (OpImm Addi 5 5 (low_12 number)) 5 _ _ sum (sets_imm s u Addi 5 5 (low_12 number))) one.changes.past.are (omega arith) (omega
       (arith, few)))) in
       let z = two.changes.view in
@@ -113,7 +113,7 @@ module _ (s : Fixed) (n : Named) (v : View) (are : AreRegisters v.registers) (ro
             (λ w m p h. (h.1 5 (λ i. ⊎_elim (λ q. omega (arith, q)) (λ f. f) i) ∙ two.changes.holds, h.0))
             (reaches_more s v (v.place + 1 + 1) ends.middle (5 ∷ 7 ∷ []) (7 ∷ []) v.memory _ _ two (λ q i. inr i)
             (constant_reaches s n T2 6 refl (omega arith) (λ q. omega (arith, q)) z ends.middle service small
-            (subst (λ p. PartStands s n p ends.middle (constant T2 service)) (sym there) open'.rest) two.changes.past.are));
+            (subst (λ p. PartStands s n p ends.middle (constant_pieces T2 service)) (sym there) open'.rest) two.changes.past.are));
         code = last.0;
         lands = last.1;
       }
@@ -125,7 +125,7 @@ four_small : 4 < 2 ^ 64
 four_small = omega arith
 
 -- t0 and t2 change alone
-free_57 : (q : ℕ) → Among q (5 ∷ 7 ∷ []) → IsFree q
+free_57 : (q : ℕ) → AmongNumbers q (5 ∷ 7 ∷ []) → IsFree q
 free_57 q i = record {
   some = ⊎_elim (λ e. omega (arith, e)) (λ j. ⊎_elim (λ e. omega (arith, e)) (λ f. absurd f) j) i;
   no_trap = λ t. ⊎_elim (λ e. omega (arith, e, t)) (λ j. ⊎_elim (λ e. omega (arith, e, t)) (λ f. f) j) i;
@@ -133,13 +133,13 @@ free_57 q i = record {
   no_domain = λ t. ⊎_elim (λ e. omega (arith, e, t)) (λ j. ⊎_elim (λ e. omega (arith, e, t)) (λ f. f) j) i;
 }
 
-module _ (s : Fixed) (n : Named) (laid : Laid) (live : List Line → Type 0) (entry : ℕ → ℕ) (c : Below) (place : Place) (named : NamedAt) (m : Lin)
+module _ (s : Fixed) (n : NameAddresses) (laid : Laid) (live : List Line → Type 0) (entry : ℕ → ℕ) (c : Below) (place : ActivationSetting) (named : NamedAt) (m : Lin)
     (next : List Line) (v : View) (young : List Placed) (held file : Locations) (a : Around) (within : Within s laid v young 0 held a c) (before : Type 0)
     (agrees : Agrees before held file) (k : ℕ) (none : a.raised ≡ None) (behind_is : laid.part (length next) ≡ v.place + k)
     (end_is : place.setting.end ≡ data_start + length s.image.bytes) (dead : live next → ⊥)
-    (row : declared.External) (is : IsRowAt s row (n.external (row_of row)))
-    (args : List Spot) (seats : AreSeated (InOrder argument_places) (places_of args)) (of_row : comps args ≡ row.params)
-    (results : List Spot) (typed : comps results ≡ results_of row.result) (seated : AreSeated (InOrder result_places) (places_of results)) where
+    (row : declared.External) (is : IsRowAt s row (n.external (external_row row)))
+    (args : List Spot) (seats : AreSeated (InOrder argument_locations) (places_of args)) (of_row : comps args ≡ row.params)
+    (results : List Spot) (typed : comps results ≡ results_of_type row.result) (seated : AreSeated (InOrder result_locations) (places_of results)) where
   -- what is held without t0
   abbrev held' : Locations
   held' = dropped 5 held
@@ -150,7 +150,7 @@ module _ (s : Fixed) (n : Named) (laid : Laid) (live : List Line → Type 0) (en
   within' : Within s laid v young 0 (dropped 5 held) a c
   within' = within_less s laid v young 0 held (dropped 5 held) a c (dropped_less held) within
 
-  module _ (service : ℕ) (small : service < 2 ^ 64) (to : ℕ) (st : PartStands s n v.place to (ExternalNumber T0 row ∷ constant T2 service ++ ecall ∷ []))
+  module _ (service : ℕ) (small : service < 2 ^ 64) (to : ℕ) (st : PartStands s n v.place to (ExternalNumber T0 row ∷ constant_pieces T2 service ++ ecall ∷ []))
       (whole : is_complete a ≡ true) (xs : List Value) (read : values place.setting.end file args ≡ Some xs) where
     reached : AtService s n v within.own.are row is service small to st
     reached = at_service s n v within.own.are row is service small to st
@@ -164,17 +164,17 @@ module _ (s : Fixed) (n : Named) (laid : Laid) (live : List Line → Type 0) (en
         reached.reach.changes.past free_57
         (record { each = λ l x h. h })
         (λ e q x i h. ⊎_elim (λ f. no_t0 held x (subst (λ r. dropped 5 held (loc.Machine r) ≡ Some x) f h))
-        (λ j. ⊎_elim (λ f. ((subst (λ o. AreCarried s (all_of v young) v.registers (dropped 5 held) o) none within'.carried) 7 x
+        (λ j. ⊎_elim (λ f. ((subst (λ o. AreCarried s (blocks_by_serial v young) v.registers (dropped 5 held) o) none within'.carried) 7 x
         (subst (λ r. dropped 5 held (loc.Machine r) ≡ Some x) f h)).0.no_scratch.1 refl) (λ f. f) j) i) (inl none) within'
 
-    code_it : IsCode s reached.reach.changes.view.place Ecall
-    code_it = subst (λ p. IsCode s p Ecall) (sym (arrived s v reached.middle (5 ∷ 7 ∷ []) v.memory _ reached.reach)) reached.code
+    code_it : IsInstructionAt s reached.reach.changes.view.place Ecall
+    code_it = subst (λ p. IsInstructionAt s p Ecall) (sym (arrived s v reached.middle (5 ∷ 7 ∷ []) v.memory _ reached.reach)) reached.code
 
     row_there : slice_get s.image.extcs (slice_index reached.reach.changes.view.registers 5) ≡ Some is.ext
     row_there = ap (slice_get s.image.extcs) reached.reach.changes.holds.0 ∙ is.there
 
     -- what is observed of the call
-    shows : (b : Machine) → Stands s b reached.reach.changes.view → call_made is.ext b.hart ≡ counted s (row_of row) xs
+    shows : (b : Machine) → HasView s b reached.reach.changes.view → call_made is.ext b.hart ≡ counted_call s (external_row row) xs
     shows b ok = by_seats seats
       where
         u : View
@@ -188,14 +188,14 @@ module _ (s : Fixed) (n : Named) (laid : Laid) (live : List Line → Type 0) (en
 
         allowed : AllByRecursion IsArgument (comps args)
         allowed = subst (λ cs. AllByRecursion IsArgument cs) (sym params)
-            (each_at IsExt s.image.extcs (n.external (row_of row)) is.ext s.functions.tables.extcs.each is.there).params
+            (each_at IsExt s.image.extcs (n.external (external_row row)) is.ext s.functions.tables.extcs.each is.there).params
 
-        by_seats : AreSeated (InOrder argument_places) (places_of args) → call_made is.ext b.hart ≡ counted s (row_of row) xs
+        by_seats : AreSeated (InOrder argument_locations) (places_of args) → call_made is.ext b.hart ≡ counted_call s (external_row row) xs
         by_seats (in_order more e) =
-            let arguments : arguments_from 10 (comps args) (hart_of s (with_memory reached.reach.changes.view b.hart) b.hart) ≡ map (shown s.image) xs =
+            let arguments : arguments_from 10 (comps args) (hart_of s (with_memory reached.reach.changes.view b.hart) b.hart) ≡ map (observed_argument s.image) xs =
             shown_from s laid (with_memory reached.reach.changes.view b.hart) young (dropped 5 held) a c there whole b.hart file
             (λ r x l h.
-            ((subst (λ o. AreCarried s (all_of (with_memory reached.reach.changes.view b.hart) young) reached.reach.changes.view.registers
+            ((subst (λ o. AreCarried s (blocks_by_serial (with_memory reached.reach.changes.view b.hart) young) reached.reach.changes.view.registers
             (dropped 5 held) o) none
             there.carried) r x (same_file (loc.Machine r) (λ q. let z = same_machine r 5 q in omega (arith, z, l)) ∙ h)).1)
             args xs 9 argument_registers more (omega arith) e arguments_rise (subst (λ z. values z file args ≡ Some xs) end_is read) allowed in
@@ -207,11 +207,11 @@ module _ (s : Fixed) (n : Named) (laid : Laid) (live : List Line → Type 0) (en
   in_table : (xs : List Value) → values place.setting.end file args ≡ Some xs → AllByRecursion (IsInTable s.image) xs
   in_table xs read = by_seats seats
     where
-      by_seats : AreSeated (InOrder argument_places) (places_of args) → AllByRecursion (IsInTable s.image) xs
+      by_seats : AreSeated (InOrder argument_locations) (places_of args) → AllByRecursion (IsInTable s.image) xs
       by_seats (in_order more e) =
-          tabled_from s (all_of v young) v.registers place.setting.end file
+          tabled_from s (blocks_by_serial v young) v.registers place.setting.end file
           (λ r x l h.
-          ((subst (λ o. AreCarried s (all_of v young) v.registers (dropped 5 held) o) none within'.carried) r x
+          ((subst (λ o. AreCarried s (blocks_by_serial v young) v.registers (dropped 5 held) o) none within'.carried) r x
           (same_file (loc.Machine r) (λ q. let z = same_machine r 5 q in omega (arith, z, l)) ∙ h)).1)
           args xs 9 argument_registers more (omega arith) e arguments_rise read
 
@@ -222,7 +222,7 @@ module _ (s : Fixed) (n : Named) (laid : Laid) (live : List Line → Type 0) (en
 
   module _ (part : PartStands s n v.place (v.place + k) (external_words row false)) where
     alone_asks : (whole : is_complete a ≡ true) (xs : List Value) (read : values place.setting.end file args ≡ Some xs) →
-        ArrivesIn 0 (k - 1) s (nothing s) v (IsAsking s (record { top = s.base; stack = 0; heap = heap_need a.memory }) (row_of row) false xs a.memory
+        ArrivesIn 0 (k - 1) s (needs_nothing s) v (IsAsking s (record { top = s.base; stack = 0; heap = heap_need a.memory }) (external_row row) false xs a.memory
         (λ doing w. IsAfter s laid live c (on_act place m alone next file a (after_external place.setting row.result false a doing)) w))
     alone_asks whole xs read =
         let r = reached 2 two_small (v.place + k) part whole xs read in
@@ -243,7 +243,7 @@ module _ (s : Fixed) (n : Named) (laid : Laid) (live : List Line → Type 0) (en
           service = r.reach.changes.holds.1;
           made = shows 2 two_small (v.place + k) part whole xs read;
           goes = λ b t ok words taken. inl (alone_goes s w (code_it 2 two_small (v.place + k) part whole xs read) r.reach.changes.holds.1 is.ext
-              (row_there 2 two_small (v.place + k) part whole xs read) (counted s (row_of row) xs)
+              (row_there 2 two_small (v.place + k) part whole xs read) (counted_call s (external_row row) xs)
               (shows 2 two_small (v.place + k) part whole xs read) a.memory
               (λ t u. IsAfter s laid live c (on_act place m alone next file a (after_external place.setting row.result false a t.doing)) u)
               (λ x answers fits. subst (λ q. IsAfter s laid live c (on_act place m alone next file a
@@ -253,13 +253,13 @@ module _ (s : Fixed) (n : Named) (laid : Laid) (live : List Line → Type 0) (en
                 memory = w.memory;
                 blocks = w.blocks;
                 answers = answers;
-                calls = w.calls ++ counted s (row_of row) xs ∷ [];
+                calls = w.calls ++ counted_call s (external_row row) xs ∷ [];
                 asked = false;
               })) (sym is.result)
               (gave_after s laid live c place m next young (dropped 5 held) file same_file a none whole dead row false args row.result results
               typed seated x a.memory _
               (within_behind s laid w young (dropped 5 held) a c ww none (w.place + 1) (behind is.ext.result x w.registers) answers
-              (w.calls ++ counted s (row_of row) xs ∷ []) (behind_are is.ext.result x w.registers fits ww.own.are)
+              (w.calls ++ counted_call s (external_row row) xs ∷ []) (behind_are is.ext.result x w.registers fits ww.own.are)
               (λ q i. behind_others is.ext.result x w.registers q i)) next_place
               (λ q f. ap (λ y. slice_index (behind y x w.registers) 10) (is.result ∙ f) ∙ behind_result q x w.registers ww.own.are))) words b t ok
               (subst (λ q. taken_alone a.memory q w.answers ≡ Some t) (sym is.result) taken));
@@ -273,8 +273,8 @@ module _ (s : Fixed) (n : Named) (laid : Laid) (live : List Line → Type 0) (en
     external_alone = by_values (values place.setting.end file args) refl
       where
         by_whole : (xs : List Value) → values place.setting.end file args ≡ Some xs → (t : Bool) → is_complete a ≡ t →
-            FollowsSo (k - 1) s laid live entry c v (laid.frame + 16 * length a.tries) (on_act place m alone next file a (only_if t (Asks (Outside
-            (row_of row) false) xs
+            FollowsSo (k - 1) s laid live entry c v (laid.frame + 16 * length a.tries) (on_act place m alone next file a (stuck_unless t (Asks (Outside
+            (external_row row) false) xs
             (after_external place.setting row.result false a))))
         by_whole xs h false e = record { follows = tt; calls = tt }
         by_whole xs h true e = record { follows = alone_asks e xs h; calls = in_table xs h }
@@ -289,9 +289,9 @@ module _ (s : Fixed) (n : Named) (laid : Laid) (live : List Line → Type 0) (en
   abbrev framed : Line
   framed = record { op = lin.Op (op.Calling (calling.External row true)); args = args; results = results }
 
-  module _ (saves : laid.saves ≡ true) (e : Descr) (described : IsDescribed laid (length a.tries) (named (length next)) (desc_at (v.place + k) e))
-      (marked : descriptor_at s.image.descs (address_of_place (v.place + k)) ≡ Some (desc_at (v.place + k) e))
-      (spared : is_named spare (named (length next)) ≡ false)
+  module _ (saves : laid.saves ≡ true) (e : Descr) (described : IsDescribed laid (length a.tries) (named (length next)) (descriptor_laid_at (v.place + k) e))
+      (marked : descriptor_at s.image.descs (address_of_place (v.place + k)) ≡ Some (descriptor_laid_at (v.place + k) e))
+      (spared : is_named_location spare (named (length next)) ≡ false)
       (handlers : (l : ℕ) (rest : List ℕ) → a.tries ≡ l ∷ rest → laid.handler l ≡ address_of_place (laid.part (length (after_label l m.code))))
       (no_live : (l : ℕ) (rest : List ℕ) → a.tries ≡ l ∷ rest → live (after_label l m.code) → ⊥)
       (part : PartStands s n v.place (v.place + k) (external_words row true)) where
@@ -300,7 +300,7 @@ module _ (s : Fixed) (n : Named) (laid : Laid) (live : List Line → Type 0) (en
 
     frame_asks : (whole : is_complete a ≡ true) (xs : List Value) (read : values place.setting.end file args ≡ Some xs) →
         are_vals place.setting.end (named (length next)) file ≡ true →
-        ArrivesIn 0 (k - 1) s (nothing s) v (IsAsking s (record { top = s.base; stack = 0; heap = heap_need a.memory }) (row_of row) true xs a.memory
+        ArrivesIn 0 (k - 1) s (needs_nothing s) v (IsAsking s (record { top = s.base; stack = 0; heap = heap_need a.memory }) (external_row row) true xs a.memory
         (λ doing w. IsAfter s laid live c (on_act place m framed next (poisoned (named (length next)) file) a
         (after_external place.setting row.result true a doing)) w))
     frame_asks whole xs read vals =
@@ -316,8 +316,8 @@ module _ (s : Fixed) (n : Named) (laid : Laid) (live : List Line → Type 0) (en
         subst (λ z. are_vals z (named (length next)) (dropped 5 held) ≡ true) end_is
         (vals_held place.setting.end ⊥ (dropped 5 held) file (named (length next)) agrees' spared ∙ vals) in
         let address : address_of_place (v.place + k) ≡ code_start + 4 * w.place + 4 = omega (arith, l2, here) in
-        let there : descriptor_at s.image.descs (code_start + 4 * w.place + 4) ≡ Some (desc_at (v.place + k) e) =
-        subst (λ p. descriptor_at s.image.descs p ≡ Some (desc_at (v.place + k) e)) address marked in
+        let there : descriptor_at s.image.descs (code_start + 4 * w.place + 4) ≡ Some (descriptor_laid_at (v.place + k) e) =
+        subst (λ p. descriptor_at s.image.descs p ≡ Some (descriptor_laid_at (v.place + k) e)) address marked in
         let same_lost : (l : Loc) → (l ≡ spare → ⊥) → poisoned (named (length next)) (dropped 5 held) l ≡ poisoned (named (length next)) file l =
         λ l q. poisoned_same (named (length next)) (dropped 5 held) file l (same_file l q) in
         let P : Taken → View → Type 0 = λ t u. IsAfter s laid live c (on_act place m framed next (poisoned (named (length next)) file) a
@@ -332,8 +332,8 @@ module _ (s : Fixed) (n : Named) (laid : Laid) (live : List Line → Type 0) (en
           service = r.reach.changes.holds.1;
           made = shows 4 four_small (v.place + k) part whole xs read;
           goes = λ b t ok words taken. frame_goes s w (code_it 4 four_small (v.place + k) part whole xs read) r.reach.changes.holds.1 is.ext
-              (row_there 4 four_small (v.place + k) part whole xs read) (counted s (row_of row) xs)
-              (shows 4 four_small (v.place + k) part whole xs read) laid young (dropped 5 held) a c ww (named (length next)) (desc_at
+              (row_there 4 four_small (v.place + k) part whole xs read) (counted_call s (external_row row) xs)
+              (shows 4 four_small (v.place + k) part whole xs read) laid young (dropped 5 held) a c ww (named (length next)) (descriptor_laid_at
               (v.place + k) e) described
               saves fit whole none there (record { top = s.base; stack = 0; heap = heap_need a.memory }) refl a.memory P words
               (λ x answers u wu at ten. subst (λ q. IsAfter s laid live c (on_act place m framed next (poisoned (named (length next)) file) a
@@ -359,14 +359,14 @@ module _ (s : Fixed) (n : Named) (laid : Laid) (live : List Line → Type 0) (en
             (t : Bool) →
             is_complete a ≡ t →
             FollowsSo (k - 1) s laid live entry c v (laid.frame + 16 * length a.tries) (on_act place m framed next (poisoned (named (length next)) file) a
-            (only_if t (Asks (Outside (row_of row) true) xs (after_external place.setting row.result true a))))
+            (stuck_unless t (Asks (Outside (external_row row) true) xs (after_external place.setting row.result true a))))
         by_whole xs h f false e = record { follows = tt; calls = tt }
         by_whole xs h f true e = record { follows = frame_asks e xs h f; calls = in_table xs h }
 
         by_fit : (xs : List Value) → values place.setting.end file args ≡ Some xs → (t : Bool) → are_vals place.setting.end (named (length next)) file ≡ t →
             FollowsSo (k - 1) s laid live entry c v (laid.frame + 16 * length a.tries) (unless_misnamed t (on_act place m framed next (poisoned (named
             (length next)) file) a
-            (only_if (is_complete a) (Asks (Outside (row_of row) true) xs (after_external place.setting row.result true a)))))
+            (stuck_unless (is_complete a) (Asks (Outside (external_row row) true) xs (after_external place.setting row.result true a)))))
         by_fit xs h false f = record { follows = tt; calls = tt }
         by_fit xs h true f = by_whole xs h f (is_complete a) refl
 

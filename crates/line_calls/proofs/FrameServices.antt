@@ -13,7 +13,7 @@ use Rattle.bs_words.specs.declared.values.Value.TheVariants.{Word}
 use Rattle.cmm_meaning.specs.State.{Gave, Threw}
 use Rattle.guarded_machine.specs.Guarded.{guarded_after}
 use Rattle.image_form.specs.Tables.{Desc, Tables}
-use Rattle.lin_ir.specs.Meaning.{Locations, are_vals, clear, poisoned}
+use Rattle.lin_ir.specs.Meaning.{Locations, are_vals, clear_destroyed, poisoned}
 use Rattle.mach_ir.specs.Acts.{Around, is_complete}
 use Rattle.mach_ir.specs.Meaning.{Temporaries}
 use Rattle.rv_isa.specs.declared.instr.Instr.TheVariants.{Ecall}
@@ -21,11 +21,11 @@ use Rattle.rv_machine.specs.FrameCalls.{collected, has_trap_frame, raised, with_
 use Rattle.rv_machine.specs.Frames.{descriptor_at}
 use Rattle.rv_machine.specs.Hart.{Hart, Placed, past_ecall, with_register}
 use Rattle.rv_machine.specs.Hart as next
-use Rattle.rv_machine.specs.Memory.{code_start, word}
+use Rattle.rv_machine.specs.Memory.{code_start, memory_word}
 use Rattle.rv_machine.specs.Placement.{bytes_used}
 use Rattle.rv_machine.specs.Places.{stack_end}
 use Rattle.rv_machine.specs.Relocation.{Goes}
-use Rattle.rv_machine.specs.Services.{HeapOut, Machine, Going, Over, after_collection, call_made, cleared, concluded, destroyed, filled, frame_answered, frame_call, served}
+use Rattle.rv_machine.specs.Services.{HeapOut, Machine, Going, Over, after_collection, call_made, cleared, concluded, destroyed, filled_registers, machine_frame_answered, frame_call, served}
 use Rattle.rv_machine.specs.Sound.{AllWords}
 use Rattle.machine_laws.proofs.Memory.{word_below}
 use Rattle.machine_laws.proofs.Words.{other_register, with_registers}
@@ -34,9 +34,9 @@ use Rattle.moving_laws.proofs.Words.{same_or_not}
 use Rattle.linear_machine.specs.Arrival.{Gone, Needs}
 use Rattle.linear_machine.specs.Outside.{GoesOn, Taken, taken_moving}
 use Rattle.cmm_meaning.specs.Run.{given_back}
-use Rattle.linear_machine.specs.Relation.{Below, IsDescribed, Laid, Within, all_of}
+use Rattle.linear_machine.specs.Relation.{Below, IsDescribed, Laid, Within, blocks_by_serial}
 use Rattle.linear_machine.specs.Straight.{Differs}
-use Rattle.linear_machine.specs.View.{Fixed, IsCode, Stands, View}
+use Rattle.linear_machine.specs.View.{Fixed, IsInstructionAt, HasView, View}
 use Rattle.linear_machine.proofs.Jumps.{back_place}
 use Rattle.linear_machine.proofs.Likes.{like_refl}
 use Rattle.linear_machine.proofs.Moving.{left, left_is, within_after}
@@ -46,17 +46,17 @@ use Rattle.linear_machine.proofs.Storing.{bytes_need}
 use Rattle.line_calls.proofs.Outside.{behind, behind_are, behind_others, behind_result, within_behind}
 use Rattle.line_calls.proofs.Traps.{IsTrap, is_trap}
 
-answer_is : (r : Ret) (x : ℕ) (registers : List ℕ) → with_answer r x (filled destroyed registers) ≡ behind r x registers
+answer_is : (r : Ret) (x : ℕ) (registers : List ℕ) → with_answer r x (filled_registers destroyed registers) ≡ behind r x registers
 answer_is ret.Unit x registers = refl
 answer_is (ret.Comp t) x registers = refl
 
 -- ---- what the machine does
 
-module _ (s : Fixed) (w : View) (code : IsCode s w.place Ecall) (service : slice_index w.registers 7 ≡ 4) (e : External)
+module _ (s : Fixed) (w : View) (code : IsInstructionAt s w.place Ecall) (service : slice_index w.registers 7 ≡ 4) (e : External)
     (there : slice_get s.image.extcs (slice_index w.registers 5) ≡ Some e) (call : Made)
-    (shows : (a : Machine) → Stands s a w → call_made e a.hart ≡ call) where
-  pub to_collected : (a : Machine) → Stands s a w → (j k : ℕ) → j ≡ 1 + k →
-      guarded_after s.schedule j (Going a) ≡ guarded_after s.schedule k (frame_answered (s.schedule.plan (ready s a).hart.services) e.result call w.answers (ready s a))
+    (shows : (a : Machine) → HasView s a w → call_made e a.hart ≡ call) where
+  pub to_collected : (a : Machine) → HasView s a w → (j k : ℕ) → j ≡ 1 + k →
+      guarded_after s.schedule j (Going a) ≡ guarded_after s.schedule k (machine_frame_answered (s.schedule.plan (ready s a).hart.services) e.result call w.answers (ready s a))
   to_collected a st j k q =
       let b = ready s a in
       let ok = ready_stands s a w st in
@@ -67,8 +67,8 @@ module _ (s : Fixed) (w : View) (code : IsCode s w.place Ecall) (service : slice
       one_step s a w Ecall (next.Service b.hart) st code (other_number s a w 4 st service (λ e. omega (arith, e))) refl j k q
       ∙ ap (λ y. guarded_after s.schedule k (served s.schedule.plan y b)) t
       ∙ ap (λ o. guarded_after s.schedule k (frame_call (s.schedule.plan b.hart.services) o b)) row
-      ∙ ap (λ y. guarded_after s.schedule k (frame_answered (s.schedule.plan b.hart.services) e.result y b.answers b)) (shows b ok)
-      ∙ ap (λ y. guarded_after s.schedule k (frame_answered (s.schedule.plan b.hart.services) e.result call y b)) ok.answers
+      ∙ ap (λ y. guarded_after s.schedule k (machine_frame_answered (s.schedule.plan b.hart.services) e.result y b.answers b)) (shows b ok)
+      ∙ ap (λ y. guarded_after s.schedule k (machine_frame_answered (s.schedule.plan b.hart.services) e.result call y b)) ok.answers
 
   module _ (laid : Laid) (young : List Placed) (held : Locations) (a : Around) (c : Below) (within : Within s laid w young 0 held a c) (point : List Loc)
       (d : Desc)
@@ -91,9 +91,9 @@ module _ (s : Fixed) (w : View) (code : IsCode s w.place Ecall) (service : slice
         calls = w.calls;
         asked = false;
       }) [] 0 (poisoned point held) a c
-      pub limit : word new.memory 0x20000000 ≡ 0x38000000
+      pub limit : memory_word new.memory 0x20000000 ≡ 0x38000000
 
-    moves : (b : Machine) → Stands s b w → bytes_used (w.blocks ++ reverse young) ≤ s.heap → Moved b
+    moves : (b : Machine) → HasView s b w → bytes_used (w.blocks ++ reverse young) ≤ s.heap → Moved b
     moves b st fits =
         let u : View = with_memory w b.hart in
         let wu = within_there s laid w young 0 held a c within point d is saves fit whole none marked b st in
@@ -115,9 +115,9 @@ module _ (s : Fixed) (w : View) (code : IsCode s w.place Ecall) (service : slice
 
     -- the call gives a value
     gives_at :
-        (b : Machine) → Stands s b w → (m : Moved b) (t : Ret) (x : ℕ) (answers : List ℕ) (P : View → Type 0) (first : Machine) → x < 2 ^ 64 →
+        (b : Machine) → HasView s b w → (m : Moved b) (t : Ret) (x : ℕ) (answers : List ℕ) (P : View → Type 0) (first : Machine) → x < 2 ^ 64 →
         ((j k : ℕ) → j ≡ 1 + k → guarded_after s.schedule j (Going first) ≡ guarded_after s.schedule k (concluded t call 0 x answers m.new b)) →
-        ((u : View) → Within s laid u [] 0 (clear Temporaries (poisoned point held)) a c → u.place ≡ w.place + 1 →
+        ((u : View) → Within s laid u [] 0 (clear_destroyed Temporaries (poisoned point held)) a c → u.place ≡ w.place + 1 →
         slice_index u.registers 10 ≡ slice_index (behind t x m.new.registers) 10 → P u) →
         GoesOn s first (w.calls ++ call ∷ []) answers P
     gives_at b st m t x answers P first small by holds =
@@ -136,7 +136,7 @@ module _ (s : Fixed) (w : View) (code : IsCode s w.place Ecall) (service : slice
         record {
           view = view;
           machine = record b {
-            hart = past_ecall (record (m.new) { registers = with_answer t x (filled destroyed m.new.registers) });
+            hart = past_ecall (record (m.new) { registers = with_answer t x (filled_registers destroyed m.new.registers) });
             answers = answers;
             calls = b.calls ++ call ∷ [];
           };
@@ -176,11 +176,11 @@ module _ (s : Fixed) (w : View) (code : IsCode s w.place Ecall) (service : slice
 
     -- it raises one
     raises_at :
-        (b : Machine) → Stands s b w → (m : Moved b) (t : Ret) (k1 x : ℕ) (answers : List ℕ) (P : View → Type 0) (first : Machine) → x < 2 ^ 64 →
+        (b : Machine) → HasView s b w → (m : Moved b) (t : Ret) (k1 x : ℕ) (answers : List ℕ) (P : View → Type 0) (first : Machine) → x < 2 ^ 64 →
         ((j k : ℕ) → j ≡ 1 + k → guarded_after s.schedule j (Going first) ≡ guarded_after s.schedule k (concluded t call (suc k1) x answers m.new b)) →
-        ((v u : View) → Within s laid v [] 0 (clear Temporaries (poisoned point held)) a c → Differs (2 ∷ 6 ∷ 7 ∷ 9 ∷ []) v.memory v u →
-        slice_index u.registers 2 ≡ slice_index v.registers 9 + 16 → slice_index u.registers 9 ≡ word v.memory (slice_index v.registers 9 + 8) →
-        code_start + 4 * u.place ≡ word v.memory (slice_index v.registers 9) → slice_index u.registers 10 ≡ x → P u) →
+        ((v u : View) → Within s laid v [] 0 (clear_destroyed Temporaries (poisoned point held)) a c → Differs (2 ∷ 6 ∷ 7 ∷ 9 ∷ []) v.memory v u →
+        slice_index u.registers 2 ≡ slice_index v.registers 9 + 16 → slice_index u.registers 9 ≡ memory_word v.memory (slice_index v.registers 9 + 8) →
+        code_start + 4 * u.place ≡ memory_word v.memory (slice_index v.registers 9) → slice_index u.registers 10 ≡ x → P u) →
         GoesOn s first (w.calls ++ call ∷ []) answers P
     raises_at b st m t k1 x answers P first small by holds =
         let wm = m.stands in
@@ -188,68 +188,68 @@ module _ (s : Fixed) (w : View) (code : IsCode s w.place Ecall) (service : slice
         let count = is_lost.count in
         let v : View = record {
           place = w.place + 1;
-          registers = with_register 10 x (filled destroyed m.new.registers);
+          registers = with_register 10 x (filled_registers destroyed m.new.registers);
           memory = m.new.memory;
           blocks = m.new.blocks;
           answers = answers;
           calls = w.calls ++ call ∷ [];
           asked = false;
         } in
-        let wv : Within s laid v [] 0 (clear Temporaries (poisoned point held)) a c =
-        within_behind s laid _ [] (poisoned point held) a c wm none (w.place + 1) (with_register 10 x (filled destroyed m.new.registers)) answers
-        (w.calls ++ call ∷ []) (with_registers (filled destroyed m.new.registers) 10 x is_lost small)
+        let wv : Within s laid v [] 0 (clear_destroyed Temporaries (poisoned point held)) a c =
+        within_behind s laid _ [] (poisoned point held) a c wm none (w.place + 1) (with_register 10 x (filled_registers destroyed m.new.registers)) answers
+        (w.calls ++ call ∷ []) (with_registers (filled_registers destroyed m.new.registers) 10 x is_lost small)
         (λ q i. behind_others (ret.Comp comp.Int) x m.new.registers q i) in
-        let nine : slice_index (with_register 10 x (filled destroyed m.new.registers)) 9 ≡ slice_index (filled destroyed m.new.registers) 9 =
-        other_register (filled destroyed m.new.registers) 10 9 x (λ e. omega (arith, e)) in
-        let at : IsTrap s m.new.memory (slice_index (filled destroyed m.new.registers) 9) =
+        let nine : slice_index (with_register 10 x (filled_registers destroyed m.new.registers)) 9 ≡ slice_index (filled_registers destroyed m.new.registers) 9 =
+        other_register (filled_registers destroyed m.new.registers) 10 9 x (λ e. omega (arith, e)) in
+        let at : IsTrap s m.new.memory (slice_index (filled_registers destroyed m.new.registers) 9) =
         subst (IsTrap s m.new.memory) nine (is_trap s m.new.memory _ _ wv.waits.bottom wv.traps) in
         let high = at.high in
-        let sp_set : List ℕ = with_register 2 (slice_index (filled destroyed m.new.registers) 9 + 16) (filled destroyed m.new.registers) in
-        let both_set : List ℕ = with_register 9 (word m.new.memory (slice_index (filled destroyed m.new.registers) 9 + 8))
-        (with_register 2 (slice_index (filled destroyed m.new.registers) 9 + 16) (filled destroyed m.new.registers)) in
-        let are_sp = with_registers (filled destroyed m.new.registers) 2 (slice_index (filled destroyed m.new.registers) 9 + 16) is_lost (omega
+        let sp_set : List ℕ = with_register 2 (slice_index (filled_registers destroyed m.new.registers) 9 + 16) (filled_registers destroyed m.new.registers) in
+        let both_set : List ℕ = with_register 9 (memory_word m.new.memory (slice_index (filled_registers destroyed m.new.registers) 9 + 8))
+        (with_register 2 (slice_index (filled_registers destroyed m.new.registers) 9 + 16) (filled_registers destroyed m.new.registers)) in
+        let are_sp = with_registers (filled_registers destroyed m.new.registers) 2 (slice_index (filled_registers destroyed m.new.registers) 9 + 16) is_lost (omega
         (arith, high)) in
-        let are_both = with_registers sp_set 9 (word m.new.memory (slice_index (filled destroyed m.new.registers) 9 + 8)) are_sp
+        let are_both = with_registers sp_set 9 (memory_word m.new.memory (slice_index (filled_registers destroyed m.new.registers) 9 + 8)) are_sp
         (word_below m.new.memory _) in
         let are_all = with_registers both_set 10 x are_both small in
         let count_sp = are_sp.count in
         let count_both = are_both.count in
         let u : View = record {
-          place = (word m.new.memory (slice_index (filled destroyed m.new.registers) 9) - 0x10000) / 4;
-          registers = with_register 10 x (with_register 9 (word m.new.memory (slice_index (filled destroyed m.new.registers) 9 + 8))
-              (with_register 2 (slice_index (filled destroyed m.new.registers) 9 + 16) (filled destroyed m.new.registers)));
+          place = (memory_word m.new.memory (slice_index (filled_registers destroyed m.new.registers) 9) - 0x10000) / 4;
+          registers = with_register 10 x (with_register 9 (memory_word m.new.memory (slice_index (filled_registers destroyed m.new.registers) 9 + 8))
+              (with_register 2 (slice_index (filled_registers destroyed m.new.registers) 9 + 16) (filled_registers destroyed m.new.registers)));
           memory = m.new.memory;
           blocks = m.new.blocks;
           answers = answers;
           calls = w.calls ++ call ∷ [];
           asked = false;
         } in
-        let place : code_start + 4 * ((word m.new.memory (slice_index (filled destroyed m.new.registers) 9) - 0x10000) / 4)
-        ≡ word m.new.memory (slice_index (filled destroyed m.new.registers) 9) = back_place _ at.back in
+        let place : code_start + 4 * ((memory_word m.new.memory (slice_index (filled_registers destroyed m.new.registers) 9) - 0x10000) / 4)
+        ≡ memory_word m.new.memory (slice_index (filled_registers destroyed m.new.registers) 9) = back_place _ at.back in
         let ten : slice_index (with_register 10 x both_set) 10 ≡ x = get_or-set_same both_set 10 x 0 (omega (arith, count_both)) in
         let differs : Differs (2 ∷ 6 ∷ 7 ∷ 9 ∷ []) m.new.memory v u = record {
           are = are_all;
           others = λ q none. ⊎_elim
               (λ (e : q ≡ 10). subst (λ z. slice_index (with_register 10 x both_set) z ≡ slice_index (with_register 10 x
-              (filled destroyed m.new.registers)) z) (sym e)
-              (ten ∙ sym (get_or-set_same (filled destroyed m.new.registers) 10 x 0 (omega (arith, count)))))
+              (filled_registers destroyed m.new.registers)) z) (sym e)
+              (ten ∙ sym (get_or-set_same (filled_registers destroyed m.new.registers) 10 x 0 (omega (arith, count)))))
               (λ no. other_register both_set 10 q x (λ e. no (sym e))
-              ∙ other_register sp_set 9 q (word m.new.memory (slice_index (filled destroyed m.new.registers) 9 + 8)) (λ e. none (inr (inr (inr (inl
+              ∙ other_register sp_set 9 q (memory_word m.new.memory (slice_index (filled_registers destroyed m.new.registers) 9 + 8)) (λ e. none (inr (inr (inr (inl
               (sym e))))))
-              ∙ other_register (filled destroyed m.new.registers) 2 q (slice_index (filled destroyed m.new.registers) 9 + 16) (λ e. none (inl (sym e)))
-              ∙ sym (other_register (filled destroyed m.new.registers) 10 q x (λ e. no (sym e))))
+              ∙ other_register (filled_registers destroyed m.new.registers) 2 q (slice_index (filled_registers destroyed m.new.registers) 9 + 16) (λ e. none (inl (sym e)))
+              ∙ sym (other_register (filled_registers destroyed m.new.registers) 10 q x (λ e. no (sym e))))
               (same_or_not q 10);
           memory = refl;
           blocks = refl;
         } in
-        let two : slice_index (with_register 10 x both_set) 2 ≡ slice_index (filled destroyed m.new.registers) 9 + 16 =
+        let two : slice_index (with_register 10 x both_set) 2 ≡ slice_index (filled_registers destroyed m.new.registers) 9 + 16 =
         other_register both_set 10 2 x (λ e. omega (arith, e))
-        ∙ other_register sp_set 9 2 (word m.new.memory (slice_index (filled destroyed m.new.registers) 9 + 8)) (λ e. omega (arith, e))
-        ∙ get_or-set_same (filled destroyed m.new.registers) 2 (slice_index (filled destroyed m.new.registers) 9 + 16) 0 (omega (arith, count)) in
-        let nine_now : slice_index (with_register 10 x both_set) 9 ≡ word m.new.memory (slice_index (filled destroyed m.new.registers) 9 + 8) =
+        ∙ other_register sp_set 9 2 (memory_word m.new.memory (slice_index (filled_registers destroyed m.new.registers) 9 + 8)) (λ e. omega (arith, e))
+        ∙ get_or-set_same (filled_registers destroyed m.new.registers) 2 (slice_index (filled_registers destroyed m.new.registers) 9 + 16) 0 (omega (arith, count)) in
+        let nine_now : slice_index (with_register 10 x both_set) 9 ≡ memory_word m.new.memory (slice_index (filled_registers destroyed m.new.registers) 9 + 8) =
         other_register both_set 10 9 x (λ e. omega (arith, e))
-        ∙ get_or-set_same sp_set 9 (word m.new.memory (slice_index (filled destroyed m.new.registers) 9 + 8)) 0 (omega (arith, count_sp)) in
-        let old_trap : slice_index (filled destroyed m.new.registers) 9 ≡ slice_index v.registers 9 = sym nine in
+        ∙ get_or-set_same sp_set 9 (memory_word m.new.memory (slice_index (filled_registers destroyed m.new.registers) 9 + 8)) 0 (omega (arith, count_sp)) in
+        let old_trap : slice_index (filled_registers destroyed m.new.registers) 9 ≡ slice_index v.registers 9 = sym nine in
         record {
           view = u;
           machine = record b { hart = raised x (cleared m.new); answers = answers; calls = b.calls ++ call ∷ [] };
@@ -271,22 +271,22 @@ module _ (s : Fixed) (w : View) (code : IsCode s w.place Ecall) (service : slice
           calls_are = refl;
           by = λ j k q. by j k q
               ∙ ap (guarded_after s.schedule k) (cond-true (has_trap_frame m.new) _ _ (frame_there b m));
-          holds = holds v u wv differs (two ∙ ap (λ z. z + 16) old_trap) (nine_now ∙ ap (λ z. word m.new.memory (z + 8)) old_trap)
-              (place ∙ ap (word m.new.memory) old_trap) ten;
+          holds = holds v u wv differs (two ∙ ap (λ z. z + 16) old_trap) (nine_now ∙ ap (λ z. memory_word m.new.memory (z + 8)) old_trap)
+              (place ∙ ap (memory_word m.new.memory) old_trap) ten;
         }
 
     -- ---- by the answers
 
     pub frame_goes :
         (needs : Needs) → needs.heap ≡ heap_need a.memory → (memory : Memory) (P : Taken → View → Type 0) → AllWords w.answers →
-        ((x : ℕ) (answers : List ℕ) (u : View) → Within s laid u [] 0 (clear Temporaries (poisoned point held)) a c → u.place ≡ w.place + 1 →
+        ((x : ℕ) (answers : List ℕ) (u : View) → Within s laid u [] 0 (clear_destroyed Temporaries (poisoned point held)) a c → u.place ≡ w.place + 1 →
         ((t : _) → e.result ≡ ret.Comp t → slice_index u.registers 10 ≡ x) → P (record { doing = Gave (given_back e.result x) memory; answers = answers }) u) →
-        ((x : ℕ) (answers : List ℕ) (v u : View) → Within s laid v [] 0 (clear Temporaries (poisoned point held)) a c →
+        ((x : ℕ) (answers : List ℕ) (v u : View) → Within s laid v [] 0 (clear_destroyed Temporaries (poisoned point held)) a c →
         Differs (2 ∷ 6 ∷ 7 ∷ 9 ∷ []) v.memory v u →
-        slice_index u.registers 2 ≡ slice_index v.registers 9 + 16 → slice_index u.registers 9 ≡ word v.memory (slice_index v.registers 9 + 8) →
-        code_start + 4 * u.place ≡ word v.memory (slice_index v.registers 9) → slice_index u.registers 10 ≡ x →
+        slice_index u.registers 2 ≡ slice_index v.registers 9 + 16 → slice_index u.registers 9 ≡ memory_word v.memory (slice_index v.registers 9 + 8) →
+        code_start + 4 * u.place ≡ memory_word v.memory (slice_index v.registers 9) → slice_index u.registers 10 ≡ x →
         P (record { doing = Threw (Word x) memory; answers = answers }) u) →
-        (first : Machine) (t : Taken) → Stands s first w → taken_moving memory e.result w.answers ≡ Some t →
+        (first : Machine) (t : Taken) → HasView s first w → taken_moving memory e.result w.answers ≡ Some t →
         GoesOn s first (w.calls ++ call ∷ []) t.answers (P t) ⊎ Gone s needs w first
     frame_goes needs need memory P words gives throws first t st taken = by_answers w.answers refl words taken
       where
@@ -296,13 +296,13 @@ module _ (s : Fixed) (w : View) (code : IsCode s w.place Ecall) (service : slice
         full : (k1 x : ℕ) (answers : List ℕ) → w.answers ≡ k1 ∷ x ∷ answers → s.heap < bytes_used (w.blocks ++ reverse young) → Gone s needs w first
         full k1 x answers g lack =
             let ok = ready_stands s first w st in
-            let used = bytes_need s (all_of w young) w.memory a within.heap in
+            let used = bytes_need s (blocks_by_serial w young) w.memory a within.heap in
             record {
               count = 1;
               end = HeapOut;
               want = inr (refl, omega (arith, lack, used, need));
               by = λ j k q. to_collected first st j k q
-                  ∙ ap (λ y. guarded_after s.schedule k (frame_answered (s.schedule.plan (ready s first).hart.services) e.result call y (ready s first))) g
+                  ∙ ap (λ y. guarded_after s.schedule k (machine_frame_answered (s.schedule.plan (ready s first).hart.services) e.result call y (ready s first))) g
                   ∙ ap (λ z. guarded_after s.schedule k (after_collection e.result call k1 x answers z (ready s first)))
                   (ap (collected (s.schedule.plan (ready s first).hart.services)) (hart_is s (ready s first) w ok)
                   ∙ collection_not s laid w young 0 held a c within point d is saves fit whole none marked refl (ready s first) ok lack)
@@ -314,7 +314,7 @@ module _ (s : Fixed) (w : View) (code : IsCode s w.place Ecall) (service : slice
             guarded_after s.schedule j (Going first) ≡ guarded_after s.schedule k (concluded e.result call k1 x answers m.new (ready s first))
         concludes k1 x answers g m j k q =
             to_collected first st j k q
-            ∙ ap (λ y. guarded_after s.schedule k (frame_answered (s.schedule.plan (ready s first).hart.services) e.result call y (ready s first))) g
+            ∙ ap (λ y. guarded_after s.schedule k (machine_frame_answered (s.schedule.plan (ready s first).hart.services) e.result call y (ready s first))) g
             ∙ ap (λ z. guarded_after s.schedule k (after_collection e.result call k1 x answers z (ready s first))) m.is_new
 
         by_answers : (answers : List ℕ) → w.answers ≡ answers → AllWords answers → taken_moving memory e.result answers ≡ Some t →

@@ -5,11 +5,11 @@ use Rattle.bs_words.specs.declared.types.Loc.{Loc}
 use Rattle.bs_words.specs.declared.types.Loc.TheVariants as loc
 use Rattle.bs_words.specs.declared.values.Value.{Value}
 use Rattle.emit_rules.specs.Calls.{return_part}
-use Rattle.emit_rules.specs.Slots.{moved}
+use Rattle.emit_rules.specs.Slots.{move_pieces}
 use Rattle.emit_rules.specs.Traps.{enter_part, pop_part, push_part, raise_words}
 use Rattle.layout_rules.specs.Laid.{address_of_place}
-use Rattle.layout_rules.specs.Words.{Named}
-use Rattle.lin_ir.specs.Meaning.{Locations, NamedAt, after_label, clear, on_act, put, same_loc, step}
+use Rattle.layout_rules.specs.Words.{NameAddresses}
+use Rattle.lin_ir.specs.Meaning.{Locations, NamedAt, after_label, clear_destroyed, on_act, assign_spot, same_loc, step}
 use Rattle.lin_ir.specs.declared.lin.Flow.TheVariants as flow
 use Rattle.lin_ir.specs.declared.lin.Lin.{Lin}
 use Rattle.lin_ir.specs.declared.lin.Line.{Line}
@@ -17,23 +17,23 @@ use Rattle.lin_ir.specs.declared.lin.LinOp.TheVariants as lin
 use Rattle.lin_ir.specs.declared.lin.Spot.{Spot}
 use Rattle.mach_ir.specs.Acts.{Around, drop_tries, if_known, is_complete}
 use Rattle.mach_ir.specs.Meaning.{Everything}
-use Rattle.mach_ir.specs.Runs.{Place}
+use Rattle.mach_ir.specs.Runs.{ActivationSetting}
 use Rattle.mach_ir.specs.declared.op.Leaving.TheVariants as leaving
 use Rattle.mach_ir.specs.declared.op.Op.TheVariants as op
 use Rattle.rv_isa.specs.declared.instr.AluImmOp.TheVariants.{Addi}
 use Rattle.rv_isa.specs.declared.instr.Instr.TheVariants.{Jalr, Load, OpImm}
 use Rattle.rv_isa.specs.declared.instr.LoadWidth.TheVariants.{Ld}
 use Rattle.rv_machine.specs.Hart.{Placed}
-use Rattle.rv_machine.specs.Memory.{code_start, word}
+use Rattle.rv_machine.specs.Memory.{code_start, memory_word}
 use Rattle.rv_machine.specs.Services.{StackOut}
 use Rattle.moving_laws.specs.Waiting.{IsBack}
 use Rattle.moving_laws.specs.Words.{IsReadable}
 use Rattle.linear_machine.specs.Follows.{Agrees, FollowsStep, IsAt, needs_of}
 use Rattle.linear_machine.specs.Arrival.{ArrivesIn}
 use Rattle.linear_machine.specs.Moments.{AtReturn, AtThrow}
-use Rattle.linear_machine.specs.Relation.{AreCarried, Below, IsLocation, Laid, RegistersHold, StandsFor, Within, all_of}
-use Rattle.linear_machine.specs.Straight.{Comes, Differs}
-use Rattle.linear_machine.specs.View.{Fixed, HasCode, Leads, View}
+use Rattle.linear_machine.specs.Relation.{AreCarried, Below, IsLocationRegister, Laid, RegistersHold, StandsFor, Within, blocks_by_serial}
+use Rattle.linear_machine.specs.Straight.{LeadsFurther, Differs}
+use Rattle.linear_machine.specs.View.{Fixed, HasCode, ReachesView, View}
 use Rattle.linear_machine.proofs.Arriving.{ends_arrives, leads_in}
 use Rattle.linear_machine.proofs.Endings.{Leading, pop_follows, push_follows, raise_follows, return_nothing, return_value}
 use Rattle.linear_machine.proofs.Following.{result_follows, same_loc-true}
@@ -46,7 +46,7 @@ use Rattle.linear_machine.proofs.Turning.{placed_past}
 use Rattle.line_stands.specs.Parts.{PartStands}
 use Rattle.line_stands.proofs.Parts.{nothing_more}
 use Rattle.lin_laws.proofs.Forms.{same_machine}
-use Rattle.line_calls.specs.Leading.{Leaves}
+use Rattle.line_calls.specs.Leading.{LeadsUpTo}
 use Rattle.line_calls.specs.Laws.{frame_in}
 use Rattle.line_calls.proofs.Leaving.{return_leaves}
 use Rattle.line_calls.proofs.Reaching.{arrived}
@@ -59,7 +59,7 @@ pub record IsAlone (x : Value) (held after : Locations) : Type 0 where
   pub register : (r : ℕ) (y : Value) → after (loc.Machine r) ≡ Some y → (r ≡ 10) × (x ≡ y)
   pub slot : (k : ℕ) (y : Value) → after (loc.Slot k) ≡ Some y → held (loc.Slot k) ≡ Some y
 
-pub cleared_alone : (p : Spot) (x : Value) (held : Locations) → p.loc ≡ loc.Machine 10 → IsAlone x held (put p x (clear Everything held))
+pub cleared_alone : (p : Spot) (x : Value) (held : Locations) → p.loc ≡ loc.Machine 10 → IsAlone x held (assign_spot p x (clear_destroyed Everything held))
 cleared_alone p x held seat = record {
   register = λ r y h. by_register r y (same_loc p.loc (loc.Machine r)) refl h;
   slot = λ k y h. by_slot k y (same_loc p.loc (loc.Slot k)) refl h;
@@ -75,8 +75,8 @@ cleared_alone p x held seat = record {
 
 module _ (s : Fixed) (laid : Laid) (v : View) (young : List Placed) (held after : Locations) (a : Around) (c : Below) (x : Value)
     (within : Within s laid v young 0 held a c) (raised : a.raised ≡ Some x) (alone : IsAlone x held after) where
-  stands_a0 : StandsFor s (all_of v young) (slice_index v.registers 10) x
-  stands_a0 = subst (λ o. AreCarried s (all_of v young) v.registers held o) raised within.carried
+  stands_a0 : StandsFor s (blocks_by_serial v young) (slice_index v.registers 10) x
+  stands_a0 = subst (λ o. AreCarried s (blocks_by_serial v young) v.registers held o) raised within.carried
 
   pub within_taken : Within s laid v young 0 after (record a { raised = None }) c
   within_taken = record {
@@ -86,25 +86,25 @@ module _ (s : Fixed) (laid : Laid) (v : View) (young : List Placed) (held after 
     low = within.low;
     carried = λ r y h.
         let g = alone.register r y h in (
-          subst IsLocation (sym g.0) a0_location,
-          subst (λ q. StandsFor s (all_of v young) (slice_index v.registers q) y) (sym g.0)
-              (subst (λ z. StandsFor s (all_of v young) (slice_index v.registers 10) z) g.1 stands_a0),
+          subst IsLocationRegister (sym g.0) a0_location,
+          subst (λ q. StandsFor s (blocks_by_serial v young) (slice_index v.registers q) y) (sym g.0)
+              (subst (λ z. StandsFor s (blocks_by_serial v young) (slice_index v.registers 10) z) g.1 stands_a0),
         );
     slots = λ k y h. within.slots k y (alone.slot k y h);
     back = within.back;
     waits = within.waits;
     traps = within.traps;
-    heap = heap_around s (all_of v young) v.memory a a.tries None within.heap;
+    heap = heap_around s (blocks_by_serial v young) v.memory a a.tries None within.heap;
   }
 
-module _ (s : Fixed) (n : Named) (laid : Laid) (live : List Line → Type 0) (entry : ℕ → ℕ) (c : Below) (place : Place) (named : NamedAt) (m : Lin)
+module _ (s : Fixed) (n : NameAddresses) (laid : Laid) (live : List Line → Type 0) (entry : ℕ → ℕ) (c : Below) (place : ActivationSetting) (named : NamedAt) (m : Lin)
     (next : List Line) (v : View) (young : List Placed) (held file : Locations) (a : Around) (within : Within s laid v young 0 held a c) (before : Type 0)
     (agrees : Agrees before held file) (k : ℕ) where
-  as_leading : (P : View → Type 0) → Leaves s v (v.place + k) P → Leading s laid live entry c place named m next v young held file a before agrees k P
+  as_leading : (P : View → Type 0) → LeadsUpTo s v (v.place + k) P → Leading s laid live entry c place named m next v young held file a before agrees k P
   as_leading P l =
       let e = l.lands in
       let same : l.count ≡ k = omega (arith, e) in
-      record { view = l.view; leads = subst (λ z. Leads s z v l.view) same l.leads; holds = l.holds }
+      record { view = l.view; leads = subst (λ z. ReachesView s z v l.view) same l.leads; holds = l.holds }
 
   -- ---- returns
 
@@ -150,12 +150,12 @@ module _ (s : Fixed) (n : Named) (laid : Laid) (live : List Line → Type 0) (en
     there : View
     there = raised_at s v within.own.are trap.back trap.low trap.high read0 read8 code.0
 
-    led : Leads s k v there
+    led : ReachesView s k v there
     unfolding there
     led =
         let e = code.1 in
         let same : 5 ≡ k = omega (arith, e) in
-        subst (λ z. Leads s z v (raised_at s v within.own.are trap.back trap.low trap.high read0 read8 code.0)) same
+        subst (λ z. ReachesView s z v (raised_at s v within.own.are trap.back trap.low trap.high read0 read8 code.0)) same
         (raise_leads s v within.own.are trap.back trap.low trap.high read0 read8 code.0)
 
     differs : Differs (2 ∷ 6 ∷ 7 ∷ 9 ∷ []) v.memory v there
@@ -166,7 +166,7 @@ module _ (s : Fixed) (n : Named) (laid : Laid) (live : List Line → Type 0) (en
     unfolding there
     high = raise_high s v within.own.are trap.back trap.low trap.high read0 read8 code.0
 
-    points : slice_index there.registers 9 ≡ word v.memory (slice_index v.registers 9 + 8)
+    points : slice_index there.registers 9 ≡ memory_word v.memory (slice_index v.registers 9 + 8)
     unfolding there
     points = raise_points s v within.own.are trap.back trap.low trap.high read0 read8 code.0
 
@@ -174,13 +174,13 @@ module _ (s : Fixed) (n : Named) (laid : Laid) (live : List Line → Type 0) (en
     unfolding there
     value_there = raise_value s v within.own.are trap.back trap.low trap.high read0 read8 code.0
 
-    place_there : code_start + 4 * there.place ≡ word v.memory (slice_index v.registers 9)
+    place_there : code_start + 4 * there.place ≡ memory_word v.memory (slice_index v.registers 9)
     unfolding there
     place_there = raise_place s v within.own.are trap.back trap.low trap.high read0 read8 code.0
 
-    stands_there : (x : Value) → held (loc.Machine 10) ≡ Some x → StandsFor s (all_of v young) (slice_index there.registers 10) x
-    stands_there x h = subst (λ z. StandsFor s (all_of v young) z x) (sym value_there)
-        ((subst (λ o. AreCarried s (all_of v young) v.registers held o) none within.carried) 10 x h).1
+    stands_there : (x : Value) → held (loc.Machine 10) ≡ Some x → StandsFor s (blocks_by_serial v young) (slice_index there.registers 10) x
+    stands_there x h = subst (λ z. StandsFor s (blocks_by_serial v young) z x) (sym value_there)
+        ((subst (λ o. AreCarried s (blocks_by_serial v young) v.registers held o) none within.carried) 10 x h).1
 
     thrown_out : (x : Value) → held (loc.Machine 10) ≡ Some x → is_complete a ≡ true → a.tries ≡ [] →
         Leading s laid live entry c place named m next v young held file a before agrees k (λ w. AtThrow s w young x a.memory c)
@@ -196,9 +196,9 @@ module _ (s : Fixed) (n : Named) (laid : Laid) (live : List Line → Type 0) (en
     caught x l rest h e =
         let own = own_trap s n laid v young held a c within l rest e in
         let up : slice_index there.registers 2 ≡ slice_index v.registers 2 + 16 = high ∙ ap (λ q. q + 16) own in
-        let next_trap : slice_index there.registers 9 ≡ word v.memory (slice_index v.registers 2 + 8) = points ∙ ap (λ q. word v.memory (q + 8)) own in
+        let next_trap : slice_index there.registers 9 ≡ memory_word v.memory (slice_index v.registers 2 + 8) = points ∙ ap (λ q. memory_word v.memory (q + 8)) own in
         let goes : code_start + 4 * there.place ≡ code_start + 4 * laid.part (length (after_label l m.code)) =
-        place_there ∙ ap (word v.memory) own ∙ handler_is s laid v there young held a c within differs l rest e up next_trap ∙ handlers l rest e in
+        place_there ∙ ap (memory_word v.memory) own ∙ handler_is s laid v there young held a c within differs l rest e up next_trap ∙ handlers l rest e in
         record {
           view = there;
           leads = led;
@@ -283,8 +283,8 @@ module _ (s : Fixed) (n : Named) (laid : Laid) (live : List Line → Type 0) (en
           memory = r.changes.past.memory;
           blocks = r.changes.past.blocks;
         } in
-        let hold : RegistersHold s (all_of v young) v.registers held = subst (λ o. AreCarried s (all_of v young) v.registers held o) none within.carried in
-        let same_blocks : all_of w young ≡ all_of v young = placed_past v w young r.changes.past.blocks in
+        let hold : RegistersHold s (blocks_by_serial v young) v.registers held = subst (λ o. AreCarried s (blocks_by_serial v young) v.registers held o) none within.carried in
+        let same_blocks : blocks_by_serial w young ≡ blocks_by_serial v young = placed_past v w young r.changes.past.blocks in
         let out = popped s laid v w young held a c within differs l rest e r.changes.holds.0 r.changes.holds.1 None held
         (popped_registers s laid v w young held a c within differs hold)
         (λ j y q. q) in
@@ -319,8 +319,8 @@ module _ (s : Fixed) (n : Named) (laid : Laid) (live : List Line → Type 0) (en
       }))
   enter_line p seat behind part = by_raised a.raised refl
     where
-      nothing : (l : Loc) → l ≡ loc.Machine 10 → PartStands s n v.place (v.place + k) (moved (length a.tries) (loc.Machine 10) l) → v.place + k ≡ v.place
-      nothing l e st = nothing_more s n v.place (v.place + k) (subst (λ q. PartStands s n v.place (v.place + k) (moved (length a.tries)
+      nothing : (l : Loc) → l ≡ loc.Machine 10 → PartStands s n v.place (v.place + k) (move_pieces (length a.tries) (loc.Machine 10) l) → v.place + k ≡ v.place
+      nothing l e st = nothing_more s n v.place (v.place + k) (subst (λ q. PartStands s n v.place (v.place + k) (move_pieces (length a.tries)
           (loc.Machine 10) q)) e st)
 
       by_raised : (o : Option Value) → a.raised ≡ o →
@@ -330,16 +330,16 @@ module _ (s : Fixed) (n : Named) (laid : Laid) (live : List Line → Type 0) (en
       by_raised (Some x) e =
           let z = nothing p.loc seat part in
           let none : 0 ≡ k = omega (arith, z) in
-          result_follows s laid live entry c v next (Unit {0}) k place.setting.end p x young (clear Everything held) (clear Everything file)
+          result_follows s laid live entry c v next (Unit {0}) k place.setting.end p x young (clear_destroyed Everything held) (clear_destroyed Everything file)
           (record a { raised = None }) behind (record {
             others = λ l q. cleared l q;
             spare_too = λ u. refl;
           }) (λ q. inr tt)
-          (λ fit. subst (λ q. Comes s v q (λ w. Within s laid w young 0 (put p x (clear Everything held)) (record a { raised = None }) c)) none
-          (comes_here s v (λ w. Within s laid w young 0 (put p x (clear Everything held)) (record a { raised = None }) c)
-          (within_taken s laid v young held (put p x (clear Everything held)) a c x within e (cleared_alone p x held seat))))
+          (λ fit. subst (λ q. LeadsFurther s v q (λ w. Within s laid w young 0 (assign_spot p x (clear_destroyed Everything held)) (record a { raised = None }) c)) none
+          (comes_here s v (λ w. Within s laid w young 0 (assign_spot p x (clear_destroyed Everything held)) (record a { raised = None }) c)
+          (within_taken s laid v young held (assign_spot p x (clear_destroyed Everything held)) a c x within e (cleared_alone p x held seat))))
         where
-          cleared : (l : Loc) → (l ≡ loc.Machine 5 → ⊥) → clear Everything held l ≡ clear Everything file l
+          cleared : (l : Loc) → (l ≡ loc.Machine 5 → ⊥) → clear_destroyed Everything held l ≡ clear_destroyed Everything file l
           cleared (loc.Machine r) q = refl
           cleared (loc.Slot j) q = agrees.others (loc.Slot j) q
           cleared loc.Unset q = agrees.others loc.Unset q

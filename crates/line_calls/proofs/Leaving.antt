@@ -6,23 +6,23 @@ use Rattle.bs_words.specs.declared.types.Loc.TheVariants as loc
 use Rattle.bs_words.specs.declared.values.Value.{Value}
 use Rattle.emit_rules.specs.Calls.{return_part}
 use Rattle.emit_rules.specs.Constants.{sum_to}
-use Rattle.emit_rules.specs.Entry.{given_back}
-use Rattle.emit_rules.specs.Instructions.{goes_to}
+use Rattle.emit_rules.specs.Entry.{frame_release}
+use Rattle.emit_rules.specs.Instructions.{goes_to_address}
 use Rattle.emit_rules.specs.Slots.{stack_load}
-use Rattle.layout_rules.specs.Words.{Named}
+use Rattle.layout_rules.specs.Words.{NameAddresses}
 use Rattle.lin_ir.specs.Meaning.{Locations}
 use Rattle.mach_ir.specs.Acts.{Around, is_complete}
 use Rattle.rv_isa.specs.declared.instr.Instr.TheVariants.{Jalr}
 use Rattle.rv_isa.specs.declared.register.Register.TheVariants.{Ra, Sp, T2}
 use Rattle.rv_machine.specs.Arithmetic.{imm_i}
 use Rattle.rv_machine.specs.Hart.{Placed}
-use Rattle.rv_machine.specs.Memory.{Region, code_start, word}
+use Rattle.rv_machine.specs.Memory.{Region, code_start, memory_word}
 use Rattle.rv_machine.specs.Sound.{AreRegisters}
 use Rattle.moving_laws.specs.Words.{IsReadable}
 use Rattle.moving_laws.proofs.Usable.{stack_readable}
 use Rattle.linear_machine.specs.Moments.{AtReturn}
 use Rattle.linear_machine.specs.Relation.{Below, Laid, ReturnStands, Within}
-use Rattle.linear_machine.specs.View.{Fixed, View, IsCode, Leads}
+use Rattle.linear_machine.specs.View.{Fixed, View, IsInstructionAt, ReachesView}
 use Rattle.linear_machine.proofs.Formats.{sets_jalr}
 use Rattle.machine_laws.proofs.Immediates.{low_12, up}
 use Rattle.linear_machine.proofs.Jumps.{back_place}
@@ -32,7 +32,7 @@ use Rattle.linear_machine.proofs.Turning.{leaves}
 use Rattle.line_stands.specs.Parts.{PartStands}
 use Rattle.line_stands.proofs.Parts.{nothing_more, splits}
 use Rattle.line_calls.specs.Laws.{frame_in}
-use Rattle.line_calls.specs.Leading.{Leaves}
+use Rattle.line_calls.specs.Leading.{LeadsUpTo}
 use Rattle.line_calls.specs.Reaches.{Reaches}
 use Rattle.line_calls.proofs.Numbers.{sum_reaches}
 use Rattle.line_calls.proofs.Reaching.{arrived, reaches_as, reaches_more, reaches_none, single}
@@ -42,12 +42,12 @@ use Rattle.line_calls.proofs.Stack.{load_reaches}
 
 pub jump_behind :
     (s : Fixed) (v : View) (middle : ℕ) (rs : List ℕ) (m : List Region) (P : View → Type 0) (first : Reaches s v middle rs m P) (r imm to : ℕ) →
-    IsCode s middle (Jalr 0 r imm) → add_word (reg first.changes.view.registers r) (imm_i imm) ≡ code_start + 4 * to →
-    Leads s (first.count + 1) v (at_place to first.changes.view)
+    IsInstructionAt s middle (Jalr 0 r imm) → add_word (reg first.changes.view.registers r) (imm_i imm) ≡ code_start + 4 * to →
+    ReachesView s (first.count + 1) v (at_place to first.changes.view)
 jump_behind s v middle rs m P first r imm to code e =
     let u = first.changes.view in
     then_leads s first.count 1 v u (at_place to u) first.changes.leads
-    (set_to_step s u (Jalr 0 r imm) 0 (code_start + 4 * (u.place + 1)) to (subst (λ q. IsCode s q (Jalr 0 r imm)) (sym
+    (set_to_step s u (Jalr 0 r imm) 0 (code_start + 4 * (u.place + 1)) to (subst (λ q. IsInstructionAt s q (Jalr 0 r imm)) (sym
     (arrived s v middle rs m P first)) code)
     (inl (λ q. omega (arith, q))) (sets_jalr s u 0 r imm to e))
 
@@ -55,7 +55,7 @@ jump_behind s v middle rs m P first r imm to code e =
 pub no_offset : (a b : ℕ) → a ≡ b → b < 2 ^ 64 → add_word a (imm_i 0) ≡ b
 no_offset a b e small = ap (add_word a) (low_12 0 (omega arith)) ∙ up a 0 b (omega (arith, e)) small
 
-module _ (s : Fixed) (n : Named) (laid : Laid) (v : View) (young : List Placed) (held : Locations) (a : Around) (c : Below)
+module _ (s : Fixed) (n : NameAddresses) (laid : Laid) (v : View) (young : List Placed) (held : Locations) (a : Around) (c : Below)
     (within : Within s laid v young 0 held a c) (left : a.tries ≡ []) where
   -- ---- sp and ra
 
@@ -79,7 +79,7 @@ module _ (s : Fixed) (n : Named) (laid : Laid) (v : View) (young : List Placed) 
       (arith, f, room, hi)) in
       let there : IsStackWord v (laid.frame - 8) =
       record { high = omega (arith, at, hi); low = omega (arith, lo, base); readable = subst (λ y. IsReadable v.memory y) (sym at) can } in
-      reaches_as s v to (1 ∷ 7 ∷ []) (1 ∷ 7 ∷ []) v.memory _ _ (λ q i. i) (λ w m p h. h ∙ ap (word v.memory) at ∙ back)
+      reaches_as s v to (1 ∷ 7 ∷ []) (1 ∷ 7 ∷ []) v.memory _ _ (λ q i. i) (λ w m p h. h ∙ ap (memory_word v.memory) at ∙ back)
       (load_reaches s n v within.own.are (laid.frame - 8) there (omega (arith, f, lo, base, hi)) T2 Ra 6 0 refl refl (omega arith) (omega arith)
       (λ q. omega (arith, q))
       (λ q. omega (arith, q)) to st)
@@ -99,7 +99,7 @@ module _ (s : Fixed) (n : Named) (laid : Laid) (v : View) (young : List Placed) 
       (sum_reaches s n T2 Sp Sp 6 1 1 refl refl refl (omega arith) (omega arith) (λ q. omega (arith, q)) (λ q. omega (arith, q)) u to laid.frame st are
       (omega (arith, same, f, hi)) (inr (omega (arith, same, lo))))
 
-  pub given_back_reaches : (to : ℕ) → PartStands s n v.place to (given_back (frame_in laid)) →
+  pub given_back_reaches : (to : ℕ) → PartStands s n v.place to (frame_release (frame_in laid)) →
       Reaches s v to (1 ∷ 2 ∷ 7 ∷ []) v.memory (λ w. (slice_index w.registers 2 ≡ c.top) × (slice_index w.registers 1 ≡ c.back))
   given_back_reaches to st =
       let parts = splits s n v.place to (cond laid.saves (stack_load T2 Ra (laid.frame - 8)) []) (cond (nat_eq laid.frame 0) []
@@ -122,9 +122,9 @@ module _ (s : Fixed) (n : Named) (laid : Laid) (v : View) (young : List Placed) 
 
   pub return_leaves :
       (to : ℕ) → PartStands s n v.place to (return_part (frame_in laid)) → a.raised ≡ None → is_complete a ≡ true → (value : Option Value) →
-      ((x : Value) → value ≡ Some x → held (loc.Machine 10) ≡ Some x) → Leaves s v to (λ w. AtReturn s w young value a.memory c)
+      ((x : Value) → value ≡ Some x → held (loc.Machine 10) ≡ Some x) → LeadsUpTo s v to (λ w. AtReturn s w young value a.memory c)
   return_leaves to st none whole value there =
-      let parts = splits s n v.place to (given_back (frame_in laid)) (goes_to Ra 0 ∷ []) st in
+      let parts = splits s n v.place to (frame_release (frame_in laid)) (goes_to_address Ra 0 ∷ []) st in
       let last = single s n parts.middle to (Jalr 0 1 0) parts.second in
       let first = given_back_reaches parts.middle parts.first in
       let u = first.changes.view in

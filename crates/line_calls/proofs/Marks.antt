@@ -1,10 +1,10 @@
 -- A part with a descriptor in it: what is before it and what is after it.
 use Rattle.std.proofs.Common.{◌≡◌, ℕ, ◌+◌, ◌<◌, List, [], ◌∷◌, ◌++◌, append_assoc, length, Some, arith, subst}
 use Rattle.layout_rules.specs.declared.form.Form.{Form}
-use Rattle.layout_rules.specs.Forms.{ReachFrom, total_words, words_of}
-use Rattle.layout_rules.specs.Laid.{address_of_place, desc_at}
+use Rattle.layout_rules.specs.Forms.{ReachFrom, total_words, piece_words}
+use Rattle.layout_rules.specs.Laid.{address_of_place, descriptor_laid_at}
 use Rattle.layout_rules.specs.Stands.{HasPieces}
-use Rattle.layout_rules.specs.Words.{Named}
+use Rattle.layout_rules.specs.Words.{NameAddresses}
 use Rattle.lin_ir.specs.declared.descr.Descr.{Descr}
 use Rattle.rv_machine.specs.Frames.{descriptor_at}
 use Rattle.rv_pieces.specs.declared.piece.Piece.{Piece}
@@ -14,11 +14,11 @@ use Rattle.line_stands.specs.Parts.{PartStands, label_place}
 use Rattle.line_stands.proofs.Parts.{mark_none}
 use Rattle.line_calls.specs.Points.{AreMarked}
 
-module _ (s : Fixed) (n : Named) where
+module _ (s : Fixed) (n : NameAddresses) where
   pub record Marked (at to : ℕ) (xs : List Piece) (d : Descr) (ys : List Piece) : Type 0 where
     pub middle : ℕ
     pub first : PartStands s n at middle xs
-    pub there : descriptor_at s.image.descs (address_of_place middle) ≡ Some (desc_at middle d)
+    pub there : descriptor_at s.image.descs (address_of_place middle) ≡ Some (descriptor_laid_at middle d)
     pub inside : middle < length s.image.code
     pub second : PartStands s n middle to ys
 
@@ -35,7 +35,7 @@ module _ (s : Fixed) (n : Named) where
   }
   marked_by (x ∷ xs) ys d [] at to has reach past marks = absurd has
   marked_by (x ∷ xs) ys d (f ∷ forms) at to has reach past marks =
-      let rest = marked_by xs ys d forms (at + words_of x f) to has.1 reach.1 (omega (arith, past)) marks.1 in
+      let rest = marked_by xs ys d forms (at + piece_words x f) to has.1 reach.1 (omega (arith, past)) marks.1 in
       let e = rest.first.past in
       record {
         middle = rest.middle;

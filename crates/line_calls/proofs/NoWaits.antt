@@ -13,15 +13,15 @@ use Rattle.bs_words.specs.declared.values.Value.{Value}
 use Rattle.bs_words.specs.declared.values.Value.TheVariants.{Word, Block, Function}
 use Rattle.cmm_meaning.specs.Evaluation.{bound_error, fit_parameters}
 use Rattle.cmm_meaning.specs.Setting.{Setting}
-use Rattle.lin_ir.specs.Meaning.{Locations, NamedAt, State, are_vals, clear, code_at, destroyed_by, flow_act, lin_act, on_act, on_values, passes_frame, past_frame, put_all, step, unless_misnamed, values, wrote}
+use Rattle.lin_ir.specs.Meaning.{Locations, NamedAt, State, are_vals, clear_destroyed, code_at, destroyed_by, flow_act, lin_act, on_act, on_values, passes_frame, past_frame, put_all, step, unless_misnamed, values, wrote}
 use Rattle.lin_ir.specs.declared.lin.Flow.{Flow}
 use Rattle.lin_ir.specs.declared.lin.Flow.TheVariants as flow
 use Rattle.lin_ir.specs.declared.lin.Lin.{Lin}
 use Rattle.lin_ir.specs.declared.lin.Line.{Line}
 use Rattle.lin_ir.specs.declared.lin.LinOp.{LinOp}
 use Rattle.lin_ir.specs.declared.lin.LinOp.TheVariants as lin
-use Rattle.mach_ir.specs.Acts.{Act, Around, Asks, At, Ends, EndsRaising, Goes, Jumps, On, Pushes, Replaces, Stuck, Target, Unwinds, access_act, after_store, asks, asks_callee, asks_value, branches, checked, first_written, goes_to_case, header_written, if_known, is_among, is_complete, leaving_act, loaded_act, moved_by, one_result, only_if, pure_act, raised_by, raises, stored_act, truth_of, without}
-use Rattle.mach_ir.specs.Runs.{Continues, Deepens, Finishes, FinishesBy, FinishesRaising, IsStuck, Pays, Place, Step, Waits}
+use Rattle.mach_ir.specs.Acts.{Act, Around, Asks, At, Ends, EndsRaising, Goes, Jumps, On, Pushes, Replaces, Stuck, Target, Unwinds, access_act, after_store, asks, asks_callee, asks_value, goes_by_test, checked, first_written, goes_to_case, header_written, if_known, is_among_cells, is_complete, leaving_act, loaded_act, moved_by, one_result, stuck_unless, pure_act, raised_by, raise_act, stored_act, truth_of, without}
+use Rattle.mach_ir.specs.Runs.{Continues, Deepens, Finishes, FinishesBy, FinishesRaising, IsStuck, Pays, ActivationSetting, Step, Waits}
 use Rattle.mach_ir.specs.declared.blocks.NewBlock.{NewBlock}
 use Rattle.mach_ir.specs.declared.op.Access.{Access}
 use Rattle.mach_ir.specs.declared.op.Access.TheVariants as access
@@ -66,11 +66,11 @@ wrote_no : (rest : List Line) (a : Around) (o : Option Locations) → NoWait (wr
 wrote_no rest a None = tt
 wrote_no rest a (Some f) = tt
 
-pub act_no : (place : Place) (m : Lin) (i : Line) (next : List Line) (f : Locations) (a : Around) (act : Act) → NoAsk act →
+pub act_no : (place : ActivationSetting) (m : Lin) (i : Line) (next : List Line) (f : Locations) (a : Around) (act : Act) → NoAsk act →
     NoWait (on_act place m i next f a act)
 act_no place m i next f a (Asks callee xs go) h = absurd h
 act_no place m i next f a (Goes xs to b) h =
-    wrote_no (code_at m.code next to) b (put_all place.setting.end i.results xs (clear (destroyed_by i.op) f))
+    wrote_no (code_at m.code next to) b (put_all place.setting.end i.results xs (clear_destroyed (destroyed_by i.op) f))
 act_no place m i next f a (Pushes b) h = tt
 act_no place m i next f a (Jumps to b) h = tt
 act_no place m i next f a (Unwinds b) h = tt
@@ -98,14 +98,14 @@ unless_no false x h = tt
 unless_no true x h = h
 
 pub values_no :
-    (place : Place) (named : _) (m : Lin) (i : Line) (next : List Line) (f : Locations) (a : Around) (o : Option (List Value)) →
+    (place : ActivationSetting) (named : _) (m : Lin) (i : Line) (next : List Line) (f : Locations) (a : Around) (o : Option (List Value)) →
     ((vs : List Value) → NoAsk (lin_act place.setting i.op vs a)) → NoWait (on_values place named m i next f a o)
 values_no place named m i next f a None h = tt
 values_no place named m i next f a (Some vs) h =
     unless_no (not (passes_frame i.op) || are_vals place.setting.end named f) _
     (act_no place m i next (past_frame (passes_frame i.op) named f) a (lin_act place.setting i.op vs a) (h vs))
 
-only_no : (t : Bool) (x : Act) → NoAsk x → NoAsk (only_if t x)
+only_no : (t : Bool) (x : Act) → NoAsk x → NoAsk (stuck_unless t x)
 only_no false x h = tt
 only_no true x h = h
 
@@ -172,7 +172,7 @@ pure_no c (pure.Operator f (right.Constant w)) (x ∷ y ∷ ys) a = tt
 
 loaded_no : (a : Around) (o : Option Cell) (r : Result Value Kind) → NoAsk (loaded_act a o r)
 loaded_no a None r = tt
-loaded_no a (Some cell) r = by_test (is_among cell a.unwritten)
+loaded_no a (Some cell) r = by_test (is_among_cells cell a.unwritten)
   where
     by_test : (t : Bool) → NoAsk (cond t Stuck (one_result a r))
     by_test true = tt
@@ -203,7 +203,7 @@ first_no k a (InStatic l j) x v = tt
 
 stored_no : (k : Chunk) (a : Around) (o : Option Cell) (x v : Value) → NoAsk (stored_act k a o x v)
 stored_no k a None x v = tt
-stored_no k a (Some cell) x v = by_test (is_among cell a.unwritten)
+stored_no k a (Some cell) x v = by_test (is_among_cells cell a.unwritten)
   where
     by_test : (t : Bool) → NoAsk (cond t (first_written k a cell x v) (after_store a a.unwritten (stored k a.memory x v)))
     by_test true = first_no k a cell x v
@@ -226,7 +226,7 @@ checked_no c (Err kind) index a = tt
 checked_no c (Ok bound) (Err kind) a = tt
 checked_no c (Ok bound) (Ok index) a = by_test (nat_lt index bound)
   where
-    by_test : (t : Bool) → NoAsk (cond t (Goes [] On a) (raises c bound_error a))
+    by_test : (t : Bool) → NoAsk (cond t (Goes [] On a) (raise_act c bound_error a))
     by_test true = tt
     by_test false = only_no (is_complete a && fits c.end ty.Val bound_error) _ (raised_no bound_error a a.tries)
 
@@ -241,7 +241,7 @@ leaving_no c (leaving.Checkbound (right.Constant w)) [] a = tt
 leaving_no c (leaving.Checkbound (right.Constant w)) (x ∷ []) a = checked_no c (word_in x) (Ok w) a
 leaving_no c (leaving.Checkbound (right.Constant w)) (x ∷ y ∷ ys) a = tt
 
-branches_no : (a : Around) (t e : Target) (o : Option Bool) → NoAsk (branches a t e o)
+branches_no : (a : Around) (t e : Target) (o : Option Bool) → NoAsk (goes_by_test a t e o)
 branches_no a t e None = tt
 branches_no a t e (Some b) = tt
 
@@ -284,7 +284,7 @@ line_no c (lin.Op (op.Calling (calling.External row frame))) vs a h = absurd (h 
 line_no c (lin.Flow f) vs a h = flow_no f vs a
 
 -- No other line waits for a call.
-pub step_no : (place : Place) (named : NamedAt) (m : Lin) (i : Line) (next : List Line) (f : Locations) (a : Around) → (Comes i.op → ⊥) →
+pub step_no : (place : ActivationSetting) (named : NamedAt) (m : Lin) (i : Line) (next : List Line) (f : Locations) (a : Around) → (Comes i.op → ⊥) →
     NoWait (step place named m (record { rest = i ∷ next; file = f; around = a }))
 step_no place named m i next f a h =
     values_no place (named (length next)) m i next f a (values place.setting.end f i.args) (λ vs. line_no place.setting i.op vs a h)

@@ -9,12 +9,12 @@ use Rattle.rv_machine.specs.Arithmetic.{imm_i}
 use Rattle.rv_machine.specs.Memory.{Region, write}
 use Rattle.rv_machine.specs.Sound.{AreRegisters, IsRegion}
 use Rattle.rv_pieces.specs.declared.piece.Piece.TheVariants.{Known}
-use Rattle.layout_rules.specs.Words.{Named}
-use Rattle.moving_laws.specs.Stands.{Among}
+use Rattle.layout_rules.specs.Words.{NameAddresses}
+use Rattle.moving_laws.specs.Stands.{AmongNumbers}
 use Rattle.moving_laws.specs.Words.{IsReadable}
 use Rattle.linear_machine.specs.Arrival.{ArrivalIn, ArrivesIn, Needs}
 use Rattle.linear_machine.specs.Straight.{IsPast}
-use Rattle.linear_machine.specs.View.{Fixed, View, IsCode}
+use Rattle.linear_machine.specs.View.{Fixed, View, IsInstructionAt}
 use Rattle.linear_machine.proofs.Sequences.{no_change, set_changes, store_more, then_here, widened}
 use Rattle.linear_machine.proofs.Steps.{Passes, SetsRegister, reg}
 use Rattle.line_stands.specs.Parts.{PartStands}
@@ -32,7 +32,7 @@ module _ (s : Fixed) where
 
   -- one that sets a register
   pub reaches_set :
-      (v : View) (to : ℕ) (i : Instr) (k value : ℕ) → IsCode s v.place i → to ≡ v.place + 1 → Passes s (suc k) value → SetsRegister s v i (suc k) value →
+      (v : View) (to : ℕ) (i : Instr) (k value : ℕ) → IsInstructionAt s v.place i → to ≡ v.place + 1 → Passes s (suc k) value → SetsRegister s v i (suc k) value →
       AreRegisters v.registers → suc k < 32 → value < 2 ^ 64 →
       Reaches s v to (suc k ∷ []) v.memory (λ w. slice_index w.registers (suc k) ≡ value)
   reaches_set v to i k value code e passes sets are fits small =
@@ -40,7 +40,7 @@ module _ (s : Fixed) where
 
   -- the same, seen otherwise
   pub reaches_as :
-      (v : View) (to : ℕ) (rs rs' : List ℕ) (m : List Region) (P Q : View → Type 0) → ((q : ℕ) → Among q rs → Among q rs') →
+      (v : View) (to : ℕ) (rs rs' : List ℕ) (m : List Region) (P Q : View → Type 0) → ((q : ℕ) → AmongNumbers q rs → AmongNumbers q rs') →
       ((w : View) (n : ℕ) → IsPast n rs m v w → P w → Q w) → Reaches s v to rs m P → Reaches s v to rs' m Q
   reaches_as v to rs rs' m P Q sub then' r =
       record {
@@ -68,21 +68,21 @@ module _ (s : Fixed) where
   -- where what follows keeps the memory: what it does not change stays as it was between
   pub reaches_more :
       (v : View) (middle to : ℕ) (rs rs2 : List ℕ) (m : List Region) (P Q : View → Type 0) (first : Reaches s v middle rs m P) →
-      ((q : ℕ) → Among q rs2 → Among q rs) → Reaches s first.changes.view to rs2 first.changes.view.memory Q →
-      Reaches s v to rs m (λ w. Q w × ((q : ℕ) → (Among q rs2 → ⊥) → slice_index w.registers q ≡ slice_index first.changes.view.registers q))
+      ((q : ℕ) → AmongNumbers q rs2 → AmongNumbers q rs) → Reaches s first.changes.view to rs2 first.changes.view.memory Q →
+      Reaches s v to rs m (λ w. Q w × ((q : ℕ) → (AmongNumbers q rs2 → ⊥) → slice_index w.registers q ≡ slice_index first.changes.view.registers q))
   reaches_more v middle to rs rs2 m P Q first sub second =
       let u = first.changes.view in
-      reaches_then v middle to rs m m P (λ w. Q w × ((q : ℕ) → (Among q rs2 → ⊥) → slice_index w.registers q ≡ slice_index first.changes.view.registers q))
+      reaches_then v middle to rs m m P (λ w. Q w × ((q : ℕ) → (AmongNumbers q rs2 → ⊥) → slice_index w.registers q ≡ slice_index first.changes.view.registers q))
       first
-      (subst (λ k. Reaches s u to rs k (λ w. Q w × ((q : ℕ) → (Among q rs2 → ⊥) → slice_index w.registers q ≡ slice_index u.registers q)))
+      (subst (λ k. Reaches s u to rs k (λ w. Q w × ((q : ℕ) → (AmongNumbers q rs2 → ⊥) → slice_index w.registers q ≡ slice_index u.registers q)))
       first.changes.past.memory
-      (reaches_as u to rs2 rs u.memory Q (λ w. Q w × ((q : ℕ) → (Among q rs2 → ⊥) → slice_index w.registers q ≡ slice_index u.registers q)) sub
+      (reaches_as u to rs2 rs u.memory Q (λ w. Q w × ((q : ℕ) → (AmongNumbers q rs2 → ⊥) → slice_index w.registers q ≡ slice_index u.registers q)) sub
       (λ w n p x. (x, p.others)) second))
 
   -- one that stores a word
   pub reaches_store :
       (v : View) (middle : ℕ) (rs : List ℕ) (m : List Region) (P : View → Type 0) (first : Reaches s v middle rs m P) (ra rb imm x value : ℕ) →
-      IsCode s middle (Store Sd ra rb imm) → add_word (reg first.changes.view.registers ra) (imm_i imm) ≡ x → reg first.changes.view.registers rb ≡ value →
+      IsInstructionAt s middle (Store Sd ra rb imm) → add_word (reg first.changes.view.registers ra) (imm_i imm) ≡ x → reg first.changes.view.registers rb ≡ value →
       x ≢ 0x20000000 → AllByRecursion IsRegion m → IsReadable m x →
       Reaches s v (middle + 1) rs (write m x value) (λ w. w.registers ≡ first.changes.view.registers)
   reaches_store v middle rs m P first ra rb imm x value code e is off regions can =
@@ -90,12 +90,12 @@ module _ (s : Fixed) where
       record {
         count = first.count + 1;
         lands = omega (arith, l);
-        changes = store_more s v first.count rs m P first.changes ra rb imm x value (subst (λ q. IsCode s q (Store Sd ra rb imm))
+        changes = store_more s v first.count rs m P first.changes ra rb imm x value (subst (λ q. IsInstructionAt s q (Store Sd ra rb imm))
             (sym l) code) e is off regions can;
       }
 
   -- the last piece is one instruction
-  pub single : (n : Named) (at to : ℕ) (i : Instr) → PartStands s n at to (Known i ∷ []) → IsCode s at i × (to ≡ at + 1)
+  pub single : (n : NameAddresses) (at to : ℕ) (i : Instr) → PartStands s n at to (Known i ∷ []) → IsInstructionAt s at i × (to ≡ at + 1)
   single n at to i p = let k = known s n at to i [] p in (k.0, nothing_more s n (at + 1) to k.1)
 
 -- ---- arrivals

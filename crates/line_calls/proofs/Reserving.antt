@@ -7,20 +7,20 @@ use Rattle.bs_words.specs.Word.{add_word}
 use Rattle.bs_words.specs.declared.types.Loc.{Loc}
 use Rattle.bs_words.specs.declared.types.Loc.TheVariants as loc
 use Rattle.bs_words.specs.declared.values.Value.{Value}
-use Rattle.emit_rules.specs.Constants.{constant, lowered}
-use Rattle.emit_rules.specs.Instructions.{ecall, load, skip}
+use Rattle.emit_rules.specs.Constants.{constant_pieces, bytes_taken_off}
+use Rattle.emit_rules.specs.Instructions.{ecall, load_piece, skip}
 use Rattle.emit_rules.specs.Memory.{ask, reserved}
 use Rattle.emit_rules.specs.Sizes.{words_at_most}
-use Rattle.emit_rules.specs.Traversal.{Each, each_none, each_more}
+use Rattle.emit_rules.specs.Traversal.{EachPiece, each_none, each_more}
 use Rattle.emit_rules.specs.Values.{Makes, makes_first, makes_lower, makes_shift, makes_sum, makes_upper}
 use Rattle.emit_rules.proofs.Sizes.{constant-in}
 use Rattle.emit_rules.proofs.Values.{constant_is_made}
 use Rattle.image_form.specs.Tables.{Desc}
-use Rattle.layout_rules.specs.Words.{Named}
+use Rattle.layout_rules.specs.Words.{NameAddresses}
 use Rattle.layout_rules.proofs.Offsets.{by_13}
 use Rattle.lin_ir.specs.Meaning.{Locations, are_vals, poisoned}
 use Rattle.mach_ir.specs.Acts.{Around, is_complete}
-use Rattle.rv_isa.specs.Registers.{number}
+use Rattle.rv_isa.specs.Registers.{register_number}
 use Rattle.rv_isa.specs.declared.instr.Condition.TheVariants.{Bgeu}
 use Rattle.rv_isa.specs.declared.instr.Instr.TheVariants.{Branch, Ecall, Load, OpImm, Shift, Lui, Addiw}
 use Rattle.rv_isa.specs.declared.instr.AluImmOp.TheVariants.{Addi}
@@ -31,19 +31,19 @@ use Rattle.rv_isa.specs.declared.register.Register.TheVariants.{S10, S11, T0, T1
 use Rattle.rv_machine.specs.Arithmetic.{imm_b}
 use Rattle.rv_machine.specs.Frames.{descriptor_at}
 use Rattle.rv_machine.specs.Hart.{Placed}
-use Rattle.rv_machine.specs.Memory.{code_start, word}
+use Rattle.rv_machine.specs.Memory.{code_start, memory_word}
 use Rattle.rv_machine.specs.Observation.{young_start, young_top}
 use Rattle.rv_machine.specs.Placement.{are_apart}
 use Rattle.rv_machine.specs.Sound.{HasRegions, extents}
 use Rattle.rv_machine.specs.Space.{IsHeap}
 use Rattle.rv_pieces.specs.declared.piece.Piece.{Piece}
-use Rattle.moving_laws.specs.Stands.{Among}
+use Rattle.moving_laws.specs.Stands.{AmongNumbers}
 use Rattle.moving_laws.specs.Waiting.{traps_at}
 use Rattle.moving_laws.specs.Young.{Rises}
 use Rattle.linear_machine.specs.Arrival.{Arrives, ArrivesIn, Needs}
-use Rattle.linear_machine.specs.Relation.{AreCarried, Below, HeapStands, IsDescribed, Laid, ReturnStands, SlotsHold, StandsFor, TrapsStand, Waits, Within, all_of}
+use Rattle.linear_machine.specs.Relation.{AreCarried, Below, HeapStands, IsDescribed, Laid, ReturnStands, SlotsHold, StandsFor, TrapsStand, Waits, Within, blocks_by_serial}
 use Rattle.linear_machine.specs.Straight.{IsPast}
-use Rattle.linear_machine.specs.View.{Fixed, IsCode, View}
+use Rattle.linear_machine.specs.View.{Fixed, IsInstructionAt, View}
 use Rattle.linear_machine.proofs.Arriving.{at_least, leads_arrives, then_arrives}
 use Rattle.linear_machine.proofs.Formats.{goes_branch_on, goes_branch_taken}
 use Rattle.linear_machine.proofs.Frames.{poisoned_some}
@@ -68,20 +68,20 @@ module _ (s : Fixed) (laid : Laid) (v w : View) (young : List Placed) (taken byt
   kept : (q : ℕ) → q ≢ 6 → q ≢ 26 → slice_index w.registers q ≡ slice_index v.registers q
   kept q n6 n26 = past.others q (λ i. ⊎_elim n6 (λ j. ⊎_elim n26 (λ f. f) j) i)
 
-  same_placed : all_of w young ≡ all_of v young
-  same_placed = ap (λ bs. all_of (record v { blocks = bs }) young) past.blocks
+  same_placed : blocks_by_serial w young ≡ blocks_by_serial v young
+  same_placed = ap (λ bs. blocks_by_serial (record v { blocks = bs }) young) past.blocks
 
   same_sp : slice_index w.registers 2 ≡ slice_index v.registers 2
   same_sp = kept 2 (λ e. omega (arith, e)) (λ e. omega (arith, e))
 
-  carried : (o : Option Value) → o ≡ None → AreCarried s (all_of v young) v.registers held o → AreCarried s (all_of v young) w.registers held None
+  carried : (o : Option Value) → o ≡ None → AreCarried s (blocks_by_serial v young) v.registers held o → AreCarried s (blocks_by_serial v young) w.registers held None
   carried None e hold = λ r x h.
       let p = hold r x h in
-      (p.0, subst (λ z. StandsFor s (all_of v young) z x) (sym (kept r p.0.no_scratch.0 p.0.no_young)) p.1)
+      (p.0, subst (λ z. StandsFor s (blocks_by_serial v young) z x) (sym (kept r p.0.no_scratch.0 p.0.no_young)) p.1)
   carried (Some x) e hold = absurd (cc)
 
   back_by : (b : Bool) → ReturnStands b v c → ReturnStands b w c
-  back_by true h = ap (λ m. word m (c.top - 8)) past.memory ∙ h
+  back_by true h = ap (λ m. memory_word m (c.top - 8)) past.memory ∙ h
   back_by false h = kept 1 (λ e. omega (arith, e)) (λ e. omega (arith, e)) ∙ h
 
   pub within_taken_off : Within s laid w young (taken + bytes) held a c
@@ -104,23 +104,23 @@ module _ (s : Fixed) (laid : Laid) (v w : View) (young : List Placed) (taken byt
         };
         frame = let f = within.frame in let e = same_sp in omega (arith, f, e);
         low = let f = within.low in let e = same_sp in omega (arith, f, e);
-        carried = subst (λ o. AreCarried s (all_of w young) w.registers held o) (sym none)
+        carried = subst (λ o. AreCarried s (blocks_by_serial w young) w.registers held o) (sym none)
             (subst (λ p. AreCarried s p w.registers held None) (sym same_placed) (carried a.raised none within.carried));
         slots = subst (λ p. SlotsHold s laid p w.memory (slice_index w.registers 2) (length a.tries) held) (sym same_placed)
-            (subst (λ m. SlotsHold s laid (all_of v young) m (slice_index w.registers 2) (length a.tries) held) (sym past.memory)
-            (subst (λ p. SlotsHold s laid (all_of v young) v.memory p (length a.tries) held) (sym same_sp) within.slots));
+            (subst (λ m. SlotsHold s laid (blocks_by_serial v young) m (slice_index w.registers 2) (length a.tries) held) (sym past.memory)
+            (subst (λ p. SlotsHold s laid (blocks_by_serial v young) v.memory p (length a.tries) held) (sym same_sp) within.slots));
         back = back_by laid.saves within.back;
-        waits = subst (λ p. Waits s p w.memory c) (sym same_placed) (subst (λ m. Waits s (all_of v young) m c) (sym past.memory) within.waits);
+        waits = subst (λ p. Waits s p w.memory c) (sym same_placed) (subst (λ m. Waits s (blocks_by_serial v young) m c) (sym past.memory) within.waits);
         traps = subst (λ m. TrapsStand s m (slice_index w.registers 9) (traps_at (slice_index w.registers 2) (map laid.handler a.tries)) c) (sym past.memory)
             (subst (λ t. TrapsStand s v.memory t (traps_at (slice_index w.registers 2) (map laid.handler a.tries)) c)
             (sym (kept 9 (λ e. omega (arith, e)) (λ e. omega (arith, e))))
             (subst (λ p. TrapsStand s v.memory (slice_index v.registers 9) (traps_at p (map laid.handler a.tries)) c) (sym same_sp) within.traps));
-        heap = subst (λ p. HeapStands s p w.memory a) (sym same_placed) (subst (λ m. HeapStands s (all_of v young) m a) (sym past.memory) within.heap);
+        heap = subst (λ p. HeapStands s p w.memory a) (sym same_placed) (subst (λ m. HeapStands s (blocks_by_serial v young) m a) (sym past.memory) within.heap);
       }
 
 -- ---- how many words a request has
 
-made_short : (r : Register) (ps : List Piece) → Each (Makes r) ps → length ps ≤ words_at_most ps
+made_short : (r : Register) (ps : List Piece) → EachPiece (Makes r) ps → length ps ≤ words_at_most ps
 made_short r [] each_none = omega arith
 made_short r (_ ∷ ps) (each_more (makes_first w) hs) = let l = made_short r ps hs in omega (arith, l)
 made_short r (_ ∷ ps) (each_more (makes_upper w) hs) = let l = made_short r ps hs in omega (arith, l)
@@ -128,32 +128,32 @@ made_short r (_ ∷ ps) (each_more (makes_lower w) hs) = let l = made_short r ps
 made_short r (_ ∷ ps) (each_more (makes_sum w) hs) = let l = made_short r ps hs in omega (arith, l)
 made_short r (_ ∷ ps) (each_more (makes_shift w) hs) = let l = made_short r ps hs in omega (arith, l)
 
-constant_short : (r : Register) (w : ℕ) → length (constant r w) ≤ 9
-constant_short r w = let a = made_short r (constant r w) (constant_is_made r w) in let b = (constant-in r w).fits in omega (arith, a, b)
+constant_short : (r : Register) (w : ℕ) → length (constant_pieces r w) ≤ 9
+constant_short r w = let a = made_short r (constant_pieces r w) (constant_is_made r w) in let b = (constant-in r w).fits in omega (arith, a, b)
 
-module _ (s : Fixed) (n : Named) where
-  made_words : (r : Register) (ps : List Piece) (at to : ℕ) → Each (Makes r) ps → PartStands s n at to ps → to ≡ at + length ps
+module _ (s : Fixed) (n : NameAddresses) where
+  made_words : (r : Register) (ps : List Piece) (at to : ℕ) → EachPiece (Makes r) ps → PartStands s n at to ps → to ≡ at + length ps
   made_words r [] at to each_none st = let e = nothing_more s n at to st in omega (arith, e)
   made_words r (_ ∷ ps) at to (each_more (makes_first w) hs) st =
-      let k = known s n at to (OpImm Addi (number r) 0 (w % 4096)) ps st in let e = made_words r ps (at + 1) to hs k.1 in omega (arith, e)
+      let k = known s n at to (OpImm Addi (register_number r) 0 (w % 4096)) ps st in let e = made_words r ps (at + 1) to hs k.1 in omega (arith, e)
   made_words r (_ ∷ ps) at to (each_more (makes_upper w) hs) st =
-      let k = known s n at to (Lui (number r) (w % 1048576)) ps st in let e = made_words r ps (at + 1) to hs k.1 in omega (arith, e)
+      let k = known s n at to (Lui (register_number r) (w % 1048576)) ps st in let e = made_words r ps (at + 1) to hs k.1 in omega (arith, e)
   made_words r (_ ∷ ps) at to (each_more (makes_lower w) hs) st =
-      let k = known s n at to (Addiw (number r) (number r) (w % 4096)) ps st in let e = made_words r ps (at + 1) to hs k.1 in omega (arith, e)
+      let k = known s n at to (Addiw (register_number r) (register_number r) (w % 4096)) ps st in let e = made_words r ps (at + 1) to hs k.1 in omega (arith, e)
   made_words r (_ ∷ ps) at to (each_more (makes_sum w) hs) st =
-      let k = known s n at to (OpImm Addi (number r) (number r) (w % 4096)) ps st in let e = made_words r ps (at + 1) to hs k.1 in omega (arith, e)
+      let k = known s n at to (OpImm Addi (register_number r) (register_number r) (w % 4096)) ps st in let e = made_words r ps (at + 1) to hs k.1 in omega (arith, e)
   made_words r (_ ∷ ps) at to (each_more (makes_shift w) hs) st =
-      let k = known s n at to (Shift Slli (number r) (number r) (w % 64)) ps st in let e = made_words r ps (at + 1) to hs k.1 in omega (arith, e)
+      let k = known s n at to (Shift Slli (register_number r) (register_number r) (w % 64)) ps st in let e = made_words r ps (at + 1) to hs k.1 in omega (arith, e)
 
   pub ask_words : (bytes at to : ℕ) → PartStands s n at to (ask bytes) → (to ≡ at + length (ask bytes)) × (length (ask bytes) ≤ 19)
   ask_words bytes at to st =
-      let q = splits s n at to (constant T0 bytes ++ constant T2 3) (ecall ∷ []) st in
-      let p = splits s n at q.middle (constant T0 bytes) (constant T2 3) q.first in
-      let e1 = made_words T0 (constant T0 bytes) at p.middle (constant_is_made T0 bytes) p.first in
-      let e2 = made_words T2 (constant T2 3) p.middle q.middle (constant_is_made T2 3) p.second in
+      let q = splits s n at to (constant_pieces T0 bytes ++ constant_pieces T2 3) (ecall ∷ []) st in
+      let p = splits s n at q.middle (constant_pieces T0 bytes) (constant_pieces T2 3) q.first in
+      let e1 = made_words T0 (constant_pieces T0 bytes) at p.middle (constant_is_made T0 bytes) p.first in
+      let e2 = made_words T2 (constant_pieces T2 3) p.middle q.middle (constant_is_made T2 3) p.second in
       let e3 = (single s n q.middle to Ecall q.second).1 in
-      let l1 = length-append (constant T0 bytes ++ constant T2 3) (ecall ∷ []) in
-      let l2 = length-append (constant T0 bytes) (constant T2 3) in
+      let l1 = length-append (constant_pieces T0 bytes ++ constant_pieces T2 3) (ecall ∷ []) in
+      let l2 = length-append (constant_pieces T0 bytes) (constant_pieces T2 3) in
       let s1 = constant_short T0 bytes in
       let s2 = constant_short T2 3 in
       (omega (arith, e1, e2, e3, l1, l2), omega (arith, l1, l2, s1, s2))
@@ -172,7 +172,7 @@ pub record IsReserved (s : Fixed) (laid : Laid) (bytes : ℕ) (file : Locations)
   pub within : Within s laid w young bytes file a c
   pub room : young_start ≤ slice_index w.registers 26
 
-module _ (s : Fixed) (n : Named) (laid : Laid) (v : View) (young : List Placed) (held : Locations) (a : Around) (c : Below)
+module _ (s : Fixed) (n : NameAddresses) (laid : Laid) (v : View) (young : List Placed) (held : Locations) (a : Around) (c : Below)
     (within : Within s laid v young 0 held a c) (none : a.raised ≡ None) (whole : is_complete a ≡ true) (bytes : ℕ) (request : IsRequest bytes)
     (point : List Loc) (d : Desc) (is : IsDescribed laid (length a.tries) point d) (saves : laid.saves ≡ true)
     (fit : are_vals (data_start + length s.image.bytes) point held ≡ true) (no_spare : (x : Value) → held (loc.Machine 5) ≡ Some x → ⊥)
@@ -182,7 +182,7 @@ module _ (s : Fixed) (n : Named) (laid : Laid) (v : View) (young : List Placed) 
 
   -- ---- the service is asked
 
-  t0_free : (r : ℕ) → Among r (5 ∷ []) → IsFree r
+  t0_free : (r : ℕ) → AmongNumbers r (5 ∷ []) → IsFree r
   t0_free r (inl e) = record {
     some = omega (arith, e);
     no_trap = λ f. omega (arith, e, f);
@@ -191,10 +191,10 @@ module _ (s : Fixed) (n : Named) (laid : Laid) (v : View) (young : List Placed) 
   }
   t0_free r (inr e) = absurd e
 
-  asks_there : (z : View) → Within s laid z young bytes held a c → z.place + 1 ≡ middle → IsCode s z.place Ecall → slice_index z.registers 5 ≡ bytes →
+  asks_there : (z : View) → Within s laid z young bytes held a c → z.place + 1 ≡ middle → IsInstructionAt s z.place Ecall → slice_index z.registers 5 ≡ bytes →
       slice_index z.registers 7 ≡ 3 → NeedsMore z → Arrives 1 s q z Final
   asks_there z wz at code asked service needs =
-      let used = bytes_need s (all_of z young) z.memory a wz.heap in
+      let used = bytes_need s (blocks_by_serial z young) z.memory a wz.heap in
       let even = request.even in
       let some = request.some in
       let most = request.most in
@@ -216,8 +216,8 @@ module _ (s : Fixed) (n : Named) (laid : Laid) (v : View) (young : List Placed) 
       Arrives (length (ask bytes)) s q z Final
   ask_arrives z wz needs st =
       let few = (ask_words s n bytes z.place middle st).0 in
-      let ends = splits s n z.place middle (constant T0 bytes ++ constant T2 3) (ecall ∷ []) st in
-      let parts = splits s n z.place ends.middle (constant T0 bytes) (constant T2 3) ends.first in
+      let ends = splits s n z.place middle (constant_pieces T0 bytes ++ constant_pieces T2 3) (ecall ∷ []) st in
+      let parts = splits s n z.place ends.middle (constant_pieces T0 bytes) (constant_pieces T2 3) ends.first in
       let last = single s n ends.middle middle Ecall ends.second in
       let most = request.most in
       let first = constant_reaches s n T0 4 refl (omega arith) (λ e. omega (arith, e)) z parts.middle bytes (omega (arith, most)) parts.first wz.own.are in
@@ -227,7 +227,7 @@ module _ (s : Fixed) (n : Named) (laid : Laid) (v : View) (young : List Placed) 
       (record { each = λ l x h. h })
       (λ e r x i h. ⊎_elim (λ f. no_spare x (subst (λ k. held (loc.Machine k) ≡ Some x) f h)) (λ f. f) i) (inl none) wz in
       let second = constant_reaches s n T2 6 refl (omega arith) (λ e. omega (arith, e)) u ends.middle 3 (omega arith)
-      (subst (λ p. PartStands s n p ends.middle (constant T2 3)) (sym here) parts.second) wu.own.are in
+      (subst (λ p. PartStands s n p ends.middle (constant_pieces T2 3)) (sym here) parts.second) wu.own.are in
       let t = second.changes.view in
       let at = arrived s u ends.middle (7 ∷ []) u.memory _ second in
       let wt : Within s laid t young bytes held a c = within_past s laid u t young bytes held a c second.count (7 ∷ []) second.changes.past
@@ -247,7 +247,7 @@ module _ (s : Fixed) (n : Named) (laid : Laid) (v : View) (young : List Placed) 
       (λ w e. subst (λ w. Arrives (second.count + 1) s q w Final) (sym e)
       (then_arrives second.count 1 s u (λ w. w ≡ t) Final (leads_arrives s second.count u t (λ w. w ≡ t) second.changes.leads refl)
       (λ w f. subst (λ w. Arrives 1 s q w Final) (sym f)
-      (asks_there t wt (omega (arith, at, l3)) (subst (λ p. IsCode s p Ecall) (sym at) last.0) asked second.changes.holds still)))))
+      (asks_there t wt (omega (arith, at, l3)) (subst (λ p. IsInstructionAt s p Ecall) (sym at) last.0) asked second.changes.holds still)))))
 
   -- ---- the test
 
@@ -308,8 +308,8 @@ module _ (s : Fixed) (n : Named) (laid : Laid) (v : View) (young : List Placed) 
 
   pub reserve_arrives : (k : ℕ) → middle ≡ v.place + k → PartStands s n v.place middle (reserved bytes) → ArrivesIn 0 k s q v Final
   reserve_arrives k lands st =
-      let parts = splits s n v.place middle (lowered T1 S10 bytes)
-      (load Ld T1 S11 0 ∷ skip Bgeu S10 T1 (4 * (1 + length (ask bytes))) ∷ ask bytes) st in
+      let parts = splits s n v.place middle (bytes_taken_off T1 S10 bytes)
+      (load_piece Ld T1 S11 0 ∷ skip Bgeu S10 T1 (4 * (1 + length (ask bytes))) ∷ ask bytes) st in
       let some = request.some in
       let most = request.most in
       let low = within.own.from_low in
@@ -319,11 +319,11 @@ module _ (s : Fixed) (n : Named) (laid : Laid) (v : View) (young : List Placed) 
       reaches_as s v l.middle (6 ∷ []) (6 ∷ 26 ∷ []) v.memory _ _ (λ r i. ⊎_elim (λ h. inl h) (λ f. absurd f) i) (λ w m p h. h) l.first in
       let u = first.changes.view in
       let here = arrived s v l.middle (6 ∷ 26 ∷ []) v.memory _ first in
-      let word = within.own.are.words 26 in
+      let memory_word = within.own.are.words 26 in
       let e = l.lands in
       let taken = reaches_more s v l.middle parts.middle (6 ∷ 26 ∷ []) (26 ∷ []) v.memory _ _ first (λ r i. inr i)
-      (reaches_set s u parts.middle l.last 25 (slice_index v.registers 26 - bytes) (subst (λ p. IsCode s p l.last) (sym here) l.code) (omega (arith, here, e))
-      (inl (λ q. omega (arith, q))) first.changes.holds first.changes.past.are (omega arith) (omega (arith, word))) in
+      (reaches_set s u parts.middle l.last 25 (slice_index v.registers 26 - bytes) (subst (λ p. IsInstructionAt s p l.last) (sym here) l.code) (omega (arith, here, e))
+      (inl (λ q. omega (arith, q))) first.changes.holds first.changes.past.are (omega arith) (omega (arith, memory_word))) in
       let t = taken.changes.view in
       let at = arrived s v parts.middle (6 ∷ 26 ∷ []) v.memory _ taken in
       let value = taken.changes.holds.0 in
@@ -339,7 +339,7 @@ module _ (s : Fixed) (n : Named) (laid : Laid) (v : View) (young : List Placed) 
       (then_arrives taken.count (1 + (1 + length (ask bytes))) s v (λ w. w ≡ t) Final (leads_arrives s taken.count v t (λ w. w ≡ t) taken.changes.leads refl)
       (λ w f. subst (λ w. Arrives (1 + (1 + length (ask bytes))) s q w Final) (sym f)
       (then_arrives 1 (1 + length (ask bytes)) s t (λ x. IsPast 1 (6 ∷ []) t.memory t x × HasLimit 6 x) Final
-      (limit_arrives s t wt.own.are wt.own.domain 5 (omega arith) (λ e. omega (arith, e)) (subst (λ p. IsCode s p (Load Ld 6 27 0)) (sym at) limit_word.0))
+      (limit_arrives s t wt.own.are wt.own.domain 5 (omega arith) (λ e. omega (arith, e)) (subst (λ p. IsInstructionAt s p (Load Ld 6 27 0)) (sym at) limit_word.0))
       (λ x h.
       let past = h.0 in
       let there_x = past.place in

@@ -6,9 +6,9 @@ use Rattle.bs_words.specs.declared.types.Loc.{Loc}
 use Rattle.bs_words.specs.declared.types.Loc.TheVariants as loc
 use Rattle.bs_words.specs.declared.values.Value.{Value}
 use Rattle.lin_ir.specs.Formed.{places_of}
-use Rattle.lin_ir.specs.Meaning.{Locations, as_type, put, put_all, put_if, same_loc, values, with_held}
+use Rattle.lin_ir.specs.Meaning.{Locations, as_type, assign_spot, put_all, put_if, same_loc, values, with_held}
 use Rattle.lin_ir.specs.declared.lin.Spot.{Spot}
-use Rattle.mach_ir.specs.Seats.{AreSeated, InOrder, argument_places, in_order, result_places}
+use Rattle.mach_ir.specs.Seats.{AreSeated, InOrder, argument_locations, in_order, result_locations}
 use Rattle.linear_machine.proofs.Following.{same_loc-true}
 use Rattle.linear_machine.proofs.Turning.{IsBegun}
 
@@ -85,7 +85,7 @@ read_from end file (p ∷ ps) xs j (r ∷ rs) more e up h (suc k) x g =
 
 -- the arguments of a call are from a0 on
 pub arguments_read :
-    (end : ℕ) (file : Locations) (ps : List Spot) (xs : List Value) → AreSeated (InOrder argument_places) (places_of ps) → values end file ps ≡ Some xs →
+    (end : ℕ) (file : Locations) (ps : List Spot) (xs : List Value) → AreSeated (InOrder argument_locations) (places_of ps) → values end file ps ≡ Some xs →
     (k : ℕ) (x : Value) → slice_get xs k ≡ Some x → (k < 16) × IsOperand end file ps 10 k x
 arguments_read end file ps xs (in_order more e) h k x g = read_from end file ps xs 10 argument_registers more e arguments_rise h k x g
 
@@ -95,7 +95,7 @@ pub record WasPut (end : ℕ) (p : Spot) (x : Value) (o : Option Locations) (f :
   pub before : Locations
   pub was : o ≡ Some before
   pub fit : fits end (type_of_comp p.comp) x ≡ true
-  pub is : f ≡ put p x before
+  pub is : f ≡ assign_spot p x before
 
 pub was_put : (end : ℕ) (p : Spot) (x : Value) (o : Option Locations) (f : Locations) → put_if (fits end (type_of_comp p.comp) x) p x o ≡ Some f →
     WasPut end p x o f
@@ -104,7 +104,7 @@ was_put end p x o f e = by_test (fits end (type_of_comp p.comp) x) refl o e
     by_test : (b : Bool) → fits end (type_of_comp p.comp) x ≡ b → (o : Option Locations) → put_if b p x o ≡ Some f → WasPut end p x o f
     by_test false h o e = absurd (cc)
     by_test true h None e = absurd (cc)
-    by_test true h (Some g) e = record { before = g; was = refl; fit = h; is = (let i : put p x g ≡ f = cc in sym i) }
+    by_test true h (Some g) e = record { before = g; was = refl; fit = h; is = (let i : assign_spot p x g ≡ f = cc in sym i) }
 
 put_from :
     (end : ℕ) (ps : List Spot) (xs : List Value) (j : ℕ) (rs : List ℕ) (more : List Loc) (f : Locations) → places_of ps ++ more ≡ map loc.Machine rs →
@@ -133,7 +133,7 @@ put_from end (p ∷ ps) (y ∷ ys) j (r ∷ rs) more f e up h l x g =
 
 -- what a function may hold that has taken its arguments
 pub parameters_put :
-    (end : ℕ) (ps : List Spot) (xs : List Value) (f : Locations) → AreSeated (InOrder argument_places) (places_of ps) →
+    (end : ℕ) (ps : List Spot) (xs : List Value) (f : Locations) → AreSeated (InOrder argument_locations) (places_of ps) →
     put_all end ps xs (λ l. None) ≡ Some f → IsBegun xs f
 parameters_put end ps xs f (in_order more e) h = record {
   register = λ r x g.
@@ -146,7 +146,7 @@ parameters_put end ps xs f (in_order more e) h = record {
 -- ---- one place
 
 -- the one operand or result that there may be is in a0
-pub first_seated : (p : Spot) (ps : List Spot) → AreSeated (InOrder result_places) (places_of (p ∷ ps)) → (p.loc ≡ loc.Machine 10) × (ps ≡ [])
+pub first_seated : (p : Spot) (ps : List Spot) → AreSeated (InOrder result_locations) (places_of (p ∷ ps)) → (p.loc ≡ loc.Machine 10) × (ps ≡ [])
 first_seated p ps (in_order more e) = let at = same_place p.loc 10 (places_of ps ++ more) [] e in (at.0, none ps at.1)
   where
     none : (ps : List Spot) → places_of ps ++ more ≡ [] → ps ≡ []

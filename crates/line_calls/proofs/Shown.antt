@@ -21,7 +21,7 @@ use Rattle.lin_ir.specs.Meaning.{Locations, values}
 use Rattle.lin_ir.specs.declared.lin.Spot.{Spot}
 use Rattle.mach_ir.specs.Acts.{Around, is_complete}
 use Rattle.rv_machine.specs.Hart.{Hart, Placed}
-use Rattle.rv_machine.specs.Observation.{all_blocks, block_or_word, blocks_or, observed, serial_from}
+use Rattle.rv_machine.specs.Observation.{all_blocks, block_or_word, blocks_or, observed_word, serial_from}
 use Rattle.rv_machine.specs.Services.{arguments_from}
 use Rattle.moving_laws.specs.Heap.{AllApart, AreApart, AreBlocks}
 use Rattle.moving_laws.specs.Values.{HasFunctions, IsKnown, IsVal, function_at, start_of, value_word}
@@ -30,8 +30,8 @@ use Rattle.moving_laws.proofs.Fitting.{val_fits}
 use Rattle.moving_laws.proofs.Rewriting.{NoStart, at_start, far_no_start, odd_no_start, start_inside}
 use Rattle.moving_laws.proofs.Usable.{young_readable}
 use Rattle.moving_laws.proofs.Young.{found}
-use Rattle.linear_machine.specs.Outside.{shown}
-use Rattle.linear_machine.specs.Relation.{Below, Laid, StandsFor, Within, all_of}
+use Rattle.linear_machine.specs.Outside.{observed_argument}
+use Rattle.linear_machine.specs.Relation.{Below, Laid, StandsFor, Within, blocks_by_serial}
 use Rattle.linear_machine.specs.View.{Fixed, View}
 use Rattle.linear_machine.proofs.Moving.{hart_of, heads_of}
 use Rattle.line_calls.specs.Calls.{IsInTable}
@@ -57,7 +57,7 @@ serial_is k (suc q) r (b ∷ bs) apart l e =
 
 -- a val is shown as its block or as its word
 pub val_shown : (image : Tables) (bs : List Placed) (v : Value) → HasFunctions image → AreBlocks bs → IsVal image (length bs) v →
-    block_or_word (serial_from 0 bs (value_word image bs v)) (value_word image bs v) ≡ shown image v
+    block_or_word (serial_from 0 bs (value_word image bs v)) (value_word image bs v) ≡ observed_argument image v
 val_shown image bs (Word w) has are fit =
     let d = has.tables.bytes.short in
     ap (λ o. block_or_word o w) (no_serial 0 bs w (⊎_elim (λ odd. odd_no_start w bs odd are.inside)
@@ -96,7 +96,7 @@ each_at P (y ∷ ys) (suc k) x all e = each_at P ys k x all.1 e
 module _ (s : Fixed) (laid : Laid) (u : View) (young : List Placed) (held : Locations) (a : Around) (c : Below) (within : Within s laid u young 0 held a c)
     (whole : is_complete a ≡ true) (h : Hart) where
   -- the machine finds the blocks, young ones too
-  blocks_are : all_blocks (hart_of s u h) ≡ all_of u young
+  blocks_are : all_blocks (hart_of s u h) ≡ blocks_by_serial u young
   blocks_are =
       let same : slice_index u.registers 26 + 0 ≡ slice_index u.registers 26 = omega arith in
       let even = within.own.from_even in
@@ -106,24 +106,24 @@ module _ (s : Fixed) (laid : Laid) (u : View) (young : List Placed) (held : Loca
       (omega (arith, even)) (omega (arith, low)) (subst (λ x. Rises x young) same within.own.rises) (heads_of s u young u.memory a whole within.heap))
 
   shown_one : (t : Comp) (x : Value) (w : ℕ) → fits (data_start + length s.image.bytes) (type_of_comp t) x ≡ true → IsArgument t →
-      StandsFor s (all_of u young) w x →
-      observed (hart_of s u h) t w ≡ shown s.image x
+      StandsFor s (blocks_by_serial u young) w x →
+      observed_word (hart_of s u h) t w ≡ observed_argument s.image x
   shown_one comp.Int (Word b) w fit is st = ap obs.Word st.is
   shown_one comp.Int (Block k o) w fit is st = absurd (cc)
   shown_one comp.Int (Function f) w fit is st = ap obs.Word st.is
   shown_one comp.Val x w fit is st =
       ap (λ bs. block_or_word (serial_from 0 bs w) w) blocks_are
-      ∙ ap (λ y. block_or_word (serial_from 0 (all_of u young) y) y) st.is
-      ∙ val_shown s.image (all_of u young) x s.functions within.heap.old (val_fits s.image (length (all_of u young)) x fit st.known)
+      ∙ ap (λ y. block_or_word (serial_from 0 (blocks_by_serial u young) y) y) st.is
+      ∙ val_shown s.image (blocks_by_serial u young) x s.functions within.heap.old (val_fits s.image (length (blocks_by_serial u young)) x fit st.known)
   shown_one comp.Addr x w fit is st = absurd is
   shown_one comp.Float x w fit is st = absurd is
 
   pub shown_from :
-      (file : Locations) (hold : (r : ℕ) (x : Value) → 10 ≤ r → file (loc.Machine r) ≡ Some x → StandsFor s (all_of u young) (slice_index u.registers r) x)
+      (file : Locations) (hold : (r : ℕ) (x : Value) → 10 ≤ r → file (loc.Machine r) ≡ Some x → StandsFor s (blocks_by_serial u young) (slice_index u.registers r) x)
       (ps : List Spot) (xs : List Value) (r : ℕ) (rs : List ℕ) (more : List Loc) → 9 ≤ r → places_of ps ++ more ≡ map loc.Machine rs → Rising (suc r) rs →
       values (data_start + length s.image.bytes) file ps ≡ Some xs → AllByRecursion IsArgument (comps ps) →
-      arguments_from (suc r) (comps ps) (hart_of s u h) ≡ map (shown s.image) xs
-  shown_from file hold [] xs r rs more low e up g is = (let q : [] ≡ xs = cc in ap (map (shown s.image)) q)
+      arguments_from (suc r) (comps ps) (hart_of s u h) ≡ map (observed_argument s.image) xs
+  shown_from file hold [] xs r rs more low e up g is = (let q : [] ≡ xs = cc in ap (map (observed_argument s.image)) q)
   shown_from file hold (p ∷ ps) xs r [] more low e up g is = absurd (cc)
   shown_from file hold (p ∷ ps) xs r (q ∷ rs) more low e up g is =
       let w = was_read (data_start + length s.image.bytes) p.comp (file p.loc) (values (data_start + length s.image.bytes) file ps) xs g in
@@ -132,7 +132,7 @@ module _ (s : Fixed) (laid : Laid) (u : View) (young : List Placed) (held : Loca
       let stands = hold (suc r) w.value (omega (arith, low)) (subst (λ l. file l ≡ Some w.value) there w.held) in
       ap₂ (λ y ys. y ∷ ys) (shown_one p.comp w.value (slice_index u.registers (suc r)) w.fit is.0 stands)
       (shown_from file hold ps w.others (suc r) rs more (omega (arith, low)) at.1 up.1 w.rest is.1)
-      ∙ ap (map (shown s.image)) (sym w.are)
+      ∙ ap (map (observed_argument s.image)) (sym w.are)
 
 -- a value that is known points to a function that is there
 pub in_table : (image : Tables) (count : ℕ) (x : Value) → IsKnown image count x → IsInTable image x

@@ -9,22 +9,22 @@ use Rattle.bs_words.specs.declared.values.Value.TheVariants.{Word, Block, Functi
 use Rattle.cmm_meaning.specs.Evaluation.{fit_parameters}
 use Rattle.cmm_meaning.specs.State.{Inside}
 use Rattle.emit_rules.specs.Calls.{tail_call_part}
-use Rattle.layout_rules.specs.Words.{Named}
+use Rattle.layout_rules.specs.Words.{NameAddresses}
 use Rattle.lin_ir.specs.Formed.{IsLocation, places_of, spare}
 use Rattle.lin_ir.specs.Meaning.{Locations, NamedAt, on_act, on_values, step, values}
 use Rattle.lin_ir.specs.declared.lin.Lin.{Lin}
 use Rattle.lin_ir.specs.declared.lin.Line.{Line}
 use Rattle.lin_ir.specs.declared.lin.LinOp.TheVariants as lin
 use Rattle.lin_ir.specs.declared.lin.Spot.{Spot}
-use Rattle.mach_ir.specs.Acts.{Around, Replaces, asks, asks_value, is_complete, only_if}
-use Rattle.mach_ir.specs.Runs.{Place}
-use Rattle.mach_ir.specs.Seats.{AfterFirst, AreSeated, InOrder, after_first, argument_places, in_order}
+use Rattle.mach_ir.specs.Acts.{Around, Replaces, asks, asks_value, is_complete, stuck_unless}
+use Rattle.mach_ir.specs.Runs.{ActivationSetting}
+use Rattle.mach_ir.specs.Seats.{AfterFirst, AreSeated, InOrder, after_first, argument_locations, in_order}
 use Rattle.mach_ir.specs.declared.op.Callee.{Callee}
 use Rattle.mach_ir.specs.declared.op.Callee.TheVariants as callee
 use Rattle.mach_ir.specs.declared.op.Calling.TheVariants as calling
 use Rattle.mach_ir.specs.declared.op.Op.TheVariants as op
 use Rattle.rv_machine.specs.Hart.{Placed}
-use Rattle.linear_machine.specs.Arrival.{ArrivesIn, nothing}
+use Rattle.linear_machine.specs.Arrival.{ArrivesIn, needs_nothing}
 use Rattle.linear_machine.specs.Follows.{Agrees, FollowsStep, IsEntered}
 use Rattle.linear_machine.specs.Moments.{AtEntry}
 use Rattle.linear_machine.specs.Relation.{Below, Laid, StandsFor, Within}
@@ -33,14 +33,14 @@ use Rattle.linear_machine.proofs.Arriving.{leads_in}
 use Rattle.linear_machine.proofs.Pure.{Reads, reads_held}
 use Rattle.line_stands.specs.Parts.{PartStands}
 use Rattle.lin_laws.proofs.Forms.{same_machine}
-use Rattle.line_calls.specs.Leading.{Leaves}
+use Rattle.line_calls.specs.Leading.{LeadsUpTo}
 use Rattle.line_calls.specs.Points.{EntriesStand}
 use Rattle.line_calls.proofs.Callees.{registered_replaces}
 use Rattle.line_calls.specs.Laws.{frame_in}
 use Rattle.line_calls.proofs.Seats.{arguments_read, was_read}
 use Rattle.line_calls.proofs.Tailing.{named_replaces}
 
-module _ (s : Fixed) (n : Named) (laid : Laid) (live : List Line → Type 0) (entry : ℕ → ℕ) (c : Below) (place : Place) (named : NamedAt) (m : Lin)
+module _ (s : Fixed) (n : NameAddresses) (laid : Laid) (live : List Line → Type 0) (entry : ℕ → ℕ) (c : Below) (place : ActivationSetting) (named : NamedAt) (m : Lin)
     (slots_are : m.slots ≡ laid.slots) (next : List Line) (v : View) (young : List Placed) (held file : Locations) (a : Around)
     (within : Within s laid v young 0 held a c) (before : Type 0) (agrees : Agrees before held file) (k : ℕ) (none : a.raised ≡ None) (left : a.tries ≡ [])
     (entries : EntriesStand s entry) (result : Ret) where
@@ -51,22 +51,22 @@ module _ (s : Fixed) (n : Named) (laid : Laid) (live : List Line → Type 0) (en
   not_spare j q = absurd (let z = same_machine (10 + j) 5 q in omega (arith, z))
 
   passed_on :
-      (args : List Spot) (xs : List Value) → AreSeated (InOrder argument_places) (places_of args) → values place.setting.end file args ≡ Some xs →
+      (args : List Spot) (xs : List Value) → AreSeated (InOrder argument_locations) (places_of args) → values place.setting.end file args ≡ Some xs →
       (j : ℕ) (x : Value) → slice_get xs j ≡ Some x → (j < 16) × (held (loc.Machine (10 + j)) ≡ Some x)
   passed_on args xs seats h j x g =
       let r = arguments_read place.setting.end file args xs seats h j x g in
       (r.0, agrees.others (loc.Machine (10 + j)) (not_spare j) ∙ r.1.held)
 
   -- where the words lead to the entry
-  arrives : (f : ℕ) (xs : List Value) → Leaves s v (v.place + k) (λ w. AtEntry s w young (entry f) xs a.memory c) →
-      ArrivesIn 1 k s (nothing s) v (IsEntered s entry f xs a.memory c)
+  arrives : (f : ℕ) (xs : List Value) → LeadsUpTo s v (v.place + k) (λ w. AtEntry s w young (entry f) xs a.memory c) →
+      ArrivesIn 1 k s (needs_nothing s) v (IsEntered s entry f xs a.memory c)
   arrives f xs l =
       let e = l.lands in
       leads_in 1 k s l.count l.some (omega (arith, e)) v l.view (IsEntered s entry f xs a.memory c) l.leads (young, l.holds)
 
   replaces_follows :
       (whom : Callee) (args : List Spot) (o : Option Value) (xs : List Value) →
-      ((f : ℕ) → o ≡ Some (Function f) → is_complete a ≡ true → ArrivesIn 1 k s (nothing s) v (IsEntered s entry f xs a.memory c)) →
+      ((f : ℕ) → o ≡ Some (Function f) → is_complete a ≡ true → ArrivesIn 1 k s (needs_nothing s) v (IsEntered s entry f xs a.memory c)) →
       FollowsStep k s laid live entry c v (on_act place m (goes whom args) next file a
       (asks_value place.setting o xs a (λ f ys. Replaces f ys result)))
   replaces_follows whom args None xs calls = tt
@@ -75,7 +75,7 @@ module _ (s : Fixed) (n : Named) (laid : Laid) (live : List Line → Type 0) (en
   replaces_follows whom args (Some (Function f)) xs calls = by_parameters (slice_get place.setting.parameters f)
     where
       tested : (q : Bool) → (q ≡ true → is_complete a ≡ true) →
-          FollowsStep k s laid live entry c v (on_act place m (goes whom args) next file a (only_if q (Replaces (Inside f) xs result)))
+          FollowsStep k s laid live entry c v (on_act place m (goes whom args) next file a (stuck_unless q (Replaces (Inside f) xs result)))
       tested false h = tt
       tested true h = calls f refl (h refl)
 
@@ -88,7 +88,7 @@ module _ (s : Fixed) (n : Named) (laid : Laid) (live : List Line → Type 0) (en
   -- ---- by name
 
   pub tail_named :
-      (name : List ℕ) (args : List Spot) → AreSeated (InOrder argument_places) (places_of args) →
+      (name : List ℕ) (args : List Spot) → AreSeated (InOrder argument_locations) (places_of args) →
       ((x : Value) → place.setting.symbol name ≡ Some x → StandsFor s [] (n.symbol name) x) →
       PartStands s n v.place (v.place + k) (tail_call_part (length a.tries) (frame_in laid) (callee.Symbol name) args) →
       FollowsStep k s laid live entry c v (step place named m (record {
@@ -112,7 +112,7 @@ module _ (s : Fixed) (n : Named) (laid : Laid) (live : List Line → Type 0) (en
   -- ---- to the address in a location
 
   pub tail_registered :
-      (p : Spot) (args : List Spot) → IsLocation m p.loc → Reads before p.loc → AreSeated (AfterFirst argument_places) (places_of (p ∷ args)) →
+      (p : Spot) (args : List Spot) → IsLocation m p.loc → Reads before p.loc → AreSeated (AfterFirst argument_locations) (places_of (p ∷ args)) →
       PartStands s n v.place (v.place + k) (tail_call_part (length a.tries) (frame_in laid) callee.Register (p ∷ args)) →
       FollowsStep k s laid live entry c v (step place named m (record {
         rest = record { op = lin.Op (op.Calling (calling.TailCall callee.Register result)); args = p ∷ args; results = [] } ∷ next;

@@ -5,9 +5,9 @@ use Rattle.bs_words.specs.Word.{add_word}
 use Rattle.bs_words.proofs.Below.{add_word-below, sext_word-below}
 use Rattle.bs_words.specs.declared.types.Loc.TheVariants as loc
 use Rattle.bs_words.specs.declared.values.Value.{Value}
-use Rattle.emit_rules.specs.Entry.{given_back}
+use Rattle.emit_rules.specs.Entry.{frame_release}
 use Rattle.layout_rules.specs.Laid.{address_of_place}
-use Rattle.layout_rules.specs.Words.{Named, call_code, distance, upper}
+use Rattle.layout_rules.specs.Words.{NameAddresses, call_code, distance, upper}
 use Rattle.layout_rules.specs.declared.form.Form.{Form}
 use Rattle.layout_rules.specs.declared.form.Form.TheVariants.{Near, Middle, Far}
 use Rattle.layout_rules.specs.Forms.{call_words}
@@ -15,7 +15,7 @@ use Rattle.emit_rules.specs.Instructions.{low_12}
 use Rattle.layout_rules.proofs.Offsets.{far_lands, number_lands}
 use Rattle.lin_ir.specs.Meaning.{Locations}
 use Rattle.mach_ir.specs.Acts.{Around, is_complete}
-use Rattle.mach_ir.specs.Runs.{entered}
+use Rattle.mach_ir.specs.Runs.{entry_around}
 use Rattle.rv_isa.specs.Encoding.{encoded}
 use Rattle.rv_isa.specs.declared.instr.Instr.{Instr}
 use Rattle.rv_isa.specs.declared.instr.Instr.TheVariants.{Auipc, Jalr, Lui, OpImm}
@@ -24,13 +24,13 @@ use Rattle.rv_machine.specs.Arithmetic.{imm_i, imm_u}
 use Rattle.rv_machine.specs.Hart.{Placed}
 use Rattle.rv_machine.specs.Memory.{code_start}
 use Rattle.rv_pieces.specs.declared.piece.Piece.TheVariants.{TailCall}
-use Rattle.moving_laws.specs.Stands.{Among}
+use Rattle.moving_laws.specs.Stands.{AmongNumbers}
 use Rattle.moving_laws.specs.Values.{function_at}
 use Rattle.moving_laws.specs.Waiting.{traps_at}
 use Rattle.linear_machine.specs.Moments.{AtEntry}
-use Rattle.linear_machine.specs.Relation.{AreCarried, Below, HeapStands, Laid, StandsFor, TrapsStand, Waits, Within, all_of}
+use Rattle.linear_machine.specs.Relation.{AreCarried, Below, HeapStands, Laid, StandsFor, TrapsStand, Waits, Within, blocks_by_serial}
 use Rattle.linear_machine.specs.Straight.{Differs}
-use Rattle.linear_machine.specs.View.{Fixed, HasCode, IsCode, View}
+use Rattle.linear_machine.specs.View.{Fixed, HasCode, IsInstructionAt, View}
 use Rattle.linear_machine.proofs.Formats.{sets_auipc, sets_imm, sets_lui}
 use Rattle.linear_machine.proofs.Frames.{heap_whole}
 use Rattle.linear_machine.proofs.Sequences.{sets_as}
@@ -39,7 +39,7 @@ use Rattle.linear_machine.proofs.Steps.{at_place}
 use Rattle.linear_machine.proofs.Turning.{placed_past, usable_past}
 use Rattle.line_stands.specs.Parts.{PartStands}
 use Rattle.line_stands.proofs.Parts.{begins, nothing_more, splits}
-use Rattle.line_calls.specs.Leading.{Leaves}
+use Rattle.line_calls.specs.Leading.{LeadsUpTo}
 use Rattle.line_calls.specs.Points.{EntriesStand}
 use Rattle.line_calls.specs.Reaches.{Reaches}
 use Rattle.line_calls.specs.Laws.{frame_in}
@@ -49,7 +49,7 @@ use Rattle.line_calls.proofs.Reaching.{arrived, reaches_as, reaches_more, reache
 -- ---- places of the code
 
 -- an instruction is below the data
-pub place_near : (s : Fixed) (p : ℕ) (i : Instr) → IsCode s p i → code_start + 4 * p < 2 ^ 28
+pub place_near : (s : Fixed) (p : ℕ) (i : Instr) → IsInstructionAt s p i → code_start + 4 * p < 2 ^ 28
 place_near s p i c =
     let l = slice_get_within s.image.code p (encoded i) c.there in
     let short = s.functions.tables.code.short in
@@ -88,25 +88,25 @@ module _ (s : Fixed) (laid : Laid) (v w : View) (young : List Placed) (held : Lo
         back = back;
         arguments_in = λ k x h.
             let g = args k x h in
-            let p = (subst (λ o. AreCarried s (all_of v young) v.registers held o) none within.carried) (10 + k) x g.1 in (
+            let p = (subst (λ o. AreCarried s (blocks_by_serial v young) v.registers held o) none within.carried) (10 + k) x g.1 in (
               g.0,
               subst (λ b. StandsFor s b (slice_index w.registers (10 + k)) x) (sym same)
-                  (subst (λ z. StandsFor s (all_of v young) z x)
+                  (subst (λ z. StandsFor s (blocks_by_serial v young) z x)
                   (sym (off (10 + k) (λ e. omega (arith, e)) (λ e. omega (arith, e)) (λ e. omega (arith, e)) (λ e. omega (arith, e)))) p.1),
             );
-        waits = subst (λ b. Waits s b w.memory c) (sym same) (subst (λ m. Waits s (all_of v young) m c) (sym differs.memory) within.waits);
+        waits = subst (λ b. Waits s b w.memory c) (sym same) (subst (λ m. Waits s (blocks_by_serial v young) m c) (sym differs.memory) within.waits);
         traps = subst (λ m. TrapsStand s m (slice_index w.registers 9) [] c) (sym differs.memory)
             (subst (λ t. TrapsStand s v.memory t [] c) (sym e9)
             (subst (λ ts. TrapsStand s v.memory (slice_index v.registers 9) (traps_at (slice_index v.registers 2)
             (map laid.handler ts)) c) left within.traps));
-        heap = subst (λ b. HeapStands s b w.memory (entered a.memory)) (sym same)
-            (subst (λ m. HeapStands s (all_of v young) m (entered a.memory)) (sym differs.memory) (heap_whole s
-            (all_of v young) v.memory a whole within.heap));
+        heap = subst (λ b. HeapStands s b w.memory (entry_around a.memory)) (sym same)
+            (subst (λ m. HeapStands s (blocks_by_serial v young) m (entry_around a.memory)) (sym differs.memory) (heap_whole s
+            (blocks_by_serial v young) v.memory a whole within.heap));
       }
 
 -- ---- its frame is given back, and then it goes to the callee
 
-module _ (s : Fixed) (n : Named) (laid : Laid) (v : View) (young : List Placed) (held : Locations) (a : Around) (c : Below)
+module _ (s : Fixed) (n : NameAddresses) (laid : Laid) (v : View) (young : List Placed) (held : Locations) (a : Around) (c : Below)
     (within : Within s laid v young 0 held a c) (left : a.tries ≡ []) (none : a.raised ≡ None) (whole : is_complete a ≡ true) (arguments : List Value)
     (args : (k : ℕ) (x : Value) → slice_get arguments k ≡ Some x → (k < 16) × (held (loc.Machine (10 + k)) ≡ Some x))
     (entry : ℕ → ℕ) (f : ℕ) (entries : EntriesStand s entry) (inside : f < length s.image.funcs) where
@@ -128,7 +128,7 @@ module _ (s : Fixed) (n : Named) (laid : Laid) (v : View) (young : List Placed) 
     past : to ≡ at + 1
     imm : ℕ
     reaches : Reaches s v at rs v.memory (Holds imm)
-    code : IsCode s at (Jalr 0 6 imm)
+    code : IsInstructionAt s at (Jalr 0 6 imm)
 
   module _ (middle to address : ℕ) (wide : Reaches s v middle rs v.memory Given) (is : address ≡ code_start + 4 * entry f) where
     low : code_start + 4 * entry f < 2 ^ 28
@@ -142,12 +142,12 @@ module _ (s : Fixed) (n : Named) (laid : Laid) (v : View) (young : List Placed) 
 
     -- t1 gets a value by one more instruction
     abbrev Sixth : ℕ → View → View → Type 0
-    Sixth value z w = (slice_index w.registers 6 ≡ value) × ((q : ℕ) → (Among q (6 ∷ []) → ⊥) → slice_index w.registers q ≡ slice_index z.registers q)
+    Sixth value z w = (slice_index w.registers 6 ≡ value) × ((q : ℕ) → (AmongNumbers q (6 ∷ []) → ⊥) → slice_index w.registers q ≡ slice_index z.registers q)
 
-    apart_six : (q : ℕ) → q ≢ 6 → Among q (6 ∷ []) → ⊥
+    apart_six : (q : ℕ) → q ≢ 6 → AmongNumbers q (6 ∷ []) → ⊥
     apart_six q n i = ⊎_elim n (λ z. z) i
 
-    among_six : (q : ℕ) → Among q (6 ∷ []) → Among q rs
+    among_six : (q : ℕ) → AmongNumbers q (6 ∷ []) → AmongNumbers q rs
     among_six q i = ⊎_elim (λ h. inr (inr (inl h))) (λ z. absurd z) i
 
     -- ---- by the distance
@@ -160,7 +160,7 @@ module _ (s : Fixed) (n : Named) (laid : Laid) (v : View) (young : List Placed) 
         let same : add_word (code_start + 4 * u.place) (imm_u (upper d)) ≡ half = ap (λ p. add_word (code_start + 4 * p) (imm_u (upper d))) here in
         let both : Reaches s v (middle + 1) rs v.memory (Sixth half u) =
         reaches_more s v middle (middle + 1) rs (6 ∷ []) v.memory _ _ wide among_six
-        (reaches_set s u (middle + 1) (Auipc 6 (upper d)) 5 half (subst (λ p. IsCode s p (Auipc 6 (upper d))) (sym here) code.0) (omega
+        (reaches_set s u (middle + 1) (Auipc 6 (upper d)) 5 half (subst (λ p. IsInstructionAt s p (Auipc 6 (upper d))) (sym here) code.0) (omega
         (arith, here))
         (inl (λ q. omega (arith, q))) (sets_as s u (Auipc 6 (upper d)) 6 _ half same (sets_auipc s u 6 (upper d))) wide.changes.past.are (omega arith)
         (add_word-below _ _)) in
@@ -183,12 +183,12 @@ module _ (s : Fixed) (n : Named) (laid : Laid) (v : View) (young : List Placed) 
     abbrev Sixes : ℕ → View → Type 0
     Sixes value w = (slice_index w.registers 6 ≡ value) × Given w
 
-    high_there : IsCode s middle (Lui 6 (upper address)) → Reaches s v (middle + 1) rs v.memory (Sixes (imm_u (upper address)))
+    high_there : IsInstructionAt s middle (Lui 6 (upper address)) → Reaches s v (middle + 1) rs v.memory (Sixes (imm_u (upper address)))
     high_there code =
         let high : ℕ = imm_u (upper address) in
         let first : Reaches s v (middle + 1) rs v.memory (Sixth high u) =
         reaches_more s v middle (middle + 1) rs (6 ∷ []) v.memory _ _ wide among_six
-        (reaches_set s u (middle + 1) (Lui 6 (upper address)) 5 high (subst (λ p. IsCode s p (Lui 6 (upper address))) (sym here) code) (omega
+        (reaches_set s u (middle + 1) (Lui 6 (upper address)) 5 high (subst (λ p. IsInstructionAt s p (Lui 6 (upper address))) (sym here) code) (omega
         (arith, here))
         (inl (λ q. omega (arith, q))) (sets_lui s u 6 (upper address)) wide.changes.past.are (omega arith) (sext_word-below _ 32)) in
         reaches_as s v (middle + 1) rs rs v.memory (Sixth high u) (Sixes high) (λ q i. i)
@@ -207,7 +207,7 @@ module _ (s : Fixed) (n : Named) (laid : Laid) (v : View) (young : List Placed) 
         ap (λ x. add_word x (imm_i (low_12 address))) first.changes.holds.0 ∙ number_lands address (omega (arith, is, low)) in
         let both : Reaches s v (middle + 2) rs v.memory (Sixth address z) =
         reaches_more s v (middle + 1) (middle + 2) rs (6 ∷ []) v.memory _ _ first among_six
-        (reaches_set s z (middle + 2) (OpImm Addi 6 6 (low_12 address)) 5 address (subst (λ p. IsCode s p (OpImm Addi 6 6 (low_12 address))) (sym there)
+        (reaches_set s z (middle + 2) (OpImm Addi 6 6 (low_12 address)) 5 address (subst (λ p. IsInstructionAt s p (OpImm Addi 6 6 (low_12 address))) (sym there)
         code.1.0) (omega (arith, there))
         (inl (λ q. omega (arith, q)))
         (sets_as s z (OpImm Addi 6 6 (low_12 address)) 6 _ address value (sets_imm s z Addi 6 6 (low_12 address))) first.changes.past.are (omega arith)
@@ -222,7 +222,7 @@ module _ (s : Fixed) (n : Named) (laid : Laid) (v : View) (young : List Placed) 
                 no_offset (slice_index w.registers 6) (code_start + 4 * entry f) (h.0 ∙ is) (omega (arith, low)),
                 (h.1 2 (apart_six 2 (λ q. omega (arith, q))) ∙ first.changes.holds.1.0, h.1 1 (apart_six 1 (λ q. omega (arith, q))) ∙ first.changes.holds.1.1),
               )) both;
-          code = subst (λ p. IsCode s p (Jalr 0 6 0)) e code.1.1.0;
+          code = subst (λ p. IsInstructionAt s p (Jalr 0 6 0)) e code.1.1.0;
         }
 
     by_form : (g : Form) → HasCode s middle (call_code g 0 6 (address_of_place middle) address) → to ≡ middle + call_words g → Jumps to
@@ -231,10 +231,10 @@ module _ (s : Fixed) (n : Named) (laid : Laid) (v : View) (young : List Placed) 
     by_form Far code past = by_address code past
 
   pub named_replaces :
-      (name : List ℕ) (to : ℕ) → n.symbol name ≡ function_at s.image.funcs f → PartStands s n v.place to (given_back (frame_in laid) ++ TailCall name ∷ []) →
-      Leaves s v to (λ w. AtEntry s w young (entry f) arguments a.memory c)
+      (name : List ℕ) (to : ℕ) → n.symbol name ≡ function_at s.image.funcs f → PartStands s n v.place to (frame_release (frame_in laid) ++ TailCall name ∷ []) →
+      LeadsUpTo s v to (λ w. AtEntry s w young (entry f) arguments a.memory c)
   named_replaces name to is st =
-      let parts = splits s n v.place to (given_back (frame_in laid)) (TailCall name ∷ []) st in
+      let parts = splits s n v.place to (frame_release (frame_in laid)) (TailCall name ∷ []) st in
       let call = begins s n parts.middle to (TailCall name) [] parts.second in
       let past = nothing_more s n (parts.middle + call_words call.form) to call.rest in
       let first = given_back_reaches s n laid v young held a c within left parts.middle parts.first in

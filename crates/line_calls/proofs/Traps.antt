@@ -2,10 +2,10 @@
 use Rattle.std.proofs.Common.{◌≡◌, ◌≢◌, ℕ, ◌+◌, ◌-◌, ◌*◌, ◌%◌, ◌<◌, ◌≤◌, inl, inr, List, [], ◌∷◌, ◌++◌, map, slice_index, refl, ap, arith, ◌∙◌, sym, subst, ⊎_elim}
 use Rattle.bs_words.specs.Word.{add_word}
 use Rattle.bs_words.proofs.Below.{add_word-below}
-use Rattle.emit_rules.specs.Instructions.{addi, mv, store, low_12}
+use Rattle.emit_rules.specs.Instructions.{addi, mv, store_piece, low_12}
 use Rattle.emit_rules.specs.Traps.{pop_part, push_part, raise_words}
 use Rattle.layout_rules.specs.Laid.{address_of_place}
-use Rattle.layout_rules.specs.Words.{Named, distance, upper}
+use Rattle.layout_rules.specs.Words.{NameAddresses, distance, upper}
 use Rattle.layout_rules.proofs.Offsets.{far_lands}
 use Rattle.lin_ir.specs.Meaning.{Locations}
 use Rattle.mach_ir.specs.Acts.{Around}
@@ -16,18 +16,18 @@ use Rattle.rv_isa.specs.declared.instr.StoreWidth.TheVariants.{Sd}
 use Rattle.rv_isa.specs.declared.register.Register.TheVariants.{S1, Sp, T1}
 use Rattle.rv_machine.specs.Arithmetic.{imm_i, imm_u}
 use Rattle.rv_machine.specs.Hart.{Placed}
-use Rattle.rv_machine.specs.Memory.{Region, code_start, word, write}
+use Rattle.rv_machine.specs.Memory.{Region, code_start, memory_word, write}
 use Rattle.rv_machine.specs.Places.{stack_bottom, stack_end}
 use Rattle.rv_machine.specs.Services.{StackOut}
 use Rattle.rv_machine.specs.Sound.{HasRegions, extents}
 use Rattle.machine_laws.proofs.Memory.{has_write, word_below}
 use Rattle.rv_pieces.specs.declared.piece.Piece.TheVariants.{LabelAddress}
-use Rattle.moving_laws.specs.Stands.{Among}
+use Rattle.moving_laws.specs.Stands.{AmongNumbers}
 use Rattle.moving_laws.specs.Waiting.{IsBack, TrapsFrom, traps_at}
 use Rattle.moving_laws.specs.Words.{IsReadable}
 use Rattle.moving_laws.proofs.Usable.{stack_readable}
-use Rattle.linear_machine.specs.Relation.{Below, Laid, Within, traps_of}
-use Rattle.linear_machine.specs.View.{Ends, Fixed, HasCode, IsCode, View}
+use Rattle.linear_machine.specs.Relation.{Below, Laid, Within, waiting_trap_frames}
+use Rattle.linear_machine.specs.View.{EndsRunAfter, Fixed, HasCode, IsInstructionAt, View}
 use Rattle.linear_machine.proofs.Formats.{sets_auipc, sets_imm, sets_load}
 use Rattle.linear_machine.proofs.Jumps.{add_near, less_near}
 use Rattle.linear_machine.proofs.Sequences.{sets_as}
@@ -42,17 +42,17 @@ use Rattle.line_calls.proofs.Tailing.{place_near}
 -- ---- where the innermost trap frame lies
 
 pub record IsTrap (s : Fixed) (m : List Region) (trap : ℕ) : Type 0 where
-  pub back : IsBack (word m trap)
+  pub back : IsBack (memory_word m trap)
   pub low : s.base ≤ trap
   pub high : trap + 16 ≤ stack_end
   pub even : trap % 8 ≡ 0
 
-pub is_trap : (s : Fixed) (m : List Region) (trap : ℕ) (ts : List (ℕ × ℕ)) → word m stack_bottom ≡ code_start + 8 → TrapsFrom s.base m trap ts stack_bottom →
+pub is_trap : (s : Fixed) (m : List Region) (trap : ℕ) (ts : List (ℕ × ℕ)) → memory_word m stack_bottom ≡ code_start + 8 → TrapsFrom s.base m trap ts stack_bottom →
     IsTrap s m trap
 is_trap s m trap [] bottom t =
     let e : trap ≡ stack_bottom = t in
     let base = s.stack.high in
-    let there : word m trap ≡ code_start + 8 = ap (word m) e ∙ bottom in
+    let there : memory_word m trap ≡ code_start + 8 = ap (memory_word m) e ∙ bottom in
     record {
       back = record { low = omega (arith, there); high = omega (arith, there); even = ap (λ w. w % 4) there };
       low = omega (arith, e, base);
@@ -65,9 +65,9 @@ is_trap s m trap (x ∷ ts) bottom t = record { back = subst IsBack (sym t.4) t.
 pub own_trap_of : (s : Fixed) (laid : Laid) (v : View) (young : List Placed) (held : Locations) (a : Around) (c : Below) → Within s laid v young 0 held a c →
     (l : ℕ) (rest : List ℕ) → a.tries ≡ l ∷ rest → slice_index v.registers 9 ≡ slice_index v.registers 2
 own_trap_of s laid v young held a c within l rest e = (subst (λ ts. TrapsFrom s.base v.memory (slice_index v.registers 9)
-    (traps_at (slice_index v.registers 2) (map laid.handler ts) ++ traps_of c.waiting c.frames) stack_bottom) e within.traps).0
+    (traps_at (slice_index v.registers 2) (map laid.handler ts) ++ waiting_trap_frames c.waiting c.frames) stack_bottom) e within.traps).0
 
-module _ (s : Fixed) (n : Named) (laid : Laid) (v : View) (young : List Placed) (held : Locations) (a : Around) (c : Below)
+module _ (s : Fixed) (n : NameAddresses) (laid : Laid) (v : View) (young : List Placed) (held : Locations) (a : Around) (c : Below)
     (within : Within s laid v young 0 held a c) where
   abbrev changed : List ℕ
   changed = 2 ∷ 6 ∷ 7 ∷ 9 ∷ []
@@ -92,9 +92,9 @@ module _ (s : Fixed) (n : Named) (laid : Laid) (v : View) (young : List Placed) 
     words =
         let a1 = begins s n v.place to (LabelAddress T1 l) _ st in
         let e1 : v.place + 2 ≡ v.place + 1 + 1 = omega arith in
-        let a2 = known s n (v.place + 1 + 1) to (OpImm Addi 2 2 4080) (store Sd T1 Sp 0 ∷ store Sd S1 Sp 8 ∷ mv S1 Sp ∷ [])
-        (subst (λ q. PartStands s n q to (addi Sp Sp 0xFFFFFFFFFFFFFFF0 ∷ store Sd T1 Sp 0 ∷ store Sd S1 Sp 8 ∷ mv S1 Sp ∷ [])) e1 a1.rest) in
-        let a3 = known s n (v.place + 1 + 1 + 1) to (Store Sd 2 6 0) (store Sd S1 Sp 8 ∷ mv S1 Sp ∷ []) a2.1 in
+        let a2 = known s n (v.place + 1 + 1) to (OpImm Addi 2 2 4080) (store_piece Sd T1 Sp 0 ∷ store_piece Sd S1 Sp 8 ∷ mv S1 Sp ∷ [])
+        (subst (λ q. PartStands s n q to (addi Sp Sp 0xFFFFFFFFFFFFFFF0 ∷ store_piece Sd T1 Sp 0 ∷ store_piece Sd S1 Sp 8 ∷ mv S1 Sp ∷ [])) e1 a1.rest) in
+        let a3 = known s n (v.place + 1 + 1 + 1) to (Store Sd 2 6 0) (store_piece Sd S1 Sp 8 ∷ mv S1 Sp ∷ []) a2.1 in
         let a4 = known s n (v.place + 1 + 1 + 1 + 1) to (Store Sd 2 9 8) (mv S1 Sp ∷ []) a3.1 in
         let a5 = single s n (v.place + 1 + 1 + 1 + 1 + 1) to (OpImm Addi 9 2 0) a4.1 in
         ((a1.code.0, (a1.code.1.0, (a2.0, (a3.0, (a4.0, (a5.0, tt)))))), a5.1)
@@ -116,7 +116,7 @@ module _ (s : Fixed) (n : Named) (laid : Laid) (v : View) (young : List Placed) 
         reaches_as s v (v.place + 1 + 1) (6 ∷ []) (2 ∷ 6 ∷ 7 ∷ 9 ∷ []) v.memory _ _ (λ q i. ⊎_elim (λ h. inr (inl h)) (λ z. absurd z) i)
         (λ w m p h. (h.0, λ q other. p.others q (λ i. ⊎_elim other (λ z. z) i)))
         (reaches_more s v (v.place + 1) (v.place + 1 + 1) (6 ∷ []) (6 ∷ []) v.memory _ _ first (λ q i. i)
-        (reaches_set s u (v.place + 1 + 1) (OpImm Addi 6 6 (low_12 d)) 5 (laid.handler l) (subst (λ q. IsCode s q (OpImm Addi 6 6 (low_12 d)))
+        (reaches_set s u (v.place + 1 + 1) (OpImm Addi 6 6 (low_12 d)) 5 (laid.handler l) (subst (λ q. IsInstructionAt s q (OpImm Addi 6 6 (low_12 d)))
         (sym here) words.0.1.0)
         (omega (arith, here)) (inl (λ q. omega (arith, q))) (sets_as s u (OpImm Addi 6 6 (low_12 d)) 6 _ _ sum (sets_imm s u Addi 6 6 (low_12 d)))
         first.changes.past.are (omega arith) (omega (arith, high))))
@@ -135,13 +135,13 @@ module _ (s : Fixed) (n : Named) (laid : Laid) (v : View) (young : List Placed) 
         (sets_imm s named.changes.view Addi 2 2 4080)
 
     -- the stack is passed
-    pub push_out : slice_index v.registers 2 < s.base + 16 → Ends s (named.count + 1) v StackOut
+    pub push_out : slice_index v.registers 2 < s.base + 16 → EndsRunAfter s (named.count + 1) v StackOut
     push_out short =
         let lo = within.low in
         let b = s.stack.low in
         then_ends s named.count 1 v named.changes.view StackOut (sym named.changes.leads.calls) named.changes.leads
         (out_step s named.changes.view (OpImm Addi 2 2 4080) (slice_index v.registers 2 - 16)
-        (subst (λ q. IsCode s q (OpImm Addi 2 2 4080)) (sym at_named) words.0.1.1.0) (omega (arith, short, lo, b)) lowers_sp)
+        (subst (λ q. IsInstructionAt s q (OpImm Addi 2 2 4080)) (sym at_named) words.0.1.1.0) (omega (arith, short, lo, b)) lowers_sp)
 
     module _ (fits : s.base + 16 ≤ slice_index v.registers 2) where
       m1 : List Region
@@ -149,15 +149,15 @@ module _ (s : Fixed) (n : Named) (laid : Laid) (v : View) (young : List Placed) 
 
       lowered : Reaches s v (v.place + 1 + 1 + 1) (2 ∷ 6 ∷ 7 ∷ 9 ∷ []) v.memory
           (λ w. (slice_index w.registers 2 ≡ slice_index v.registers 2 - 16)
-          × ((q : ℕ) → (Among q (2 ∷ []) → ⊥) → slice_index w.registers q ≡ slice_index named.changes.view.registers q))
+          × ((q : ℕ) → (AmongNumbers q (2 ∷ []) → ⊥) → slice_index w.registers q ≡ slice_index named.changes.view.registers q))
       lowered =
           let e = at_named in
-          let word = within.own.are.words 2 in
+          let memory_word = within.own.are.words 2 in
           reaches_more s v (v.place + 1 + 1) (v.place + 1 + 1 + 1) (2 ∷ 6 ∷ 7 ∷ 9 ∷ []) (2 ∷ []) v.memory _ _ named
           (λ q i. ⊎_elim (λ h. inl h) (λ z. absurd z) i)
           (reaches_set s named.changes.view (v.place + 1 + 1 + 1) (OpImm Addi 2 2 4080) 1 (slice_index v.registers 2 - 16)
-          (subst (λ q. IsCode s q (OpImm Addi 2 2 4080)) (sym at_named) words.0.1.1.0) (omega (arith, e)) (inr (omega (arith, fits))) lowers_sp
-          named.changes.past.are (omega arith) (omega (arith, word)))
+          (subst (λ q. IsInstructionAt s q (OpImm Addi 2 2 4080)) (sym at_named) words.0.1.1.0) (omega (arith, e)) (inr (omega (arith, fits))) lowers_sp
+          named.changes.past.are (omega arith) (omega (arith, memory_word)))
 
       stored_handler : Reaches s v (v.place + 1 + 1 + 1 + 1) (2 ∷ 6 ∷ 7 ∷ 9 ∷ []) (write v.memory (slice_index v.registers 2 - 16) (laid.handler l))
           (λ w. w.registers ≡ lowered.changes.view.registers)
@@ -213,7 +213,7 @@ module _ (s : Fixed) (n : Named) (laid : Laid) (v : View) (young : List Placed) 
           (write (write v.memory (slice_index v.registers 2 - 16) (laid.handler l)) (slice_index v.registers 2 - 8)
           (slice_index v.registers 9)) _ _ stored_both
           (λ q i. ⊎_elim (λ h. inr (inr (inr (inl h)))) (λ z. absurd z) i)
-          (reaches_set s u to (OpImm Addi 9 2 0) 8 (slice_index v.registers 2 - 16) (subst (λ q. IsCode s q (OpImm Addi 9 2 0))
+          (reaches_set s u to (OpImm Addi 9 2 0) 8 (slice_index v.registers 2 - 16) (subst (λ q. IsInstructionAt s q (OpImm Addi 9 2 0))
           (sym here) words.0.1.1.1.1.1.0)
           (omega (arith, here, e)) (inl (λ q. omega (arith, q)))
           (sets_as s u (OpImm Addi 9 2 0) 9 _ _ (no_offset (slice_index u.registers 2) (slice_index v.registers 2 - 16) sp (omega (arith, h)))
@@ -223,7 +223,7 @@ module _ (s : Fixed) (n : Named) (laid : Laid) (v : View) (young : List Placed) 
   -- ---- the innermost trap frame
 
   innermost : IsTrap s v.memory (slice_index v.registers 9)
-  innermost = is_trap s v.memory (slice_index v.registers 9) (traps_at (slice_index v.registers 2) (map laid.handler a.tries) ++ traps_of c.waiting c.frames)
+  innermost = is_trap s v.memory (slice_index v.registers 9) (traps_at (slice_index v.registers 2) (map laid.handler a.tries) ++ waiting_trap_frames c.waiting c.frames)
       within.waits.bottom within.traps
 
   pub can0 : IsReadable v.memory (slice_index v.registers 9)
@@ -252,7 +252,7 @@ module _ (s : Fixed) (n : Named) (laid : Laid) (v : View) (young : List Placed) 
   pub pop_reaches :
       (l to : ℕ) (rest : List ℕ) → a.tries ≡ l ∷ rest → PartStands s n v.place to pop_part →
       Reaches s v to (2 ∷ 6 ∷ 7 ∷ 9 ∷ []) v.memory (λ w. (slice_index w.registers 2 ≡ slice_index v.registers 2 + 16)
-      × (slice_index w.registers 9 ≡ word v.memory (slice_index v.registers 2 + 8)))
+      × (slice_index w.registers 9 ≡ memory_word v.memory (slice_index v.registers 2 + 8)))
   pop_reaches l to rest e st =
       let trap = own_trap l rest e in
       let high = innermost.high in
@@ -263,12 +263,12 @@ module _ (s : Fixed) (n : Named) (laid : Laid) (v : View) (young : List Placed) 
       let lands = last.1 in
       let x : ℕ = slice_index v.registers 2 + 8 in
       let can : IsReadable v.memory (slice_index v.registers 2 + 8) = subst (λ y. IsReadable v.memory (y + 8)) trap can8 in
-      let first = reaches_set s v (v.place + 1) (Load Ld 9 2 8) 8 (word v.memory x) first_word.0 refl (inl (λ q. omega (arith, q)))
+      let first = reaches_set s v (v.place + 1) (Load Ld 9 2 8) 8 (memory_word v.memory x) first_word.0 refl (inl (λ q. omega (arith, q)))
       (sets_load s v 9 2 8 x (add_near (slice_index v.registers 2) 8 x (omega arith) refl (omega (arith, trap, high))) (λ q. omega (arith, q, trap, low, b))
       (omega (arith, trap, low, b)) can)
       within.own.are (omega arith) (word_below v.memory x) in
       let wide = reaches_as s v (v.place + 1) (9 ∷ []) (2 ∷ 6 ∷ 7 ∷ 9 ∷ []) v.memory _
-      (λ w. (slice_index w.registers 9 ≡ word v.memory x) × (slice_index w.registers 2 ≡ slice_index v.registers 2))
+      (λ w. (slice_index w.registers 9 ≡ memory_word v.memory x) × (slice_index w.registers 2 ≡ slice_index v.registers 2))
       (λ q i. ⊎_elim (λ h. inr (inr (inr (inl h)))) (λ z. absurd z) i)
       (λ w m p h. (h, p.others 2 (λ i. ⊎_elim (λ q. omega (arith, q)) (λ z. z) i))) first in
       pop_ends l to rest e lands wide last.0
@@ -276,10 +276,10 @@ module _ (s : Fixed) (n : Named) (laid : Laid) (v : View) (young : List Placed) 
       pop_ends :
           (l to : ℕ) (rest : List ℕ) → a.tries ≡ l ∷ rest → to ≡ v.place + 1 + 1 →
           (first : Reaches s v (v.place + 1) (2 ∷ 6 ∷ 7 ∷ 9 ∷ []) v.memory
-          (λ w. (slice_index w.registers 9 ≡ word v.memory (slice_index v.registers 2 + 8)) × (slice_index w.registers 2 ≡ slice_index v.registers 2))) →
-          IsCode s (v.place + 1) (OpImm Addi 2 2 16) →
+          (λ w. (slice_index w.registers 9 ≡ memory_word v.memory (slice_index v.registers 2 + 8)) × (slice_index w.registers 2 ≡ slice_index v.registers 2))) →
+          IsInstructionAt s (v.place + 1) (OpImm Addi 2 2 16) →
           Reaches s v to (2 ∷ 6 ∷ 7 ∷ 9 ∷ []) v.memory (λ w. (slice_index w.registers 2 ≡ slice_index v.registers 2 + 16)
-          × (slice_index w.registers 9 ≡ word v.memory (slice_index v.registers 2 + 8)))
+          × (slice_index w.registers 9 ≡ memory_word v.memory (slice_index v.registers 2 + 8)))
       pop_ends l to rest e lands first code =
           let trap = own_trap l rest e in
           let high = innermost.high in
@@ -290,7 +290,7 @@ module _ (s : Fixed) (n : Named) (laid : Laid) (v : View) (young : List Placed) 
           reaches_as s v to (2 ∷ 6 ∷ 7 ∷ 9 ∷ []) (2 ∷ 6 ∷ 7 ∷ 9 ∷ []) v.memory _ _ (λ q i. i)
           (λ w m p h. (h.0, h.1 9 (λ i. ⊎_elim (λ q. omega (arith, q)) (λ z. z) i) ∙ first.changes.holds.0))
           (reaches_more s v (v.place + 1) to (2 ∷ 6 ∷ 7 ∷ 9 ∷ []) (2 ∷ []) v.memory _ _ first (λ q i. ⊎_elim (λ h. inl h) (λ z. absurd z) i)
-          (reaches_set s u to (OpImm Addi 2 2 16) 1 (slice_index v.registers 2 + 16) (subst (λ q. IsCode s q (OpImm Addi 2 2 16)) (sym here) code)
+          (reaches_set s u to (OpImm Addi 2 2 16) 1 (slice_index v.registers 2 + 16) (subst (λ q. IsInstructionAt s q (OpImm Addi 2 2 16)) (sym here) code)
           (omega (arith, here, lands)) (inr (omega (arith, low)))
           (sets_as s u (OpImm Addi 2 2 16) 2 _ _ (add_near (slice_index u.registers 2) 16 (slice_index v.registers 2 + 16) (omega arith) (omega (arith, sp))
           (omega (arith, trap, high))) (sets_imm s u Addi 2 2 16))

@@ -6,11 +6,11 @@ use Rattle.bs_words.specs.declared.types.Comp.{Comp}
 use Rattle.bs_words.specs.declared.types.Ret.{Ret}
 use Rattle.bs_words.specs.declared.types.Ret.TheVariants as ret
 use Rattle.emit_rules.specs.Calls.{call_words, external_words, mark_of}
-use Rattle.emit_rules.specs.Emitted.{part_of}
-use Rattle.emit_rules.specs.Entry.{Frame}
-use Rattle.layout_rules.specs.Laid.{address_of_place, desc_at}
-use Rattle.layout_rules.specs.Words.{Named}
-use Rattle.lin_ir.specs.Formed.{IsFormed, IsLocation, IsQuiet, comps, formed_flow, formed_op, FlowHasForm, pushes}
+use Rattle.emit_rules.specs.Emitted.{part_of_line}
+use Rattle.emit_rules.specs.Entry.{FrameLayout}
+use Rattle.layout_rules.specs.Laid.{address_of_place, descriptor_laid_at}
+use Rattle.layout_rules.specs.Words.{NameAddresses}
+use Rattle.lin_ir.specs.Formed.{IsFormedLine, IsLocation, IsQuiet, comps, formed_flow, formed_op, FlowHasForm, pushes}
 use Rattle.lin_ir.specs.Meaning.{Locations, NamedAt, after_label, step, values}
 use Rattle.lin_ir.specs.Walks.{may_raise, targets}
 use Rattle.lin_ir.specs.declared.descr.Descr.{Descr}
@@ -21,9 +21,9 @@ use Rattle.lin_ir.specs.declared.lin.LinOp.TheVariants as lin
 use Rattle.lin_ir.specs.declared.lin.Line.{Line}
 use Rattle.lin_ir.specs.declared.lin.Spot.{Spot}
 use Rattle.mach_ir.specs.Acts.{Around, On, if_known}
-use Rattle.mach_ir.specs.Blocks.{bytes_of}
-use Rattle.mach_ir.specs.Forms.{HasForm, IsBlock, IsCallee, allocates, by_register, calls, calls_out, raises, results_of, returns, tail_calls}
-use Rattle.mach_ir.specs.Runs.{Place}
+use Rattle.mach_ir.specs.Blocks.{total_block_bytes}
+use Rattle.mach_ir.specs.Forms.{HasForm, IsBlock, IsCallee, allocates, by_register, calls, calls_out, raises, results_of_type, returns, tail_calls}
+use Rattle.mach_ir.specs.Runs.{ActivationSetting}
 use Rattle.mach_ir.specs.Walks.{OneOf, this}
 use Rattle.mach_ir.specs.declared.blocks.NewBlock.{NewBlock}
 use Rattle.mach_ir.specs.declared.op.Access.TheVariants as access
@@ -60,7 +60,7 @@ use Rattle.line_calls.proofs.TailLines.{tail_named, tail_registered}
 
 -- ---- forms
 
-call_results : (whom : Callee) (result : Ret) (cs ds : List Comp) → HasForm (op.Calling (calling.Call whom result)) cs ds → ds ≡ results_of result
+call_results : (whom : Callee) (result : Ret) (cs ds : List Comp) → HasForm (op.Calling (calling.Call whom result)) cs ds → ds ≡ results_of_type result
 call_results whom result cs ds (calls arguments is) = refl
 
 pub record IsMore (cs : List Comp) : Type 0 where
@@ -81,7 +81,7 @@ tail_results : (whom : Callee) (result : Ret) (cs ds : List Comp) → HasForm (o
 tail_results whom result cs ds (tail_calls arguments is) = refl
 
 external_form : (row : declared.External) (frame : Bool) (cs ds : List Comp) → HasForm (op.Calling (calling.External row frame)) cs ds →
-    (cs ≡ row.params) × (ds ≡ results_of row.result)
+    (cs ≡ row.params) × (ds ≡ results_of_type row.result)
 external_form row frame cs ds calls_out = (refl, refl)
 
 return_form : (cs ds : List Comp) → HasForm (op.Leaving leaving.Return) cs ds → ((cs ≡ []) ⊎ ((t : Comp) × (cs ≡ t ∷ []))) × (ds ≡ [])
@@ -94,7 +94,7 @@ raise_form cs ds (raises {raised}) = ((raised, refl), refl)
 pub record IsAllocation (blocks : List NewBlock) (cs ds : List Comp) : Type 0 where
   pub some : blocks ≡ [] → ⊥
   pub all : All IsBlock blocks
-  pub most : bytes_of blocks ≤ 2056
+  pub most : total_block_bytes blocks ≤ 2056
   pub as_many : length ds ≡ length blocks
   pub none : cs ≡ []
 
@@ -104,14 +104,14 @@ alloc_form blocks cs ds (allocates some all most as_many) = record { some = some
 -- ---- lines
 
 -- a part and its descriptors
-pub record PartAt (s : Fixed) (n : Named) (at to : ℕ) (ps : List Piece) : Type 0 where
+pub record PartAt (s : Fixed) (n : NameAddresses) (at to : ℕ) (ps : List Piece) : Type 0 where
   pub part : PartStands s n at to ps
   pub marks : AreMarked s at ps part.forms
 
-frame_is : (laid : Laid) (f : Frame) → f.bytes ≡ laid.frame → f.saves ≡ laid.saves → f ≡ frame_in laid
+frame_is : (laid : Laid) (f : FrameLayout) → f.bytes ≡ laid.frame → f.saves ≡ laid.saves → f ≡ frame_in laid
 frame_is laid f e g = ap₂ (λ b t. record { bytes = b; saves = t }) e g
 
-module _ (s : Fixed) (n : Named) (laid : Laid) (live : List Line → Type 0) (entry : ℕ → ℕ) (c : Below) (place : Place) (named : NamedAt) (m : Lin) (f : Frame)
+module _ (s : Fixed) (n : NameAddresses) (laid : Laid) (live : List Line → Type 0) (entry : ℕ → ℕ) (c : Below) (place : ActivationSetting) (named : NamedAt) (m : Lin) (f : FrameLayout)
     (d : Option Descr) (next : List Line) (v : View) (young : List Placed) (held file : Locations) (a : Around) (within : Within s laid v young 0 held a c)
     (k : ℕ) where
   pub record Given (i : Line) : Type 0 where
@@ -125,11 +125,11 @@ module _ (s : Fixed) (n : Named) (laid : Laid) (live : List Line → Type 0) (en
   abbrev pub Followed : Line → Type 0
   Followed i = FollowsSo (before_service i.op k) s laid live entry c v (laid.frame + 16 * length a.tries) (step place named m (record { rest = i ∷ next; file = file; around = a }))
 
-  part_at : (i : Line) → Given i → PartAt s n v.place (v.place + k) (part_of (length a.tries) (frame_in laid) d i)
+  part_at : (i : Line) → Given i → PartAt s n v.place (v.place + k) (part_of_line (length a.tries) (frame_in laid) d i)
   part_at i g =
-      subst (λ z. PartAt s n v.place z (part_of (length a.tries) (frame_in laid) d i)) g.behind
-      (subst (λ z. PartAt s n z (laid.part (length next)) (part_of (length a.tries) (frame_in laid) d i)) (sym g.here)
-      (subst (λ h. PartAt s n (laid.part (suc (length next))) (laid.part (length next)) (part_of (length a.tries) h d i))
+      subst (λ z. PartAt s n v.place z (part_of_line (length a.tries) (frame_in laid) d i)) g.behind
+      (subst (λ z. PartAt s n z (laid.part (length next)) (part_of_line (length a.tries) (frame_in laid) d i)) (sym g.here)
+      (subst (λ h. PartAt s n (laid.part (suc (length next))) (laid.part (length next)) (part_of_line (length a.tries) h d i))
       (frame_is laid f g.lines.frame g.lines.saves) (record { part = g.lines.part; marks = g.points.marks })))
 
   handlers_of : (i : Line) → Given i → (l : ℕ) (rest : List ℕ) → a.tries ≡ l ∷ rest →
@@ -145,13 +145,13 @@ module _ (s : Fixed) (n : Named) (laid : Laid) (live : List Line → Type 0) (en
   dead_of i g one loud l = ⊎_elim (λ sets. g.points.unwritten sets.0 sets.1) (λ q. loud q.0) (g.lines.spare.on On one l)
 
   -- its descriptor
-  some_part : (i : Line) → Given i → (e : Descr) → d ≡ Some e → PartAt s n v.place (v.place + k) (part_of (length a.tries) (frame_in laid) (Some e) i)
-  some_part i g e is = subst (λ o. PartAt s n v.place (v.place + k) (part_of (length a.tries) (frame_in laid) o i)) is (part_at i g)
+  some_part : (i : Line) → Given i → (e : Descr) → d ≡ Some e → PartAt s n v.place (v.place + k) (part_of_line (length a.tries) (frame_in laid) (Some e) i)
+  some_part i g e is = subst (λ o. PartAt s n v.place (v.place + k) (part_of_line (length a.tries) (frame_in laid) o i)) is (part_at i g)
 
   -- a descriptor at the end of a part
   pub record Ended (xs : List Piece) (e : Descr) : Type 0 where
     pub part : PartStands s n v.place (v.place + k) xs
-    pub there : descriptor_at s.image.descs (address_of_place (v.place + k)) ≡ Some (desc_at (v.place + k) e)
+    pub there : descriptor_at s.image.descs (address_of_place (v.place + k)) ≡ Some (descriptor_laid_at (v.place + k) e)
     pub inside : v.place + k < length s.image.code
 
   ended : (xs : List Piece) (e : Descr) → PartAt s n v.place (v.place + k) (xs ++ Descriptor e ∷ []) → Ended xs e
@@ -160,7 +160,7 @@ module _ (s : Fixed) (n : Named) (laid : Laid) (live : List Line → Type 0) (en
       let same : q.middle ≡ v.place + k = sym (nothing_more s n q.middle (v.place + k) q.second) in
       record {
         part = subst (λ z. PartStands s n v.place z xs) same q.first;
-        there = subst (λ z. descriptor_at s.image.descs (address_of_place z) ≡ Some (desc_at z e)) same q.there;
+        there = subst (λ z. descriptor_at s.image.descs (address_of_place z) ≡ Some (descriptor_laid_at z e)) same q.there;
         inside = subst (λ z. z < length s.image.code) same q.inside;
       }
 
@@ -387,13 +387,13 @@ module _ (s : Fixed) (n : Named) (laid : Laid) (live : List Line → Type 0) (en
   flow_follows (flow.Branch t l) args results form turn g = elim turn [ ]
   flow_follows (flow.Switch ls) args results form turn g = elim turn [ ]
 
-  line_follows : (i : Line) → IsFormed i → IsTurn i.op → Given i → Followed i
+  line_follows : (i : Line) → IsFormedLine i → IsTurn i.op → Given i → Followed i
   line_follows _ (formed_op {f} {args} {results} form) turn g = op_follows f args results form turn g
   line_follows _ (formed_flow {f} {args} {results} form) turn g = flow_follows f args results form turn g
 
 -- The machine follows each of these lines.
 pub lines_follow :
-    (s : Fixed) (n : Named) (laid : Laid) (live : List Line → Type 0) (entry : ℕ → ℕ) (c : Below) (place : Place) (named : NamedAt) (m : Lin) (f : Frame)
+    (s : Fixed) (n : NameAddresses) (laid : Laid) (live : List Line → Type 0) (entry : ℕ → ℕ) (c : Below) (place : ActivationSetting) (named : NamedAt) (m : Lin) (f : FrameLayout)
     (d : Option Descr) (i : Line) (next : List Line) (v : View) (file : Locations) (a : Around) (k : ℕ) → IsTurn i.op →
     (lines : LineStands s laid n m place.setting live a.tries f d i next) →
     PointStands s laid m place.setting named entry (length a.tries) f d i next lines.part.forms → IsReadyFor i a →

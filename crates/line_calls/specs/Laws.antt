@@ -2,16 +2,16 @@
 use Rattle.std.specs.Prelude.{◌≡◌, ℕ, suc, ◌+◌, ◌*◌, ◌≤◌, List, ◌∷◌, length, Option, Some}
 use Rattle.bs_words.specs.Memory.{Memory}
 use Rattle.bs_words.specs.declared.values.Value.{Value}
-use Rattle.emit_rules.specs.Entry.{Frame, entry}
-use Rattle.layout_rules.specs.Words.{Named}
+use Rattle.emit_rules.specs.Entry.{FrameLayout, entry_pieces}
+use Rattle.layout_rules.specs.Words.{NameAddresses}
 use Rattle.lin_ir.specs.Formed.{places_of}
-use Rattle.lin_ir.specs.Meaning.{Locations, NamedAt, State, start, step}
+use Rattle.lin_ir.specs.Meaning.{Locations, NamedAt, State, linear_start, step}
 use Rattle.lin_ir.specs.declared.descr.Descr.{Descr}
 use Rattle.lin_ir.specs.declared.lin.Lin.{Lin}
 use Rattle.lin_ir.specs.declared.lin.Line.{Line}
 use Rattle.mach_ir.specs.Acts.{Around}
-use Rattle.mach_ir.specs.Runs.{Place}
-use Rattle.mach_ir.specs.Seats.{AreSeated, InOrder, argument_places}
+use Rattle.mach_ir.specs.Runs.{ActivationSetting}
+use Rattle.mach_ir.specs.Seats.{AreSeated, InOrder, argument_locations}
 use Rattle.linear_machine.specs.Arrival.{ArrivesIn}
 use Rattle.linear_machine.specs.Follows.{IsAt, IsEntered, needs_of}
 use Rattle.linear_machine.specs.Relation.{Below, Laid}
@@ -22,7 +22,7 @@ use Rattle.line_calls.specs.Calls.{FollowsSo}
 use Rattle.line_calls.specs.Points.{IsReadyFor, IsTurn, PointStands, before_service}
 
 -- the frame of a function that is laid so
-abbrev pub frame_in : Laid → Frame
+abbrev pub frame_in : Laid → FrameLayout
 frame_in laid = record { bytes = laid.frame; saves = laid.saves }
 
 -- A line of one of these kinds, whose part is in the image from its place on, is followed in at
@@ -30,8 +30,8 @@ frame_in laid = record { bytes = laid.frame; saves = laid.saves }
 -- calls are below what it has in use.
 abbrev pub LineFollows : (List Line → Type 0) → Type 0
 LineFollows live =
-    (s : Fixed) (n : Named) (laid : Laid) (entries : ℕ → ℕ) (c : Below) (place : Place)
-    (named : NamedAt) (m : Lin) (f : Frame) (d : Option Descr) (i : Line) (next : List Line)
+    (s : Fixed) (n : NameAddresses) (laid : Laid) (entries : ℕ → ℕ) (c : Below) (place : ActivationSetting)
+    (named : NamedAt) (m : Lin) (f : FrameLayout) (d : Option Descr) (i : Line) (next : List Line)
     (v : View) (file : Locations) (a : Around) (words : ℕ) → IsTurn i.op →
     (lines : LineStands s laid n m place.setting live a.tries f d i next) →
     PointStands s laid m place.setting named entries (length a.tries) f d i next
@@ -44,8 +44,8 @@ LineFollows live =
 -- Every line is followed so, of whatever kind it is.
 abbrev pub EveryLineFollows : (List Line → Type 0) → Type 0
 EveryLineFollows live =
-    (s : Fixed) (n : Named) (laid : Laid) (entries : ℕ → ℕ) (c : Below) (place : Place)
-    (named : NamedAt) (m : Lin) (f : Frame) (d : Option Descr) (i : Line) (next : List Line)
+    (s : Fixed) (n : NameAddresses) (laid : Laid) (entries : ℕ → ℕ) (c : Below) (place : ActivationSetting)
+    (named : NamedAt) (m : Lin) (f : FrameLayout) (d : Option Descr) (i : Line) (next : List Line)
     (v : View) (file : Locations) (a : Around) (words : ℕ) →
     (lines : LineStands s laid n m place.setting live a.tries f d i next) →
     (IsTurn i.op →
@@ -62,12 +62,12 @@ EveryLineFollows live =
 -- arguments in its parameters, or the stack is passed.
 abbrev pub EntryFollows : (List Line → Type 0) → Type 0
 EntryFollows live =
-    (s : Fixed) (n : Named) (laid : Laid) (entries : ℕ → ℕ) (k : ℕ) (c : Below) (place : Place)
+    (s : Fixed) (n : NameAddresses) (laid : Laid) (entries : ℕ → ℕ) (k : ℕ) (c : Below) (place : ActivationSetting)
     (m : Lin) (v : View) (arguments : List Value) (memory : Memory) (words : ℕ) →
     laid.frame ≤ 1048576 →
-    PartStands s n (entries k) (entries k + words) (entry (frame_in laid)) →
+    PartStands s n (entries k) (entries k + words) (entry_pieces (frame_in laid)) →
     laid.part (length m.code) ≡ entries k + words →
-    AreSeated (InOrder argument_places) (places_of m.params) →
+    AreSeated (InOrder argument_locations) (places_of m.params) →
     IsEntered s entries k arguments memory c v → (u : State) →
-    start place m arguments memory ≡ Some u →
+    linear_start place m arguments memory ≡ Some u →
     ArrivesIn 0 words s (needs_of laid c u) v (IsAt s laid live c u)

@@ -4,13 +4,13 @@ use Rattle.bs_words.specs.Fits.{data_start}
 use Rattle.bs_words.specs.declared.types.Comp.{Comp}
 use Rattle.bs_words.specs.declared.types.Ret.{Ret}
 use Rattle.cmm_meaning.specs.Setting.{Setting}
-use Rattle.emit_rules.specs.Emitted.{part_of}
-use Rattle.emit_rules.specs.Entry.{Frame}
+use Rattle.emit_rules.specs.Emitted.{part_of_line}
+use Rattle.emit_rules.specs.Entry.{FrameLayout}
 use Rattle.layout_rules.specs.declared.form.Form.{Form}
-use Rattle.layout_rules.specs.Forms.{words_of}
-use Rattle.layout_rules.specs.Laid.{address_of_place, desc_at}
+use Rattle.layout_rules.specs.Forms.{piece_words}
+use Rattle.layout_rules.specs.Laid.{address_of_place, descriptor_laid_at}
 use Rattle.lin_ir.specs.Formed.{spare}
-use Rattle.lin_ir.specs.Meaning.{NamedAt, after_label, is_named, passes_frame}
+use Rattle.lin_ir.specs.Meaning.{NamedAt, after_label, is_named_location, passes_frame}
 use Rattle.lin_ir.specs.Walks.{leaves}
 use Rattle.lin_ir.specs.declared.descr.Descr.{Descr}
 use Rattle.lin_ir.specs.declared.lin.Flow.TheVariants as flow
@@ -36,17 +36,17 @@ use Rattle.linear_machine.specs.View.{Fixed}
 -- ---- descriptors
 
 -- a descriptor is found at the address of the word after it, and there is such a word
-abbrev pub IsMarked : Fixed → (at : ℕ) → Piece → Type 0
-IsMarked s at (Descriptor d) =
-    (descriptor_at s.image.descs (address_of_place at) ≡ Some (desc_at at d))
+abbrev pub IsDescriptorFound : Fixed → (at : ℕ) → Piece → Type 0
+IsDescriptorFound s at (Descriptor d) =
+    (descriptor_at s.image.descs (address_of_place at) ≡ Some (descriptor_laid_at at d))
     × (at < length s.image.code)
-IsMarked s at _ = Unit {0}
+IsDescriptorFound s at _ = Unit {0}
 
 -- so is each one among the pieces, the first of which is at this place
 abbrev pub AreMarked : Fixed → (at : ℕ) → List Piece → List Form → Type 0
 AreMarked s at [] forms = Unit {0}
 AreMarked s at (p ∷ ps) [] = Unit {0}
-AreMarked s at (p ∷ ps) (f ∷ forms) = IsMarked s at p × AreMarked s (at + words_of p f) ps forms
+AreMarked s at (p ∷ ps) (f ∷ forms) = IsDescriptorFound s at p × AreMarked s (at + piece_words p f) ps forms
 
 -- ---- entries
 
@@ -58,23 +58,23 @@ pub record EntriesStand (s : Fixed) (entry : ℕ → ℕ) : Type 0 where
 -- What is known of a line besides its words: what its descriptor says, where there is one, in which
 -- functions and data there are. The words are in these forms.
 pub record PointStands (s : Fixed) (laid : Laid) (m : Lin) (c : Setting) (named : NamedAt)
-    (entry : ℕ → ℕ) (traps : ℕ) (f : Frame) (d : Option Descr) (i : Line) (next : List Line)
+    (entry : ℕ → ℕ) (traps : ℕ) (f : FrameLayout) (d : Option Descr) (i : Line) (next : List Line)
     (forms : List Form) : Type 0 where
   pub entries : EntriesStand s entry
   -- the data end where the setting says
   pub end : c.end ≡ data_start + length s.image.bytes
-  pub marks : AreMarked s (laid.part (suc (length next))) (part_of traps f d i) forms
+  pub marks : AreMarked s (laid.part (suc (length next))) (part_of_line traps f d i) forms
   -- a frame point has a descriptor, which names what is named there, and the function saves its
   -- return address
   pub mark : passes_frame i.op ≡ true → (e : Descr) × (d ≡ Some e)
   pub saves : passes_frame i.op ≡ true → laid.saves ≡ true
   pub described : (e : Descr) → d ≡ Some e → (at : ℕ) →
-      IsDescribed laid traps (named (length next)) (desc_at at e)
+      IsDescribed laid traps (named (length next)) (descriptor_laid_at at e)
   -- no register is named over a call
   pub unnamed : (e : Descr) → d ≡ Some e → (whom : Callee) (result : Ret) →
       i.op ≡ lin.Op (op.Calling (calling.Call whom result)) → names_register e.entries ≡ false
   -- t0 is in copies alone
-  pub spared : passes_frame i.op ≡ true → is_named spare (named (length next)) ≡ false
+  pub spared : passes_frame i.op ≡ true → is_named_location spare (named (length next)) ≡ false
   pub unwritten : (t : Comp) → Contains i.results (record { loc = spare; comp = t }) → ⊥
   -- a handler is in the code, or at its end where it has no words
   pub pushes : (l : ℕ) → i.op ≡ lin.Flow (flow.PushTrap l) →

@@ -1,21 +1,21 @@
 -- Parts are read piece by piece.
 use Rattle.std.proofs.Common.{◌≡◌, ℕ, ◌+◌, ◌≤◌, List, [], ◌∷◌, ◌++◌, arith, subst, sym}
-use Rattle.layout_rules.specs.Forms.{ReachFrom, none_far, needed, rank, total_words, words_of}
+use Rattle.layout_rules.specs.Forms.{ReachFrom, none_far, needed_form, form_rank, total_words, piece_words}
 use Rattle.layout_rules.specs.Laid.{address_of_place}
 use Rattle.layout_rules.specs.Stands.{HasPieces}
 use Rattle.layout_rules.specs.Stands as layout
-use Rattle.layout_rules.specs.Words.{Named, code_of}
+use Rattle.layout_rules.specs.Words.{NameAddresses, instructions_of_piece}
 use Rattle.layout_rules.specs.declared.form.Form.{Form}
 use Rattle.lin_ir.specs.declared.descr.Descr.{Descr}
 use Rattle.rv_isa.specs.declared.instr.Instr.{Instr}
 use Rattle.rv_pieces.specs.declared.piece.Piece.{Piece}
 use Rattle.rv_pieces.specs.declared.piece.Piece.TheVariants.{Descriptor, Known, Label}
-use Rattle.linear_machine.specs.View.{Fixed, HasCode, IsCode}
+use Rattle.linear_machine.specs.View.{Fixed, HasCode, IsInstructionAt}
 use Rattle.line_stands.specs.Parts.{PartStands, label_place}
 
-module _ (s : Fixed) (n : Named) where
+module _ (s : Fixed) (n : NameAddresses) where
   -- instructions that are in the image's code
-  pub code_stands : (at : ℕ) (is : List Instr) → layout.HasCode s.image.code at is → HasCode s at is
+  pub code_stands : (at : ℕ) (is : List Instr) → layout.HasEncodings s.image.code at is → HasCode s at is
   code_stands at [] h = tt
   code_stands at (i ∷ is) h = (record { there = h.0; fits = h.1 }, code_stands (at + 1) is h.2)
 
@@ -36,7 +36,7 @@ module _ (s : Fixed) (n : Named) where
   }
   splits_by (x ∷ xs) ys [] at to has reach past = absurd has
   splits_by (x ∷ xs) ys (f ∷ forms) at to has reach past =
-      let rest = splits_by xs ys forms (at + words_of x f) to has.1 reach.1 (omega (arith, past)) in
+      let rest = splits_by xs ys forms (at + piece_words x f) to has.1 reach.1 (omega (arith, past)) in
       let e = rest.first.past in
       record {
         middle = rest.middle;
@@ -57,16 +57,16 @@ module _ (s : Fixed) (n : Named) where
   -- the first piece is in a form that reaches, and the others after it
   pub record Begins (at to : ℕ) (x : Piece) (ys : List Piece) : Type 0 where
     pub form : Form
-    pub code : HasCode s at (code_of n (address_of_place at) x form)
-    pub reaches : rank (needed none_far (label_place n) at x) ≤ rank form
-    pub rest : PartStands s n (at + words_of x form) to ys
+    pub code : HasCode s at (instructions_of_piece n (address_of_place at) x form)
+    pub reaches : form_rank (needed_form none_far (label_place n) at x) ≤ form_rank form
+    pub rest : PartStands s n (at + piece_words x form) to ys
 
   begins_by : (x : Piece) (ys : List Piece) (forms : List Form) (at to : ℕ) → HasPieces s.image.code n at (x ∷ ys) forms →
       ReachFrom (label_place n) at (x ∷ ys) forms → to ≡ at + total_words (x ∷ ys) forms → Begins at to x ys
   begins_by x ys [] at to has reach past = absurd has
   begins_by x ys (f ∷ forms) at to has reach past = record {
     form = f;
-    code = code_stands at (code_of n (address_of_place at) x f) has.0;
+    code = code_stands at (instructions_of_piece n (address_of_place at) x f) has.0;
     reaches = reach.0;
     rest = record { forms = forms; has = has.1; reach = reach.1; past = omega (arith, past) };
   }
@@ -75,20 +75,20 @@ module _ (s : Fixed) (n : Named) where
   begins at to x ys p = begins_by x ys p.forms at to p.has p.reach p.past
 
   -- an instruction is one word
-  pub known : (at to : ℕ) (i : Instr) (ys : List Piece) → PartStands s n at to (Known i ∷ ys) → IsCode s at i × PartStands s n (at + 1) to ys
+  pub known : (at to : ℕ) (i : Instr) (ys : List Piece) → PartStands s n at to (Known i ∷ ys) → IsInstructionAt s at i × PartStands s n (at + 1) to ys
   known at to i ys p = let b = begins at to (Known i) ys p in (b.code.0, b.rest)
 
   -- marks have no words
   pub label_none : (at to l : ℕ) (ys : List Piece) → PartStands s n at to (Label l ∷ ys) → PartStands s n at to ys
   label_none at to l ys p =
       let b = begins at to (Label l) ys p in
-      let e : at + words_of (Label l) b.form ≡ at = omega arith in
+      let e : at + piece_words (Label l) b.form ≡ at = omega arith in
       subst (λ k. PartStands s n k to ys) e b.rest
 
   pub mark_none : (at to : ℕ) (d : Descr) (ys : List Piece) → PartStands s n at to (Descriptor d ∷ ys) → PartStands s n at to ys
   mark_none at to d ys p =
       let b = begins at to (Descriptor d) ys p in
-      let e : at + words_of (Descriptor d) b.form ≡ at = omega arith in
+      let e : at + piece_words (Descriptor d) b.form ≡ at = omega arith in
       subst (λ k. PartStands s n k to ys) e b.rest
 
   -- no pieces
@@ -129,7 +129,7 @@ module _ (s : Fixed) (n : Named) where
   pub record Leads (at k : ℕ) (i : Instr) (ys : List Piece) : Type 0 where
     pub others : ℕ
     pub sum : k ≡ 1 + others
-    pub code : IsCode s at i
+    pub code : IsInstructionAt s at i
     pub rest : PartStands s n (at + 1) (at + 1 + others) ys
 
   pub leads : (at k : ℕ) (i : Instr) (ys : List Piece) → PartStands s n at (at + k) (Known i ∷ ys) → Leads at k i ys
@@ -149,7 +149,7 @@ module _ (s : Fixed) (n : Named) where
   none_left at k p = let e = nothing_more at (at + k) p in omega (arith, e)
 
   -- the last one
-  pub last : (at k : ℕ) (i : Instr) → PartStands s n at (at + k) (Known i ∷ []) → IsCode s at i × (k ≡ 1)
+  pub last : (at k : ℕ) (i : Instr) → PartStands s n at (at + k) (Known i ∷ []) → IsInstructionAt s at i × (k ≡ 1)
   last at k i p =
       let q = leads at k i [] p in
       let e = q.sum in
@@ -159,23 +159,23 @@ module _ (s : Fixed) (n : Named) where
   -- one piece, and so many words after it
   pub record Starts (at k : ℕ) (x : Piece) (ys : List Piece) : Type 0 where
     pub form : Form
-    pub code : HasCode s at (code_of n (address_of_place at) x form)
-    pub reaches : rank (needed none_far (label_place n) at x) ≤ rank form
+    pub code : HasCode s at (instructions_of_piece n (address_of_place at) x form)
+    pub reaches : form_rank (needed_form none_far (label_place n) at x) ≤ form_rank form
     pub others : ℕ
-    pub sum : k ≡ words_of x form + others
-    pub rest : PartStands s n (at + words_of x form) (at + words_of x form + others) ys
+    pub sum : k ≡ piece_words x form + others
+    pub rest : PartStands s n (at + piece_words x form) (at + piece_words x form + others) ys
 
   pub starts : (at k : ℕ) (x : Piece) (ys : List Piece) → PartStands s n at (at + k) (x ∷ ys) → Starts at k x ys
   starts at k x ys p =
       let b = begins at (at + k) x ys p in
       let e = b.rest.past in
       let others : ℕ = total_words ys b.rest.forms in
-      let to : at + words_of x b.form + others ≡ at + k = omega (arith, e) in
+      let to : at + piece_words x b.form + others ≡ at + k = omega (arith, e) in
       record {
         form = b.form;
         code = b.code;
         reaches = b.reaches;
         others = total_words ys b.rest.forms;
         sum = omega (arith, e);
-        rest = subst (λ z. PartStands s n (at + words_of x b.form) z ys) (sym to) b.rest;
+        rest = subst (λ z. PartStands s n (at + piece_words x b.form) z ys) (sym to) b.rest;
       }

@@ -2,11 +2,11 @@
 use Rattle.std.specs.Prelude.{◌≡◌, ◌⊎◌, ℕ, suc, ◌^◌, ◌<◌, true, List, ◌∷◌, length, Option, Contains, ⊤}
 use Rattle.bs_words.specs.declared.types.Comp.{Comp}
 use Rattle.cmm_meaning.specs.Setting.{Setting}
-use Rattle.emit_rules.specs.Emitted.{part_of}
-use Rattle.emit_rules.specs.Entry.{Frame}
+use Rattle.emit_rules.specs.Emitted.{part_of_line}
+use Rattle.emit_rules.specs.Entry.{FrameLayout}
 use Rattle.emit_rules.specs.Units.{tests_first}
-use Rattle.layout_rules.specs.Words.{Named}
-use Rattle.lin_ir.specs.Formed.{IsFormed, IsQuiet, Locates, NamesLabel, Sets, labels_in, lin_operand_seats, lin_result_seats, places_of, spare}
+use Rattle.layout_rules.specs.Words.{NameAddresses}
+use Rattle.lin_ir.specs.Formed.{IsFormedLine, IsQuiet, Locates, NamesLabel, SetsLocation, labels_in, lin_operand_seats, lin_result_seats, places_of, spare}
 use Rattle.lin_ir.specs.Meaning.{after_label, code_at}
 use Rattle.lin_ir.specs.Walks.{may_raise, targets}
 use Rattle.lin_ir.specs.declared.descr.Descr.{Descr}
@@ -34,7 +34,7 @@ pub record SparePasses (m : Lin) (live : List Line → Type 0) (tries : List ℕ
     (next : List Line) : Type 0 where
   pub reads : (t : Comp) → Contains i.args (record { loc = spare; comp = t }) → live (i ∷ next)
   pub on : (t : Target) → OneOf t (targets i.op) → live (code_at m.code next t) →
-      Sets i spare ⊎ (IsQuiet i.op × live (i ∷ next))
+      SetsLocation i spare ⊎ (IsQuiet i.op × live (i ∷ next))
   -- nowhere where a raise comes to
   pub aside : may_raise i.op ≡ true → (l : ℕ) → Contains tries l → live (after_label l m.code) → ⊥
 
@@ -47,17 +47,17 @@ OffsetFits (lin.Flow _) = ⊤
 
 -- A line of the function, the code after it, and the words of its part in the image, where these
 -- traps are pushed.
-pub record LineStands (s : Fixed) (laid : Laid) (n : Named) (m : Lin) (c : Setting)
-    (live : List Line → Type 0) (tries : List ℕ) (f : Frame) (d : Option Descr) (i : Line)
+pub record LineStands (s : Fixed) (laid : Laid) (n : NameAddresses) (m : Lin) (c : Setting)
+    (live : List Line → Type 0) (tries : List ℕ) (f : FrameLayout) (d : Option Descr) (i : Line)
     (next : List Line) : Type 0 where
   pub part : PartStands s n (laid.part (suc (length next))) (laid.part (length next))
-      (part_of (length tries) f d i)
+      (part_of_line (length tries) f d i)
   pub names : NamesStand s laid n m c
   pub frame : f.bytes ≡ laid.frame
   pub saves : f.saves ≡ laid.saves
   pub slots : m.slots ≡ laid.slots
   pub among : Contains m.code i
-  pub formed : IsFormed i
+  pub formed : IsFormedLine i
   pub offset : OffsetFits i.op
   pub args : Locates m i.args
   pub results : Locates m i.results

@@ -5,11 +5,11 @@ use Rattle.bs_words.specs.declared.values.Value.{Value}
 use Rattle.cmm_meaning.specs.Setting.{Setting}
 use Rattle.emit_rules.specs.Named.{IsExternalOf}
 use Rattle.layout_rules.specs.Laid.{address_of_place}
-use Rattle.layout_rules.specs.Words.{Named}
+use Rattle.layout_rules.specs.Words.{NameAddresses}
 use Rattle.lin_ir.specs.Formed.{labels_in}
 use Rattle.lin_ir.specs.Meaning.{after_label}
 use Rattle.lin_ir.specs.declared.lin.Lin.{Lin}
-use Rattle.mach_ir.specs.Acts.{row_of}
+use Rattle.mach_ir.specs.Acts.{external_row}
 use Rattle.mach_ir.specs.declared.op.External as declared
 use Rattle.linear_machine.specs.Relation.{Laid, StandsFor}
 use Rattle.linear_machine.specs.View.{Fixed}
@@ -23,7 +23,7 @@ pub record IsRowAt (s : Fixed) (row : declared.External) (number : ℕ) : Type 0
   pub result : ext.result ≡ row.result
 
 -- Labels of the function, symbols of the file round it, and the external calls of its lines.
-pub record NamesStand (s : Fixed) (laid : Laid) (n : Named) (m : Lin) (c : Setting) : Type 0 where
+pub record NamesStand (s : Fixed) (laid : Laid) (n : NameAddresses) (m : Lin) (c : Setting) : Type 0 where
   -- the place of the part that is after the label
   pub label : (l : ℕ) → Contains (labels_in m.code) l →
       n.label l ≡ address_of_place (laid.part (length (after_label l m.code)))
@@ -33,4 +33,4 @@ pub record NamesStand (s : Fixed) (laid : Laid) (n : Named) (m : Lin) (c : Setti
   -- a function, or static data: no block, so that it is known among none
   pub symbol : (name : List ℕ) (v : Value) → c.symbol name ≡ Some v →
       StandsFor s [] (n.symbol name) v × (n.symbol name < 2 ^ 30)
-  pub external : (row : declared.External) → IsExternalOf m row → IsRowAt s row (n.external (row_of row))
+  pub external : (row : declared.External) → IsExternalOf m row → IsRowAt s row (n.external (external_row row))

@@ -5,16 +5,16 @@ use Rattle.rv_pieces.specs.declared.piece.Piece.{Piece}
 use Rattle.layout_rules.specs.declared.form.Form.{Form}
 use Rattle.layout_rules.specs.Forms.{total_words, ReachFrom}
 use Rattle.layout_rules.specs.Stands.{HasPieces}
-use Rattle.layout_rules.specs.Words.{Named}
+use Rattle.layout_rules.specs.Words.{NameAddresses}
 use Rattle.linear_machine.specs.View.{Fixed}
 
 -- how many words of the code are before a label
-abbrev pub label_place : Named → ℕ → ℕ
+abbrev pub label_place : NameAddresses → ℕ → ℕ
 label_place n l = (n.label l - code_start) / 4
 
 -- The words of these pieces are from one place of the code to another, each piece in a form that
 -- reaches.
-pub record PartStands (s : Fixed) (n : Named) (at to : ℕ) (ps : List Piece) : Type 0 where
+pub record PartStands (s : Fixed) (n : NameAddresses) (at to : ℕ) (ps : List Piece) : Type 0 where
   pub forms : List Form
   pub has : HasPieces s.image.code n at ps forms
   pub reach : ReachFrom (label_place n) at ps forms

@@ -5,26 +5,26 @@ use Rattle.bs_words.specs.Word.{add_word}
 use Rattle.bs_words.proofs.Below.{add_word-below}
 use Rattle.bs_words.specs.declared.values.Value.{Value}
 use Rattle.bs_words.specs.declared.values.Value.TheVariants.{Function}
-use Rattle.emit_rules.specs.Constants.{constant}
+use Rattle.emit_rules.specs.Constants.{constant_pieces}
 use Rattle.emit_rules.specs.Instructions.{add}
 use Rattle.emit_rules.specs.Memory.{address_offset, address_register, address_words}
-use Rattle.layout_rules.specs.Words.{Named}
+use Rattle.layout_rules.specs.Words.{NameAddresses}
 use Rattle.lin_ir.specs.Meaning.{Locations}
 use Rattle.mach_ir.specs.Acts.{Around, moved_by}
 use Rattle.mach_ir.specs.Forms.{is_immediate_12}
-use Rattle.moving_laws.specs.Stands.{Among}
+use Rattle.moving_laws.specs.Stands.{AmongNumbers}
 use Rattle.moving_laws.specs.Values.{value_word}
-use Rattle.rv_isa.specs.Registers.{number}
+use Rattle.rv_isa.specs.Registers.{register_number}
 use Rattle.rv_isa.specs.declared.instr.AluOp.TheVariants.{Add}
 use Rattle.rv_isa.specs.declared.instr.Instr.TheVariants.{Op}
 use Rattle.rv_isa.specs.declared.register.Register.{Register}
 use Rattle.rv_isa.specs.declared.register.Register.TheVariants.{T1, T2}
 use Rattle.rv_machine.specs.Arithmetic.{imm_i}
 use Rattle.rv_machine.specs.Hart.{Placed}
-use Rattle.linear_machine.specs.Relation.{Below, Laid, StandsFor, Within, all_of}
+use Rattle.linear_machine.specs.Relation.{Below, Laid, StandsFor, Within, blocks_by_serial}
 use Rattle.linear_machine.specs.Relation as relation
 use Rattle.linear_machine.specs.Straight.{Changes}
-use Rattle.linear_machine.specs.View.{Fixed, View, IsCode}
+use Rattle.linear_machine.specs.View.{Fixed, View, IsInstructionAt}
 use Rattle.linear_machine.proofs.Formats.{sets_op}
 use Rattle.machine_laws.proofs.Immediates.{low_12, up}
 use Rattle.linear_machine.proofs.Loading.{moved_word}
@@ -49,22 +49,22 @@ no_function a w offset x cell e f q =
 
 -- ---- an address comes into a register
 
-module _ (s : Fixed) (n : Named) (laid : Laid) (young : List Placed) (held : Locations) (a : Around) (c : Below) (base : Register) (rb : ℕ)
-    (base_is : number base ≡ suc rb) (which : (suc rb ≡ 6) ⊎ relation.IsLocation (suc rb)) (offset : ℕ) (fits : offset < 2 ^ 64) where
+module _ (s : Fixed) (n : NameAddresses) (laid : Laid) (young : List Placed) (held : Locations) (a : Around) (c : Below) (base : Register) (rb : ℕ)
+    (base_is : register_number base ≡ suc rb) (which : (suc rb ≡ 6) ⊎ relation.IsLocationRegister (suc rb)) (offset : ℕ) (fits : offset < 2 ^ 64) where
   -- So many words bring the address so far from a value's into a register, as an instruction with an
   -- immediate reads it.
   pub record Addresses (at k : ℕ) : Type 0 where
     pub list : List ℕ
-    pub scratch : (q : ℕ) → Among q list → (q ≡ 6) ⊎ (q ≡ 7)
+    pub scratch : (q : ℕ) → AmongNumbers q list → (q ≡ 6) ⊎ (q ≡ 7)
     pub r : ℕ
-    pub is : number (address_register base offset) ≡ suc r
+    pub is : register_number (address_register base offset) ≡ suc r
     pub apart : suc r ≢ 7
     pub gets : (x : Value) → ((f : ℕ) → x ≡ Function f → ⊥) → (u : View) → u.place ≡ at → Within s laid u young 0 held a c →
-        StandsFor s (all_of u young) (slice_index u.registers (suc rb)) x →
+        StandsFor s (blocks_by_serial u young) (slice_index u.registers (suc rb)) x →
         Changes s u k list u.memory (λ w. add_word (slice_index w.registers (suc r)) (imm_i (address_offset offset % 4096))
-        ≡ value_word s.image (all_of u young) (moved_by offset x))
+        ≡ value_word s.image (blocks_by_serial u young) (moved_by offset x))
 
-  addresses_by : (at k : ℕ) (t : Bool) → is_immediate_12 offset ≡ t → PartStands s n at (at + k) (cond t [] (constant T2 offset ++ add T1 base T2 ∷ [])) →
+  addresses_by : (at k : ℕ) (t : Bool) → is_immediate_12 offset ≡ t → PartStands s n at (at + k) (cond t [] (constant_pieces T2 offset ++ add T1 base T2 ∷ [])) →
       Addresses at k
   addresses_by at k true t part =
       let zero = none_left s n at k part in
@@ -74,19 +74,19 @@ module _ (s : Fixed) (n : Named) (laid : Laid) (young : List Placed) (held : Loc
         list = [];
         scratch = λ q i. absurd i;
         r = rb;
-        is = ap number same ∙ base_is;
+        is = ap register_number same ∙ base_is;
         apart = no_second (suc rb) which;
         gets = λ x other u p w st.
             subst (λ z. Changes s u z [] u.memory (λ w. add_word (slice_index w.registers (suc rb)) (imm_i (address_offset offset % 4096))
-            ≡ value_word s.image (all_of u young) (moved_by offset x))) (sym zero)
+            ≡ value_word s.image (blocks_by_serial u young) (moved_by offset x))) (sym zero)
             (no_change s u [] _ w.own.are
             (ap (λ z. add_word (slice_index u.registers (suc rb)) (imm_i (z % 4096))) imm
             ∙ ap (add_word (slice_index u.registers (suc rb))) (immediate_is offset t)
-            ∙ moved_word s (all_of u young) offset (slice_index u.registers (suc rb)) x fits (w.own.are.words (suc rb)) other st.is));
+            ∙ moved_word s (blocks_by_serial u young) offset (slice_index u.registers (suc rb)) x fits (w.own.are.words (suc rb)) other st.is));
       }
   addresses_by at k false t part =
-      let g = counts s n at k (constant T2 offset) (add T1 base T2 ∷ []) part in
-      let l = last s n (at + g.own) g.others (Op Add 6 (number base) 7) g.second in
+      let g = counts s n at k (constant_pieces T2 offset) (add T1 base T2 ∷ []) part in
+      let l = last s n (at + g.own) g.others (Op Add 6 (register_number base) 7) g.second in
       let same : address_register base offset ≡ T1 = ap (λ b. cond b base T1) t in
       let imm : address_offset offset ≡ 0 = ap (λ b. cond b offset 0) t in
       let sum = g.sum in
@@ -96,16 +96,16 @@ module _ (s : Fixed) (n : Named) (laid : Laid) (young : List Placed) (held : Loc
         list = 6 ∷ 7 ∷ [];
         scratch = λ q i. ⊎_elim (λ e. inl e) (λ f. ⊎_elim (λ e. inr e) (λ z. absurd z) f) i;
         r = 5;
-        is = ap number same ∙ refl;
+        is = ap register_number same ∙ refl;
         apart = λ e. omega (arith, e);
         gets = λ x other u p w st.
-            let code : IsCode s (u.place + g.own) (Op Add 6 (suc rb) 7) =
-            subst (λ z. IsCode s (z + g.own) (Op Add 6 (suc rb) 7)) (sym p) (subst (λ z. IsCode s (at + g.own) (Op Add 6 z 7)) base_is l.0) in
-            let first : PartStands s n u.place (u.place + g.own) (constant T2 offset) =
-            subst (λ z. PartStands s n z (z + g.own) (constant T2 offset)) (sym p) g.first in
+            let code : IsInstructionAt s (u.place + g.own) (Op Add 6 (suc rb) 7) =
+            subst (λ z. IsInstructionAt s (z + g.own) (Op Add 6 (suc rb) 7)) (sym p) (subst (λ z. IsInstructionAt s (at + g.own) (Op Add 6 z 7)) base_is l.0) in
+            let first : PartStands s n u.place (u.place + g.own) (constant_pieces T2 offset) =
+            subst (λ z. PartStands s n z (z + g.own) (constant_pieces T2 offset)) (sym p) g.first in
             let value : ℕ = add_word (slice_index u.registers (suc rb)) offset in
             subst (λ z. Changes s u z (6 ∷ 7 ∷ []) u.memory (λ w. add_word (slice_index w.registers 6) (imm_i (address_offset offset % 4096))
-            ≡ value_word s.image (all_of u young) (moved_by offset x))) (sym all)
+            ≡ value_word s.image (blocks_by_serial u young) (moved_by offset x))) (sym all)
             (widened s u (g.own + 1) (6 ∷ 7 ∷ []) (6 ∷ 7 ∷ []) u.memory
             (λ w. slice_index w.registers 6 ≡ add_word (slice_index u.registers (suc rb)) offset) _ (λ q i. i)
             (λ o past e.
@@ -113,7 +113,7 @@ module _ (s : Fixed) (n : Named) (laid : Laid) (young : List Placed) (held : Loc
             ∙ ap (add_word (slice_index o.registers 6)) (low_12 0 (omega arith))
             ∙ up (slice_index o.registers 6) 0 (slice_index o.registers 6) (omega arith) (past.are.words 6)
             ∙ e
-            ∙ moved_word s (all_of u young) offset (slice_index u.registers (suc rb)) x fits (w.own.are.words (suc rb)) other st.is)
+            ∙ moved_word s (blocks_by_serial u young) offset (slice_index u.registers (suc rb)) x fits (w.own.are.words (suc rb)) other st.is)
             (set_then s u g.own (6 ∷ 7 ∷ []) u.memory
             (λ w. (slice_index w.registers 7 ≡ offset) × (slice_index w.registers (suc rb) ≡ slice_index u.registers (suc rb)))
             (Op Add 6 (suc rb) 7) 5 value

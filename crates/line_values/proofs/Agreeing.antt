@@ -12,7 +12,7 @@ use Rattle.bs_words.specs.declared.values.Value.TheVariants.{Word, Block, Functi
 use Rattle.rv_machine.specs.Arithmetic.{bit_of}
 use Rattle.rv_machine.specs.Hart.{Placed}
 use Rattle.moving_laws.specs.Heap.{AreBlocks}
-use Rattle.moving_laws.specs.Values.{function_at, start_of, words_of}
+use Rattle.moving_laws.specs.Values.{function_at, start_of, cells_of_block}
 use Rattle.moving_laws.proofs.Rewriting.{start_inside}
 use Rattle.linear_machine.specs.Relation.{StandsFor}
 use Rattle.linear_machine.specs.View.{Fixed}
@@ -34,22 +34,22 @@ unequal_by false b e = absurd (cc)
 
 -- the blocks have these sizes
 abbrev pub AreSized : List Placed → List ℕ → Type 0
-AreSized placed sizes = (k : ℕ) → k < length placed → words_of placed k ≡ slice_index sizes k
+AreSized placed sizes = (k : ℕ) → k < length placed → cells_of_block placed k ≡ slice_index sizes k
 
 module _ (s : Fixed) (placed : List Placed) (blocks : AreBlocks placed) (sizes : List ℕ) (sized : AreSized placed sizes) where
   -- ---- one value
 
   -- a pointer at a byte of its block
   in_there : (k o w : ℕ) → StandsFor s placed w (Block k o) → is_in sizes k o ≡ true →
-      (w ≡ start_of placed k + o) × (0x30000008 ≤ w) × (w < 0x38010000) × (o < 8 * words_of placed k) × (start_of placed k % 8 ≡ 0)
+      (w ≡ start_of placed k + o) × (0x30000008 ≤ w) × (w < 0x38010000) × (o < 8 * cells_of_block placed k) × (start_of placed k % 8 ≡ 0)
   in_there k o w st h =
       let i = st.known.0 in
       let near = start_inside placed k blocks.inside i in
       let ends = words_end placed k blocks.inside i in
       let z = sized k i in
       let l = ltb-true o (8 * slice_index sizes k) h in
-      let inside : o < 8 * words_of placed k = omega (arith, l, z) in
-      let e = inside_block (start_of placed k) (words_of placed k) o w near.1 ends inside st.is in
+      let inside : o < 8 * cells_of_block placed k = omega (arith, l, z) in
+      let e = inside_block (start_of placed k) (cells_of_block placed k) o w near.1 ends inside st.is in
       (e, omega (arith, e, near), omega (arith, e, ends, inside), inside, near.0)
 
   -- or near it
@@ -58,7 +58,7 @@ module _ (s : Fixed) (placed : List Placed) (blocks : AreBlocks placed) (sizes :
       let i = st.known.0 in
       let near = start_inside placed k blocks.inside i in
       let z = sized k i in
-      near_block (start_of placed k) (words_of placed k) o w near.1 (words_end placed k blocks.inside i) st.known.1
+      near_block (start_of placed k) (cells_of_block placed k) o w near.1 (words_end placed k blocks.inside i) st.known.1
       (⊎_elim (λ l. inl (omega (arith, l, z))) (λ l. inr l) (near_by o (slice_index sizes k) h)) st.is
 
   code_there : (f w : ℕ) → StandsFor s placed w (Function f) → (0x10000 ≤ w) × (w < 0x10000000) × (w % 2 ≡ 0)

@@ -9,14 +9,14 @@ use Rattle.rv_isa.specs.declared.instr.LoadWidth.{LoadWidth}
 use Rattle.rv_isa.specs.declared.instr.StoreWidth.{StoreWidth}
 use Rattle.rv_machine.specs.Arithmetic.{imm_i}
 use Rattle.rv_machine.specs.Hart.{bytes_loaded, bytes_stored, executed, loads, readable, register_loaded, stores}
-use Rattle.rv_machine.specs.Memory.{Region, code_region, code_start, is_inside, loaded, stored}
+use Rattle.rv_machine.specs.Memory.{Region, code_region, code_start, is_inside, loaded_number, stored_number}
 use Rattle.rv_machine.specs.Services.{Machine}
 use Rattle.rv_machine.specs.Sound.{HasRegions, extent, extents}
 use Rattle.bs_words.specs.Memory.{IsWidth, part, replaced}
 use Rattle.rv_machine.proofs.Bytes.{replaced-below}
 use Rattle.moving_laws.specs.Words.{held_word}
 use Rattle.moving_laws.proofs.Held.{IsDataOrAbove, IsHeld, has_byte, held_below, hold, hold_regions, read_part, word_hold, written_part}
-use Rattle.linear_machine.specs.View.{Fixed, View, Stands, Leads, IsCode}
+use Rattle.linear_machine.specs.View.{Fixed, View, HasView, ReachesView, IsInstructionAt}
 use Rattle.linear_machine.proofs.Likes.{known_same, like_hold}
 use Rattle.linear_machine.proofs.Statics.{all_share, readable_shares}
 use Rattle.linear_machine.proofs.Steps.{SetsRegister, one_step, ready, ready_stands, reg, register_reg, unserved_step, with_hart}
@@ -38,18 +38,18 @@ module _ (s : Fixed) (v : View) (x b : ℕ) (even : x % 8 ≡ 0) (low : 0x100000
   outside_code code l =
       and_right _ _ (lt-leb (x + b + w) (code_start + 4 * length code) (let h = width_some w width in omega (arith, l, h)))
 
-  loaded_part : (a : Machine) → Stands s a v → loaded (readable a.hart) (x + b) w ≡ Some (part (held_word v.memory x) b w)
+  loaded_part : (a : Machine) → HasView s a v → loaded_number (readable a.hart) (x + b) w ≡ Some (part (held_word v.memory x) b w)
   loaded_part a st =
       let c = s.functions.tables.code.short in
-      ap (λ (image : Tables). loaded (code_region image.code ∷ a.hart.memory) (x + b) w) st.image
+      ap (λ (image : Tables). loaded_number (code_region image.code ∷ a.hart.memory) (x + b) w) st.image
       ∙ cond-true ((x + b) % w == 0) _ _ (eq-eqb ((x + b) % w) 0 aligned)
       ∙ cond-false (is_inside (code_region s.image.code) (x + b) w) _ _ (outside_code s.image.code (omega (arith, c, low)))
       ∙ read_part x b w (width_some w width) even inside a.hart.memory (all_share s a.hart.memory st.regions x (b + w) inside even at)
       (held_alike v.memory a.hart.memory x st.memory.lie held).is
       ∙ ap (λ z. Some (part z b w)) (st.memory.held x even n)
 
-  stored_part : (a : Machine) → Stands s a v → (value : ℕ) →
-      stored a.hart.memory (x + b) w value ≡ Some (hold a.hart.memory x (replaced (held_word v.memory x) b w value))
+  stored_part : (a : Machine) → HasView s a v → (value : ℕ) →
+      stored_number a.hart.memory (x + b) w value ≡ Some (hold a.hart.memory x (replaced (held_word v.memory x) b w value))
   stored_part a st value =
       cond-true ((x + b) % w == 0) _ _ (eq-eqb ((x + b) % w) 0 aligned)
       ∙ written_part x b w (width_some w width) even inside a.hart.memory value (all_share s a.hart.memory st.regions x (b + w) inside even at)
@@ -62,9 +62,9 @@ module _ (s : Fixed) (v : View) (x b : ℕ) (even : x % 8 ≡ 0) (low : 0x100000
       SetsRegister s v (Load kind rd ra imm) rd (register_loaded kind (part (held_word v.memory x) b w))
   sets_load_part kind same rd ra imm e = record {
     effect = λ a st.
-        ap (λ y. loads (loaded (readable a.hart) (add_word y (imm_i imm)) (bytes_loaded kind)) kind rd a.hart) (register_reg s a v ra st)
-        ∙ ap (λ y. loads (loaded (readable a.hart) y (bytes_loaded kind)) kind rd a.hart) e
-        ∙ ap (λ z. loads (loaded (readable a.hart) (x + b) z) kind rd a.hart) same
+        ap (λ y. loads (loaded_number (readable a.hart) (add_word y (imm_i imm)) (bytes_loaded kind)) kind rd a.hart) (register_reg s a v ra st)
+        ∙ ap (λ y. loads (loaded_number (readable a.hart) y (bytes_loaded kind)) kind rd a.hart) e
+        ∙ ap (λ z. loads (loaded_number (readable a.hart) (x + b) z) kind rd a.hart) same
         ∙ ap (λ o. loads o kind rd a.hart) (loaded_part a st);
   }
 
@@ -72,9 +72,9 @@ module _ (s : Fixed) (v : View) (x b : ℕ) (even : x % 8 ≡ 0) (low : 0x100000
   abbrev pub with_part : ℕ → View
   with_part value = record v { place = v.place + 1; memory = hold v.memory x (replaced (held_word v.memory x) b w value) }
 
-  pub store_part_step : (kind : StoreWidth) → bytes_stored kind ≡ w → (ra rb imm : ℕ) → IsCode s v.place (Store kind ra rb imm) →
+  pub store_part_step : (kind : StoreWidth) → bytes_stored kind ≡ w → (ra rb imm : ℕ) → IsInstructionAt s v.place (Store kind ra rb imm) →
       add_word (reg v.registers ra) (imm_i imm) ≡ x + b → HasRegions (extents s.image s.heap s.base) v.memory →
-      Leads s 1 v (with_part (reg v.registers rb))
+      ReachesView s 1 v (with_part (reg v.registers rb))
   store_part_step kind same ra rb imm c e regions = record {
     answers = refl;
     calls = refl;
@@ -106,13 +106,13 @@ module _ (s : Fixed) (v : View) (x b : ℕ) (even : x % 8 ≡ 0) (low : 0x100000
               (unserved_step s a v (Store kind ra rb imm) (stores (Some (hold a.hart.memory x value)) a.hart) st c (effect a st) refl) (effect d ok),
         );
   } where
-    effect : (d : Machine) → Stands s d v →
+    effect : (d : Machine) → HasView s d v →
         executed (Store kind ra rb imm) d.hart ≡ stores (Some (hold d.hart.memory x (replaced (held_word v.memory x) b w (reg v.registers rb)))) d.hart
     effect d ok =
-        ap₂ (λ y z. stores (stored d.hart.memory (add_word y (imm_i imm)) (bytes_stored kind) z) d.hart) (register_reg s d v ra ok)
+        ap₂ (λ y z. stores (stored_number d.hart.memory (add_word y (imm_i imm)) (bytes_stored kind) z) d.hart) (register_reg s d v ra ok)
         (register_reg s d v rb ok)
-        ∙ ap (λ y. stores (stored d.hart.memory y (bytes_stored kind) (reg v.registers rb)) d.hart) e
-        ∙ ap (λ z. stores (stored d.hart.memory (x + b) z (reg v.registers rb)) d.hart) same
+        ∙ ap (λ y. stores (stored_number d.hart.memory y (bytes_stored kind) (reg v.registers rb)) d.hart) e
+        ∙ ap (λ z. stores (stored_number d.hart.memory (x + b) z (reg v.registers rb)) d.hart) same
         ∙ ap (λ o. stores o d.hart) (stored_part d ok (reg v.registers rb))
 
     next : (pc : ℕ) → pc ≡ code_start + 4 * v.place → pc + 4 ≡ code_start + 4 * (v.place + 1)

@@ -6,11 +6,11 @@ use Rattle.bs_words.specs.Memory.{Cell, InStatic, cell_at, cell_of_block, in_blo
 use Rattle.bs_words.specs.Word.{add_word}
 use Rattle.bs_words.specs.declared.values.Value.{Value}
 use Rattle.bs_words.specs.declared.values.Value.TheVariants.{Word, Block, Function}
-use Rattle.mach_ir.specs.Acts.{Around, is_among}
+use Rattle.mach_ir.specs.Acts.{Around, is_among_cells}
 use Rattle.rv_machine.specs.Hart.{Placed}
 use Rattle.rv_machine.specs.Memory.{Region}
 use Rattle.rv_machine.specs.Sound.{HasRegions, extents}
-use Rattle.moving_laws.specs.Values.{start_of, value_word, words_of}
+use Rattle.moving_laws.specs.Values.{start_of, value_word, cells_of_block}
 use Rattle.moving_laws.proofs.Rewriting.{start_inside}
 use Rattle.linear_machine.specs.Contents.{size_in}
 use Rattle.linear_machine.specs.Relation.{HeapStands, StandsFor}
@@ -48,7 +48,7 @@ still_aligned a b w (inr (inr (inr e))) q m =
 pub data Lies (placed : List Placed) (a : Around) (at : ℕ) : Cell → Type 0 where
   head_cell : {k : ℕ} {b : HeapBlock} → k < length placed → slice_get a.memory.blocks k ≡ Some b → at ≡ start_of placed k - 8 →
       Lies placed a at (InHeader k)
-  own_cell : {k j : ℕ} {b : HeapBlock} → k < length placed → slice_get a.memory.blocks k ≡ Some b → j < length b.cells → j < words_of placed k →
+  own_cell : {k j : ℕ} {b : HeapBlock} → k < length placed → slice_get a.memory.blocks k ≡ Some b → j < length b.cells → j < cells_of_block placed k →
       at ≡ start_of placed k + 8 * j → Lies placed a at (InBlock k j)
   static_cell : {l j : ℕ} → in_statics 0 a.memory.statics at 1 ≡ Some (InStatic l j) → Lies placed a at (InStatic l j)
 
@@ -70,7 +70,7 @@ pub record Reached (s : Fixed) (placed : List Placed) (m : List Region) (a : Aro
   pub below : at < 0x38010000
   pub lies : Lies placed a at cell
   -- what is there once it has been written
-  pub is : is_among cell a.unwritten ≡ false → StandsFor s placed (held_word m at) (value_in a.memory cell)
+  pub is : is_among_cells cell a.unwritten ≡ false → StandsFor s placed (held_word m at) (value_in a.memory cell)
 
 module _ (s : Fixed) (placed : List Placed) (m : List Region) (regions : HasRegions (extents s.image s.heap s.base) m) (a : Around)
     (h : HeapStands s placed m a) (w : ℕ) (width : IsWidth w) where
@@ -114,15 +114,15 @@ module _ (s : Fixed) (placed : List Placed) (m : List Region) (regions : HasRegi
           let count = h.stand.count in
           let i : k < length placed = omega (arith, within, count) in
           let near = start_inside placed k h.old.inside i in
-          let size : words_of placed k ≡ n = h.stand.sizes k i ∙ ap size_in b.1 ∙ b.2 in
+          let size : cells_of_block placed k ≡ n = h.stand.sizes k i ∙ ap size_in b.1 ∙ b.2 in
           by_index ((o + 8) % 2 ^ 64 / 8) (some_is p.1)
-          (place_by (start_of placed k) o n (words_of placed k) ((o + 8) % 2 ^ 64) ((o + 8) % 2 ^ 64 / 8) near.1 near.0
+          (place_by (start_of placed k) o n (cells_of_block placed k) ((o + 8) % 2 ^ 64) ((o + 8) % 2 ^ 64 / 8) near.1 near.0
           (words_end placed k h.old.inside i) size refl
           room even refl)
           b.0 b.1 b.2 i near.1 size
         where
           by_index : (x : ℕ) → cell_of_block k x ≡ cell → (add_word (start_of placed k) o + 8 ≡ start_of placed k + 8 * x) × (x ≤ n) → (b : HeapBlock) →
-              slice_get a.memory.blocks k ≡ Some b → length b.cells ≡ n → k < length placed → 0x30000008 ≤ start_of placed k → words_of placed k ≡ n →
+              slice_get a.memory.blocks k ≡ Some b → length b.cells ≡ n → k < length placed → 0x30000008 ≤ start_of placed k → cells_of_block placed k ≡ n →
               Lies placed a (add_word (start_of placed k) o) cell
           by_index zero c p b there len i low size =
               let e = p.0 in
@@ -133,7 +133,7 @@ module _ (s : Fixed) (placed : List Placed) (m : List Region) (regions : HasRegi
               let few = p.1 in
               let here : add_word (start_of placed k) o ≡ start_of placed k + 8 * j = omega (arith, e) in
               let inside : j < length b.cells = omega (arith, few, len) in
-              let inside' : j < words_of placed k = omega (arith, few, size) in
+              let inside' : j < cells_of_block placed k = omega (arith, few, size) in
               subst (Lies placed a (add_word (start_of placed k) o)) c (own_cell i there inside inside' here)
 
   -- it lies above the data, and can be read

@@ -3,12 +3,12 @@ use Rattle.std.proofs.Common.{◌≡◌, ◌≢◌, ℕ, suc, ◌+◌, ◌*◌, 
 use Rattle.std.proofs.lemmas.Bool.{cond-false, ne_eqb}
 use Rattle.bs_words.specs.Word.{add_word, sext_word, shl_word}
 use Rattle.bs_words.proofs.Below.{add_word-below, sext_word-below, shl_word-below}
-use Rattle.emit_rules.specs.Constants.{constant}
-use Rattle.emit_rules.specs.Traversal.{Each, each_none, each_more}
+use Rattle.emit_rules.specs.Constants.{constant_pieces}
+use Rattle.emit_rules.specs.Traversal.{EachPiece, each_none, each_more}
 use Rattle.emit_rules.specs.Values.{piece_value, value_after, Makes, makes_first, makes_upper, makes_lower, makes_sum, makes_shift}
 use Rattle.emit_rules.proofs.Values.{constant_is, constant_is_made}
-use Rattle.layout_rules.specs.Words.{Named}
-use Rattle.rv_isa.specs.Registers.{number}
+use Rattle.layout_rules.specs.Words.{NameAddresses}
+use Rattle.rv_isa.specs.Registers.{register_number}
 use Rattle.rv_isa.specs.declared.instr.AluImmOp.TheVariants.{Addi}
 use Rattle.rv_isa.specs.declared.instr.Instr.{Instr}
 use Rattle.rv_isa.specs.declared.instr.Instr.TheVariants.{Addiw, Lui, OpImm, Shift}
@@ -25,7 +25,7 @@ use Rattle.linear_machine.proofs.Steps.{SetsRegister}
 use Rattle.line_stands.specs.Parts.{PartStands}
 use Rattle.line_stands.proofs.Parts.{leads, none_left}
 
-module _ (s : Fixed) (n : Named) (r : Register) (q : ℕ) (is : number r ≡ suc q) (fits : suc q < 32) (no_sp : suc q ≢ 2) where
+module _ (s : Fixed) (n : NameAddresses) (r : Register) (q : ℕ) (is : register_number r ≡ suc q) (fits : suc q < 32) (no_sp : suc q ≢ 2) where
   -- one of them is an instruction that sets the register as is said
   pub record Made (p : Piece) : Type 0 where
     pub instr : Instr
@@ -38,20 +38,20 @@ module _ (s : Fixed) (n : Named) (r : Register) (q : ℕ) (is : number r ≡ suc
 
   made_of : (p : Piece) → Makes r p → Made p
   made_of p (makes_first w) = record {
-    instr = OpImm Addi (number r) 0 (w % 4096);
+    instr = OpImm Addi (register_number r) 0 (w % 4096);
     piece = refl;
     sets = λ v. subst (λ z. SetsRegister s v (OpImm Addi z 0 (w % 4096)) (suc q) (add_word 0 (sext_word (w % 4096) 12))) (sym is)
         (sets_imm s v Addi (suc q) 0 (w % 4096));
     below = λ x l. add_word-below _ _;
   }
   made_of p (makes_upper w) = record {
-    instr = Lui (number r) (w % 1048576);
+    instr = Lui (register_number r) (w % 1048576);
     piece = refl;
     sets = λ v. subst (λ z. SetsRegister s v (Lui z (w % 1048576)) (suc q) (sext_word (4096 * (w % 1048576)) 32)) (sym is) (sets_lui s v (suc q) (w % 1048576));
     below = λ x l. sext_word-below _ 32;
   }
   made_of p (makes_lower w) = record {
-    instr = Addiw (number r) (number r) (w % 4096);
+    instr = Addiw (register_number r) (register_number r) (w % 4096);
     piece = refl;
     sets = λ v. subst (λ z. SetsRegister s v (Addiw z z (w % 4096)) (suc q)
         (sext_word (add_word (slice_index v.registers (suc q)) (sext_word (w % 4096) 12)) 32)) (sym is)
@@ -59,7 +59,7 @@ module _ (s : Fixed) (n : Named) (r : Register) (q : ℕ) (is : number r ≡ suc
     below = λ x l. sext_word-below _ 32;
   }
   made_of p (makes_sum w) = record {
-    instr = OpImm Addi (number r) (number r) (w % 4096);
+    instr = OpImm Addi (register_number r) (register_number r) (w % 4096);
     piece = refl;
     sets = λ v. subst (λ z. SetsRegister s v (OpImm Addi z z (w % 4096)) (suc q)
         (add_word (cond (nat_eq z 0) 0 (slice_index v.registers (suc q))) (sext_word (w % 4096) 12))) (sym is)
@@ -69,7 +69,7 @@ module _ (s : Fixed) (n : Named) (r : Register) (q : ℕ) (is : number r ≡ suc
     below = λ x l. add_word-below _ _;
   }
   made_of p (makes_shift amount) = record {
-    instr = Shift Slli (number r) (number r) (amount % 64);
+    instr = Shift Slli (register_number r) (register_number r) (amount % 64);
     piece = refl;
     sets = λ v. subst (λ z. SetsRegister s v (Shift Slli z z (amount % 64)) (suc q) (shl_word (slice_index v.registers (suc q)) (amount % 64))) (sym is)
         (sets_shift s v Slli (suc q) (suc q) (amount % 64));
@@ -77,7 +77,7 @@ module _ (s : Fixed) (n : Named) (r : Register) (q : ℕ) (is : number r ≡ suc
   }
 
   -- one after the other
-  pub chain : (ps : List Piece) → Each (Makes r) ps → (v : View) (k : ℕ) → PartStands s n v.place (v.place + k) ps → AreRegisters v.registers →
+  pub chain : (ps : List Piece) → EachPiece (Makes r) ps → (v : View) (k : ℕ) → PartStands s n v.place (v.place + k) ps → AreRegisters v.registers →
       Changes s v k (suc q ∷ []) v.memory (λ w. slice_index w.registers (suc q) ≡ value_after ps (slice_index v.registers (suc q)))
   chain [] each_none v k part are =
       subst (λ z. Changes s v z (suc q ∷ []) v.memory (λ w. slice_index w.registers (suc q) ≡ slice_index v.registers (suc q)))
@@ -102,10 +102,10 @@ module _ (s : Fixed) (n : Named) (r : Register) (q : ℕ) (is : number r ≡ suc
       (chain ps hs w g.others rest past.are))))
 
   -- A constant comes into the register.
-  pub constant_comes : (w : ℕ) → w < 2 ^ 64 → (v : View) (k : ℕ) → PartStands s n v.place (v.place + k) (constant r w) → AreRegisters v.registers →
+  pub constant_comes : (w : ℕ) → w < 2 ^ 64 → (v : View) (k : ℕ) → PartStands s n v.place (v.place + k) (constant_pieces r w) → AreRegisters v.registers →
       Changes s v k (suc q ∷ []) v.memory (λ u. slice_index u.registers (suc q) ≡ w)
   constant_comes w small v k part are =
       widened s v k (suc q ∷ []) (suc q ∷ []) v.memory
-      (λ u. slice_index u.registers (suc q) ≡ value_after (constant r w) (slice_index v.registers (suc q))) _ (λ y i. i)
+      (λ u. slice_index u.registers (suc q) ≡ value_after (constant_pieces r w) (slice_index v.registers (suc q))) _ (λ y i. i)
       (λ u p f. f ∙ constant_is r q is w (slice_index v.registers (suc q)) small)
-      (chain (constant r w) (constant_is_made r w) v k part are)
+      (chain (constant_pieces r w) (constant_is_made r w) v k part are)

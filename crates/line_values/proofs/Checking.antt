@@ -3,21 +3,21 @@ use Rattle.std.proofs.Common.{◌≡◌, ℕ, ◌+◌, ◌*◌, ◌^◌, ◌<◌
 use Rattle.bs_words.specs.declared.values.Kind.{Kind}
 use Rattle.bs_words.specs.declared.values.Value.{Value}
 use Rattle.bs_words.specs.declared.values.Value.TheVariants.{Word, Block, Function}
-use Rattle.emit_rules.specs.Slots.{fetched, register_of, second}
+use Rattle.emit_rules.specs.Slots.{fetch_pieces, register_of, second}
 use Rattle.emit_rules.specs.Tests.{constant_register, constant_words}
 use Rattle.layout_rules.specs.Laid.{address_of_place}
-use Rattle.layout_rules.specs.Words.{Named}
+use Rattle.layout_rules.specs.Words.{NameAddresses}
 use Rattle.lin_ir.specs.Formed.{IsLocation}
 use Rattle.lin_ir.specs.Meaning.{Locations, NamedAt, after_label, on_act, on_values, step, at_handler, wrote}
 use Rattle.lin_ir.specs.declared.lin.Lin.{Lin}
 use Rattle.lin_ir.specs.declared.lin.Line.{Line}
 use Rattle.lin_ir.specs.declared.lin.LinOp.TheVariants as lin
 use Rattle.lin_ir.specs.declared.lin.Spot.{Spot}
-use Rattle.mach_ir.specs.Acts.{Around, On, checked, is_complete, only_if, raised_by, raises, Goes}
-use Rattle.mach_ir.specs.Runs.{Place}
+use Rattle.mach_ir.specs.Acts.{Around, On, checked, is_complete, stuck_unless, raised_by, raise_act, Goes}
+use Rattle.mach_ir.specs.Runs.{ActivationSetting}
 use Rattle.mach_ir.specs.declared.op.Right.{Right}
 use Rattle.mach_ir.specs.declared.op.Right.TheVariants as right
-use Rattle.rv_isa.specs.Registers.{number}
+use Rattle.rv_isa.specs.Registers.{register_number}
 use Rattle.rv_isa.specs.declared.instr.Condition.TheVariants as condition
 use Rattle.rv_isa.specs.declared.register.Register.{Register}
 use Rattle.rv_isa.specs.declared.register.Register.TheVariants.{T1, T2}
@@ -25,9 +25,9 @@ use Rattle.rv_machine.specs.Arithmetic.{is_taken, imm_u}
 use Rattle.rv_machine.specs.Hart.{Placed}
 use Rattle.rv_pieces.specs.declared.piece.Piece.{Piece}
 use Rattle.linear_machine.specs.Follows.{Agrees, FollowsStep, IsAt, IsDone}
-use Rattle.linear_machine.specs.Relation.{Below, Laid, StandsFor, Within, all_of, traps_of}
-use Rattle.linear_machine.specs.Straight.{Comes}
-use Rattle.linear_machine.specs.View.{Fixed, View, HasCode, Leads, IsCode}
+use Rattle.linear_machine.specs.Relation.{Below, Laid, StandsFor, Within, blocks_by_serial, waiting_trap_frames}
+use Rattle.linear_machine.specs.Straight.{LeadsFurther}
+use Rattle.linear_machine.specs.View.{Fixed, View, HasCode, ReachesView, IsInstructionAt}
 use Rattle.linear_machine.proofs.Pure.{Reads, reads_held}
 use Rattle.linear_machine.proofs.Reading.{reads_one, reads_two}
 use Rattle.linear_machine.proofs.Steps.{reg, then_leads, at_place, go_step}
@@ -50,7 +50,7 @@ use Rattle.moving_laws.specs.Waiting.{IsBack, TrapsFrom, traps_at}
 use Rattle.rv_isa.specs.declared.instr.AluImmOp.TheVariants.{Addi}
 use Rattle.rv_isa.specs.declared.instr.Instr.TheVariants.{Branch, Jalr, Load, Lui, OpImm}
 use Rattle.rv_isa.specs.declared.instr.LoadWidth.TheVariants.{Ld}
-use Rattle.rv_machine.specs.Memory.{code_start, word, Region}
+use Rattle.rv_machine.specs.Memory.{code_start, memory_word, Region}
 use Rattle.linear_machine.proofs.Arriving.{leads_in}
 use Rattle.linear_machine.proofs.Formats.{goes_branch_on, goes_branch_taken, sets_lui}
 use Rattle.machine_laws.proofs.Immediates.{by_20}
@@ -68,17 +68,17 @@ use Rattle.line_values.proofs.Testing.{Seconded, both_come, second_constant, sec
 -- ---- the innermost trap
 
 pub record IsTrap (s : Fixed) (m : List Region) (trap : ℕ) : Type 0 where
-  pub back : IsBack (word m trap)
+  pub back : IsBack (memory_word m trap)
   pub low : s.base ≤ trap
   pub high : trap + 16 ≤ 0x40000000
   pub even : trap % 8 ≡ 0
 
-is_trap : (s : Fixed) (m : List Region) (trap : ℕ) (ts : List (ℕ × ℕ)) → word m 0x3FFFFFF0 ≡ code_start + 8 → TrapsFrom s.base m trap ts 0x3FFFFFF0 →
+is_trap : (s : Fixed) (m : List Region) (trap : ℕ) (ts : List (ℕ × ℕ)) → memory_word m 0x3FFFFFF0 ≡ code_start + 8 → TrapsFrom s.base m trap ts 0x3FFFFFF0 →
     IsTrap s m trap
 is_trap s m trap [] bottom t =
     let e : trap ≡ 0x3FFFFFF0 = t in
     let base = s.stack.high in
-    let there : word m trap ≡ code_start + 8 = ap (word m) e ∙ bottom in
+    let there : memory_word m trap ≡ code_start + 8 = ap (memory_word m) e ∙ bottom in
     record {
       back = record { low = omega (arith, there); high = omega (arith, there); even = ap (λ w. w % 4) there };
       low = omega (arith, e, base);
@@ -89,8 +89,8 @@ is_trap s m trap (x ∷ ts) bottom t = record { back = subst IsBack (sym t.4) t.
 
 -- ---- a raise: the value in a0 comes to the innermost handler
 
-module _ (s : Fixed) (n : Named) (laid : Laid) (v : View) (young : List Placed) (held : Locations) (a : Around) (c : Below)
-    (within : Within s laid v young 0 held a c) (x : Value) (stands : StandsFor s (all_of v young) (slice_index v.registers 10) x) (k : ℕ)
+module _ (s : Fixed) (n : NameAddresses) (laid : Laid) (v : View) (young : List Placed) (held : Locations) (a : Around) (c : Below)
+    (within : Within s laid v young 0 held a c) (x : Value) (stands : StandsFor s (blocks_by_serial v young) (slice_index v.registers 10) x) (k : ℕ)
     (part : PartStands s n v.place (v.place + k) raise_words) where
   pub trap : IsTrap s v.memory (slice_index v.registers 9)
   trap = is_trap s v.memory (slice_index v.registers 9) _ within.waits.bottom within.traps
@@ -128,11 +128,11 @@ module _ (s : Fixed) (n : Named) (laid : Laid) (v : View) (young : List Placed) 
   pub five_words : k ≡ 5
   five_words = code.1
 
-  pub led : Leads s 5 v (raised_at s v within.own.are trap.back trap.low trap.high trap0 trap8 code.0)
+  pub led : ReachesView s 5 v (raised_at s v within.own.are trap.back trap.low trap.high trap0 trap8 code.0)
   led = raise_leads s v within.own.are trap.back trap.low trap.high trap0 trap8 code.0
 
-  value_there : StandsFor s (all_of v young) (slice_index there.registers 10) x
-  value_there = subst (λ z. StandsFor s (all_of v young) z x) (sym (raise_value s v within.own.are trap.back trap.low trap.high trap0 trap8 code.0)) stands
+  value_there : StandsFor s (blocks_by_serial v young) (slice_index there.registers 10) x
+  value_there = subst (λ z. StandsFor s (blocks_by_serial v young) z x) (sym (raise_value s v within.own.are trap.back trap.low trap.high trap0 trap8 code.0)) stands
 
   pub thrown_out : is_complete a ≡ true → a.tries ≡ [] →
       AtThrow s (raised_at s v within.own.are trap.back trap.low trap.high trap0 trap8 code.0) young x a.memory c
@@ -153,14 +153,14 @@ module _ (s : Fixed) (n : Named) (laid : Laid) (v : View) (young : List Placed) 
   caught m l rest e handler held' sub =
       let own : slice_index v.registers 9 ≡ slice_index v.registers 2 =
       (subst (λ ts. TrapsFrom s.base v.memory (slice_index v.registers 9) (traps_at (slice_index v.registers 2) (map laid.handler ts)
-      ++ traps_of c.waiting c.frames) 0x3FFFFFF0) e within.traps).0 in
+      ++ waiting_trap_frames c.waiting c.frames) 0x3FFFFFF0) e within.traps).0 in
       let differs = raise_differs s v within.own.are trap.back trap.low trap.high trap0 trap8 code.0 in
       let up : slice_index there.registers 2 ≡ slice_index v.registers 2 + 16 =
       raise_high s v within.own.are trap.back trap.low trap.high trap0 trap8 code.0 ∙ ap (λ q. q + 16) own in
-      let points : slice_index there.registers 9 ≡ word v.memory (slice_index v.registers 2 + 8) =
-      raise_points s v within.own.are trap.back trap.low trap.high trap0 trap8 code.0 ∙ ap (λ q. word v.memory (q + 8)) own in
+      let points : slice_index there.registers 9 ≡ memory_word v.memory (slice_index v.registers 2 + 8) =
+      raise_points s v within.own.are trap.back trap.low trap.high trap0 trap8 code.0 ∙ ap (λ q. memory_word v.memory (q + 8)) own in
       let goes : code_start + 4 * there.place ≡ code_start + 4 * laid.part (length (after_label l m.code)) =
-      raise_place s v within.own.are trap.back trap.low trap.high trap0 trap8 code.0 ∙ ap (word v.memory) own
+      raise_place s v within.own.are trap.back trap.low trap.high trap0 trap8 code.0 ∙ ap (memory_word v.memory) own
       ∙ handler_is s laid v there young held a c within differs l rest e up points ∙ handler in (
         four_times there.place (laid.part (length (after_label l m.code))) goes,
         popped s laid v there young held a c within differs l rest e up points (Some x) held' value_there sub,
@@ -182,8 +182,8 @@ word_of (Function f) j e = absurd (cc)
 data_upper : imm_u 0x10000 ≡ 0x10000000
 data_upper = ⊎_elim (λ p. let e = p.1 in omega (arith, e)) (λ p. let l = p.0 in absurd (omega (arith, l))) (by_20 0x10000 (omega arith))
 
-module _ (s : Fixed) (n : Named) (laid : Laid) (m : Lin) (slots : m.slots ≡ laid.slots) (live : List Line → Type 0) (entry : ℕ → ℕ) (c : Below)
-    (place : Place) (named : NamedAt) (next : List Line) (v : View) (young : List Placed) (held file : Locations) (a : Around) (none : a.raised ≡ None)
+module _ (s : Fixed) (n : NameAddresses) (laid : Laid) (m : Lin) (slots : m.slots ≡ laid.slots) (live : List Line → Type 0) (entry : ℕ → ℕ) (c : Below)
+    (place : ActivationSetting) (named : NamedAt) (next : List Line) (v : View) (young : List Placed) (held file : Locations) (a : Around) (none : a.raised ≡ None)
     (within : Within s laid v young 0 held a c) (before : Type 0) (agrees : Agrees before held file) (k : ℕ) (behind : laid.part (length next) ≡ v.place + k)
     (passes : live next → before)
     (handlers : (l : ℕ) (rest : List ℕ) → a.tries ≡ l ∷ rest → laid.handler l ≡ address_of_place (laid.part (length (after_label l m.code))))
@@ -191,12 +191,12 @@ module _ (s : Fixed) (n : Named) (laid : Laid) (m : Lin) (slots : m.slots ≡ la
   -- where both operands are in their registers
   module _ (r : Right) (args : List Spot) (left right : Register) (k1 k2 : ℕ) (sum : k ≡ k1 + k2) (bound index : ℕ)
       (part : PartStands s n (v.place + k1) (v.place + k1 + k2) (skip condition.Bltu right left 28 ∷ raise_bound_error))
-      (comes : Comes s v k1 (λ u. Within s laid u young 0 held a c × StandsFor s (all_of u young) (reg u.registers (number left)) (Word bound)
-      × StandsFor s (all_of u young) (reg u.registers (number right)) (Word index))) where
-    words_are : IsCode s (v.place + k1) (Branch condition.Bltu (number right) (number left) 28) × IsCode s (v.place + k1 + 1) (Lui 10 0x10000)
+      (comes : LeadsFurther s v k1 (λ u. Within s laid u young 0 held a c × StandsFor s (blocks_by_serial u young) (reg u.registers (register_number left)) (Word bound)
+      × StandsFor s (blocks_by_serial u young) (reg u.registers (register_number right)) (Word index))) where
+    words_are : IsInstructionAt s (v.place + k1) (Branch condition.Bltu (register_number right) (register_number left) 28) × IsInstructionAt s (v.place + k1 + 1) (Lui 10 0x10000)
         × PartStands s n (v.place + k1 + 1 + 1) (v.place + k1 + 1 + 1 + 5) raise_words × (k2 ≡ 7)
     words_are =
-        let l1 = leads s n (v.place + k1) k2 (Branch condition.Bltu (number right) (number left) 28) raise_bound_error part in
+        let l1 = leads s n (v.place + k1) k2 (Branch condition.Bltu (register_number right) (register_number left) 28) raise_bound_error part in
         let l2 = leads s n (v.place + k1 + 1) l1.others (Lui 10 0x10000) raise_words l1.rest in
         let g1 = leads s n (v.place + k1 + 1 + 1) l2.others (OpImm Addi 2 9 0) _ l2.rest in
         let g2 = leads s n (v.place + k1 + 1 + 1 + 1) g1.others (Load Ld 6 2 0) _ g1.rest in
@@ -224,14 +224,14 @@ module _ (s : Fixed) (n : Named) (laid : Laid) (m : Lin) (slots : m.slots ≡ la
         let u = comes.view in
         let at = comes.place in
         let e7 = words_are.3 in
-        let taken : is_taken condition.Bltu (reg u.registers (number right)) (reg u.registers (number left)) ≡ true =
+        let taken : is_taken condition.Bltu (reg u.registers (register_number right)) (reg u.registers (register_number left)) ≡ true =
         ap₂ nat_lt comes.holds.2.is comes.holds.1.is ∙ h in
-        let code : IsCode s u.place (Branch condition.Bltu (number right) (number left) 28) =
-        subst (λ z. IsCode s z (Branch condition.Bltu (number right) (number left) 28)) (sym at) words_are.0 in
-        let near = code_near s u.place (Branch condition.Bltu (number right) (number left) 28) code in
-        let over : Leads s 1 u (at_place (u.place + 7) u) =
-        go_step s u (Branch condition.Bltu (number right) (number left) 28) (u.place + 7) code
-        (goes_branch_taken s u condition.Bltu (number right) (number left) 28 (u.place + 7) taken
+        let code : IsInstructionAt s u.place (Branch condition.Bltu (register_number right) (register_number left) 28) =
+        subst (λ z. IsInstructionAt s z (Branch condition.Bltu (register_number right) (register_number left) 28)) (sym at) words_are.0 in
+        let near = code_near s u.place (Branch condition.Bltu (register_number right) (register_number left) 28) code in
+        let over : ReachesView s 1 u (at_place (u.place + 7) u) =
+        go_step s u (Branch condition.Bltu (register_number right) (register_number left) 28) (u.place + 7) code
+        (goes_branch_taken s u condition.Bltu (register_number right) (register_number left) 28 (u.place + 7) taken
         (skips (code_start + 4 * u.place) 28 (code_start + 4 * (u.place + 7)) (omega arith) (omega arith) (omega (arith, near)))) in
         lands s n laid m live entry c place named next v young held file a within before agrees k (k1 + 1) (omega (arith, sum, e7)) next
         (at_place (u.place + 7) u) (then_leads s k1 1 v u (at_place (u.place + 7) u) comes.leads over) (omega (arith, at, e7, sum, behind))
@@ -240,22 +240,22 @@ module _ (s : Fixed) (n : Named) (laid : Laid) (m : Lin) (slots : m.slots ≡ la
     -- or the error is in a0
     record Ready (w : View) : Type 0 where
       pub stands : Within s laid w young 0 (dropped 10 held) a c
-      pub error : StandsFor s (all_of w young) (slice_index w.registers 10) (Word 0x10000000)
+      pub error : StandsFor s (blocks_by_serial w young) (slice_index w.registers 10) (Word 0x10000000)
 
-    errs : nat_lt index bound ≡ false → Comes s v (k1 + 2) Ready
+    errs : nat_lt index bound ≡ false → LeadsFurther s v (k1 + 2) Ready
     errs h =
         let u = comes.view in
         let at = comes.place in
-        let fails : is_taken condition.Bltu (reg u.registers (number right)) (reg u.registers (number left)) ≡ false =
+        let fails : is_taken condition.Bltu (reg u.registers (register_number right)) (reg u.registers (register_number left)) ≡ false =
         ap₂ nat_lt comes.holds.2.is comes.holds.1.is ∙ h in
-        let code : IsCode s u.place (Branch condition.Bltu (number right) (number left) 28) =
-        subst (λ z. IsCode s z (Branch condition.Bltu (number right) (number left) 28)) (sym at) words_are.0 in
+        let code : IsInstructionAt s u.place (Branch condition.Bltu (register_number right) (register_number left) 28) =
+        subst (λ z. IsInstructionAt s z (Branch condition.Bltu (register_number right) (register_number left) 28)) (sym at) words_are.0 in
         let o : View = at_place (u.place + 1) u in
         let next_place : v.place + k1 + 1 ≡ u.place + 1 = omega (arith, at) in
-        let code2 : IsCode s (u.place + 1) (Lui 10 0x10000) = subst (λ z. IsCode s z (Lui 10 0x10000)) next_place words_are.1 in
-        let over : Leads s 1 u (at_place (u.place + 1) u) =
-        go_step s u (Branch condition.Bltu (number right) (number left) 28) (u.place + 1) code
-        (goes_branch_on s u condition.Bltu (number right) (number left) 28 fails) in
+        let code2 : IsInstructionAt s (u.place + 1) (Lui 10 0x10000) = subst (λ z. IsInstructionAt s z (Lui 10 0x10000)) next_place words_are.1 in
+        let over : ReachesView s 1 u (at_place (u.place + 1) u) =
+        go_step s u (Branch condition.Bltu (register_number right) (register_number left) 28) (u.place + 1) code
+        (goes_branch_on s u condition.Bltu (register_number right) (register_number left) 28 fails) in
         let target = target_register held 10 a0_location in
         let set = set_changes s (at_place (u.place + 1) u) (Lui 10 0x10000) 9 (imm_u 0x10000) code2 (inl (λ t. omega (arith, t)))
         (sets_lui s (at_place (u.place + 1) u) 10 0x10000) comes.holds.0.own.are (omega arith) (sext_word-below _ 32) in
@@ -279,10 +279,10 @@ module _ (s : Fixed) (n : Named) (laid : Laid) (m : Lin) (slots : m.slots ≡ la
       op = lin.Op (op.Leaving (leaving.Checkbound r));
       args = args;
       results = [];
-    }) next file a (raises place.setting bound_error a))
+    }) next file a (raise_act place.setting bound_error a))
     raised_line h = by_test (is_complete a && fits place.setting.end ty.Val bound_error) refl
       where
-        ready : Comes s v (k1 + 2) Ready
+        ready : LeadsFurther s v (k1 + 2) Ready
         ready = errs h
 
         w : View
@@ -339,7 +339,7 @@ module _ (s : Fixed) (n : Named) (laid : Laid) (m : Lin) (slots : m.slots ≡ la
               op = lin.Op (op.Leaving (leaving.Checkbound r));
               args = args;
               results = [];
-            }) next file a (only_if t (raised_by bound_error a a.tries)))
+            }) next file a (stuck_unless t (raised_by bound_error a a.tries)))
         by_test false e = tt
         by_test true e = by_tries a.tries refl (and_parts (is_complete a) (fits place.setting.end ty.Val bound_error) e).0
 
@@ -347,7 +347,7 @@ module _ (s : Fixed) (n : Named) (laid : Laid) (m : Lin) (slots : m.slots ≡ la
       op = lin.Op (op.Leaving (leaving.Checkbound r));
       args = args;
       results = [];
-    }) next file a (cond t (Goes [] On a) (raises place.setting bound_error a)))
+    }) next file a (cond t (Goes [] On a) (raise_act place.setting bound_error a)))
     check_by true h = goes_on h
     check_by false h = raised_line h
 
@@ -358,7 +358,7 @@ module _ (s : Fixed) (n : Named) (laid : Laid) (m : Lin) (slots : m.slots ≡ la
         op = lin.Op (op.Leaving (leaving.Checkbound r));
         args = args;
         results = [];
-      }) next file a (cond (nat_lt index bound) (Goes [] On a) (raises place.setting bound_error a)))) →
+      }) next file a (cond (nat_lt index bound) (Goes [] On a) (raise_act place.setting bound_error a)))) →
       FollowsStep k s laid live entry c v (on_act place m (record {
         op = lin.Op (op.Leaving (leaving.Checkbound r));
         args = args;
@@ -372,7 +372,7 @@ module _ (s : Fixed) (n : Named) (laid : Laid) (m : Lin) (slots : m.slots ≡ la
   -- whatever the right operand is
   operands_by : (r : Right) (args : List Spot) (p : Spot) → IsLocation m p.loc → Reads before p.loc → (words : List Piece) (right : Register)
       (holds : Value → Type 0) →
-      PartStands s n v.place (v.place + k) (fetched (length a.tries) T1 p.loc ++ words ++ skip condition.Bltu right (register_of T1 p.loc) 28
+      PartStands s n v.place (v.place + k) (fetch_pieces (length a.tries) T1 p.loc ++ words ++ skip condition.Bltu right (register_of T1 p.loc) 28
       ∷ raise_bound_error) →
       ((at j : ℕ) → PartStands s n at (at + j) words → Seconded s n laid m slots v young held a c none within holds at j right) →
       (bound index : ℕ) → held p.loc ≡ Some (Word bound) → holds (Word index) →
@@ -380,9 +380,9 @@ module _ (s : Fixed) (n : Named) (laid : Laid) (m : Lin) (slots : m.slots ≡ la
         op = lin.Op (op.Leaving (leaving.Checkbound r));
         args = args;
         results = [];
-      }) next file a (cond (nat_lt index bound) (Goes [] On a) (raises place.setting bound_error a)))
+      }) next file a (cond (nat_lt index bound) (Goes [] On a) (raise_act place.setting bound_error a)))
   operands_by r args p at_p reads_p words right holds part second bound index hp hi =
-      let one : List Piece = fetched (length a.tries) T1 p.loc in
+      let one : List Piece = fetch_pieces (length a.tries) T1 p.loc in
       let test : List Piece = skip condition.Bltu right (register_of T1 p.loc) 28 ∷ raise_bound_error in
       let turned : PartStands s n v.place (v.place + k) (one ++ (words ++ test)) =
       subst (PartStands s n v.place (v.place + k)) (append_assoc one words test) part in
@@ -413,7 +413,7 @@ module _ (s : Fixed) (n : Named) (laid : Laid) (m : Lin) (slots : m.slots ≡ la
       (λ x y h e i g.
       checked_by right.Register (p ∷ q ∷ []) (word_in x) (word_in y)
       (λ bound index b o.
-      operands_by right.Register (p ∷ q ∷ []) p at_p reads_p (fetched (length a.tries) T2 q.loc) (register_of T2 q.loc) (λ z. held q.loc ≡ Some z) part
+      operands_by right.Register (p ∷ q ∷ []) p at_p reads_p (fetch_pieces (length a.tries) T2 q.loc) (register_of T2 q.loc) (λ z. held q.loc ≡ Some z) part
       (λ at j pt. second_location s n laid m slots v young held a c none within q.loc at_q at j pt) bound index
       (reads_held before held file p.loc agrees reads_p ∙ h ∙ ap Some (word_of x bound b))
       (reads_held before held file q.loc agrees reads_q ∙ i ∙ ap Some (word_of y index o))))

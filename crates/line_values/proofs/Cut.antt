@@ -10,11 +10,11 @@ use Rattle.bs_words.specs.declared.values.Value.{Value}
 use Rattle.bs_words.specs.declared.values.Value.TheVariants.{Word}
 use Rattle.image_form.specs.Tables.{Func, Tables}
 use Rattle.rv_machine.specs.Loading.{IsRoom}
-use Rattle.rv_machine.specs.Relocation.{root_cells}
+use Rattle.rv_machine.specs.Relocation.{root_addresses}
 use Rattle.rv_machine.specs.Run.{Schedule}
 use Rattle.rv_machine.specs.Sound.{AllWords}
 use Rattle.rv_machine.specs.Start.{data_region, start_memory}
-use Rattle.moving_laws.specs.Stands.{Among, StaticsStand}
+use Rattle.moving_laws.specs.Stands.{AmongNumbers, StaticsStand}
 use Rattle.moving_laws.specs.Values.{HasFunctions, IsKnown, IsStill, value_word}
 use Rattle.moving_laws.specs.Words.{held_word}
 use Rattle.linear_machine.specs.Contents.{statics_of}
@@ -26,7 +26,7 @@ use Rattle.bs_words.specs.declared.types.Comp.TheVariants as comp
 use Rattle.bs_words.specs.declared.types.Loc.TheVariants as loc
 use Rattle.bs_words.specs.declared.types.Ret.TheVariants as ret
 use Rattle.bs_words.proofs.Lists.{none_in}
-use Rattle.emit_rules.specs.Emitted.{part_of}
+use Rattle.emit_rules.specs.Emitted.{part_of_line}
 use Rattle.layout_rules.specs.declared.form.Form.TheVariants.{Near}
 use Rattle.lin_ir.specs.Formed.{IsLocation, NamesLabel, formed_op, goes_to, is_colour, is_home, pushes, spare}
 use Rattle.lin_ir.specs.Meaning.{Locations, NamedAt, step}
@@ -35,7 +35,7 @@ use Rattle.lin_ir.specs.declared.lin.Line.{Line}
 use Rattle.lin_ir.specs.declared.lin.LinOp.TheVariants as lin
 use Rattle.lin_ir.specs.declared.lin.Spot.{Spot}
 use Rattle.mach_ir.specs.Forms.{stores as stores_form}
-use Rattle.mach_ir.specs.Runs.{Place, entered}
+use Rattle.mach_ir.specs.Runs.{ActivationSetting, entry_around}
 use Rattle.mach_ir.specs.Seats.{anywhere}
 use Rattle.mach_ir.specs.Walks.{other}
 use Rattle.mach_ir.specs.declared.op.Access.TheVariants as access
@@ -47,7 +47,7 @@ use Rattle.rv_isa.specs.declared.instr.StoreWidth.TheVariants.{Sb}
 use Rattle.rv_machine.specs.Hart.{Placed}
 use Rattle.linear_machine.specs.Follows.{FollowsStep}
 use Rattle.linear_machine.specs.Relation.{Below, Laid, Within}
-use Rattle.linear_machine.specs.View.{Fixed, View, IsCode}
+use Rattle.linear_machine.specs.View.{Fixed, View, IsInstructionAt}
 use Rattle.line_stands.specs.Lines.{LineStands, Nowhere}
 use Rattle.line_stands.specs.Parts.{PartStands}
 use Rattle.line_values.specs.Followed.{plain_store}
@@ -102,8 +102,8 @@ module _ (image : Tables) (bytes : image.bytes ≡ 0 ∷ 0 ∷ 0 ∷ 0 ∷ 0 ∷
   count : length image.bytes ≡ 9
   count = ap length bytes
 
-  none_among : (x : ℕ) → Among x (root_cells image) → ⊥
-  none_among x i = subst (λ rs. Among x (map (λ offset. data_start + offset) rs)) no_roots i
+  none_among : (x : ℕ) → AmongNumbers x (root_addresses image) → ⊥
+  none_among x i = subst (λ rs. AmongNumbers x (map (λ offset. data_start + offset) rs)) no_roots i
 
   pub lies : StaticsLie image one_byte
   lies = record {
@@ -123,7 +123,7 @@ module _ (image : Tables) (bytes : image.bytes ≡ 0 ∷ 0 ∷ 0 ∷ 0 ∷ 0 ∷
     unfolding data_region
     cut_word = subst (λ bs. held_word (start_memory (record image { bytes = bs }) stack heap) 0x10000008 ≡ 7) (sym bytes) refl
 
-    pub stands : StaticsStand image [] (start_memory image stack heap) (root_cells image) (statics_of one_byte)
+    pub stands : StaticsStand image [] (start_memory image stack heap) (root_addresses image) (statics_of one_byte)
     stands = record {
       cell = λ y v e. ⊎_elim
           (λ p. ap (held_word (start_memory image stack heap)) p.0 ∙ first_word ∙ ap (value_word image []) (sym p.1))
@@ -164,14 +164,14 @@ puts = record { op = lin.Op (op.Access (access.Store chunk.U8 0)); args = to ∷
 abbrev one : Lin
 one = record { name = []; params = []; result = ret.Unit; slots = 0; code = puts ∷ [] }
 
-module _ (s : Fixed) (at : ℕ) (only : IsCode s at (Store Sb 11 10 0)) where
+module _ (s : Fixed) (at : ℕ) (only : IsInstructionAt s at (Store Sb 11 10 0)) where
   abbrev laid : Laid
   laid = record { part = λ n. at + (1 - n); frame = 0; saves = false; slots = 0; handler = λ l. 0; even = refl; room = omega arith }
 
-  abbrev place : Place
+  abbrev place : ActivationSetting
   place = record { setting = record { end = 0x10000009; symbol = λ name. None; parameters = [] }; below = 0; frame = 0 }
 
-  part : PartStands s no_names (at + (1 - 1)) (at + (1 - 0)) (part_of 0 no_frame None puts)
+  part : PartStands s no_names (at + (1 - 1)) (at + (1 - 0)) (part_of_line 0 no_frame None puts)
   part =
       let e : at ≡ at + (1 - 1) = omega arith in
       record {
@@ -181,8 +181,8 @@ module _ (s : Fixed) (at : ℕ) (only : IsCode s at (Store Sb 11 10 0)) where
         past = omega arith;
       }
     where
-      moved : at ≡ at + (1 - 1) → IsCode s (at + (1 - 1)) (Store Sb 11 10 0)
-      moved e = subst (λ z. IsCode s z (Store Sb 11 10 0)) e only
+      moved : at ≡ at + (1 - 1) → IsInstructionAt s (at + (1 - 1)) (Store Sb 11 10 0)
+      moved e = subst (λ z. IsInstructionAt s z (Store Sb 11 10 0)) e only
 
   line_stands : LineStands s laid no_names one place.setting Nowhere [] no_frame None puts []
   line_stands = record {
@@ -228,9 +228,9 @@ module _ (s : Fixed) (at : ℕ) (only : IsCode s at (Store Sb 11 10 0)) where
 
   -- it is followed
   pub put : (named : NamedAt) (entry : ℕ → ℕ) (c : Below) (v : View) (young : List Placed) (held : Locations) → v.place ≡ at →
-      Within s laid v young 0 held (entered one_byte) c →
-      FollowsStep 1 s laid Nowhere entry c v (step place named one (record { rest = puts ∷ []; file = held; around = entered one_byte }))
+      Within s laid v young 0 held (entry_around one_byte) c →
+      FollowsStep 1 s laid Nowhere entry c v (step place named one (record { rest = puts ∷ []; file = held; around = entry_around one_byte }))
   unfolding part line_stands
   put named entry c v young held e within =
-      plain_followed s laid no_names one place named Nowhere entry c no_frame None [] puts plain_store held (entered one_byte) v line_stands refl
+      plain_followed s laid no_names one place named Nowhere entry c no_frame None [] puts plain_store held (entry_around one_byte) v line_stands refl
       (young, held, record { others = λ l n. refl; spare_too = λ b. absurd b }, record { place = omega (arith, e); within = within })

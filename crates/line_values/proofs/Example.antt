@@ -7,10 +7,10 @@ use Rattle.bs_words.specs.declared.types.Comp.TheVariants as comp
 use Rattle.bs_words.specs.declared.types.Loc.TheVariants as loc
 use Rattle.bs_words.specs.declared.types.Ret.TheVariants as ret
 use Rattle.bs_words.proofs.Lists.{none_in}
-use Rattle.emit_rules.specs.Constants.{constant}
-use Rattle.emit_rules.specs.Emitted.{part_of}
-use Rattle.emit_rules.specs.Entry.{Frame}
-use Rattle.layout_rules.specs.Words.{Named}
+use Rattle.emit_rules.specs.Constants.{constant_pieces}
+use Rattle.emit_rules.specs.Emitted.{part_of_line}
+use Rattle.emit_rules.specs.Entry.{FrameLayout}
+use Rattle.layout_rules.specs.Words.{NameAddresses}
 use Rattle.layout_rules.specs.declared.form.Form.TheVariants.{Near}
 use Rattle.mach_ir.specs.declared.op.Calling.TheVariants as calling
 use Rattle.mach_ir.specs.declared.op.External.{External}
@@ -21,7 +21,7 @@ use Rattle.lin_ir.specs.declared.lin.Line.{Line}
 use Rattle.lin_ir.specs.declared.lin.LinOp.TheVariants as lin
 use Rattle.lin_ir.specs.declared.lin.Spot.{Spot}
 use Rattle.mach_ir.specs.Forms.{constant as constant_form}
-use Rattle.mach_ir.specs.Runs.{Place, entered}
+use Rattle.mach_ir.specs.Runs.{ActivationSetting, entry_around}
 use Rattle.mach_ir.specs.Seats.{anywhere}
 use Rattle.mach_ir.specs.Walks.{other}
 use Rattle.mach_ir.specs.declared.op.Op.TheVariants as op
@@ -31,7 +31,7 @@ use Rattle.rv_isa.specs.declared.instr.Instr.TheVariants.{OpImm}
 use Rattle.rv_machine.specs.Hart.{Placed}
 use Rattle.linear_machine.specs.Follows.{FollowsStep}
 use Rattle.linear_machine.specs.Relation.{Below, Laid, Within}
-use Rattle.linear_machine.specs.View.{Fixed, View, IsCode}
+use Rattle.linear_machine.specs.View.{Fixed, View, IsInstructionAt}
 use Rattle.line_stands.specs.Lines.{LineStands}
 use Rattle.line_stands.specs.Parts.{PartStands}
 use Rattle.line_values.specs.Followed.{plain_pure}
@@ -48,28 +48,28 @@ abbrev one : Lin
 one = record { name = []; params = []; result = ret.Unit; slots = 0; code = makes ∷ [] }
 
 -- nothing is named
-abbrev pub no_names : Named
+abbrev pub no_names : NameAddresses
 no_names = record { label = λ l. 0; symbol = λ name. 0; external = λ row. 0 }
 
-abbrev pub no_frame : Frame
+abbrev pub no_frame : FrameLayout
 no_frame = record { bytes = 0; saves = false }
 
 -- t0 is not read
 abbrev dead : List Line → Type 0
 dead rest = ⊥
 
-module _ (s : Fixed) (at : ℕ) (first : IsCode s at (OpImm Addi 10 0 42)) where
+module _ (s : Fixed) (at : ℕ) (first : IsInstructionAt s at (OpImm Addi 10 0 42)) where
   abbrev laid : Laid
   laid = record { part = λ n. at + (1 - n); frame = 0; saves = false; slots = 0; handler = λ l. 0; even = refl; room = omega arith }
 
-  abbrev place : Place
+  abbrev place : ActivationSetting
   place = record { setting = record { end = 0x10000000; symbol = λ name. None; parameters = [] }; below = 0; frame = 0 }
 
   abbrev empty : Memory
   empty = record { blocks = []; statics = []; roots = [] }
 
-  part : PartStands s no_names (at + (1 - 1)) (at + (1 - 0)) (part_of 0 no_frame None makes)
-  unfolding constant
+  part : PartStands s no_names (at + (1 - 1)) (at + (1 - 0)) (part_of_line 0 no_frame None makes)
+  unfolding constant_pieces
   part =
       let e : at ≡ at + (1 - 1) = omega arith in
       record {
@@ -79,8 +79,8 @@ module _ (s : Fixed) (at : ℕ) (first : IsCode s at (OpImm Addi 10 0 42)) where
         past = omega arith;
       }
     where
-      moved : at ≡ at + (1 - 1) → IsCode s (at + (1 - 1)) (OpImm Addi 10 0 42)
-      moved e = subst (λ z. IsCode s z (OpImm Addi 10 0 42)) e first
+      moved : at ≡ at + (1 - 1) → IsInstructionAt s (at + (1 - 1)) (OpImm Addi 10 0 42)
+      moved e = subst (λ z. IsInstructionAt s z (OpImm Addi 10 0 42)) e first
 
   stands : LineStands s laid no_names one place.setting dead [] no_frame None makes []
   stands = record {
@@ -120,9 +120,9 @@ module _ (s : Fixed) (at : ℕ) (first : IsCode s at (OpImm Addi 10 0 42)) where
 
   -- the line is followed
   pub made : (named : NamedAt) (entry : ℕ → ℕ) (c : Below) (v : View) (young : List Placed) (held : Locations) → v.place ≡ at →
-      Within s laid v young 0 held (entered empty) c →
-      FollowsStep 1 s laid dead entry c v (step place named one (record { rest = makes ∷ []; file = held; around = entered empty }))
-  unfolding part stands constant
+      Within s laid v young 0 held (entry_around empty) c →
+      FollowsStep 1 s laid dead entry c v (step place named one (record { rest = makes ∷ []; file = held; around = entry_around empty }))
+  unfolding part stands constant_pieces
   made named entry c v young held e within =
-      plain_followed s laid no_names one place named dead entry c no_frame None [] makes plain_pure held (entered empty) v stands refl
+      plain_followed s laid no_names one place named dead entry c no_frame None [] makes plain_pure held (entry_around empty) v stands refl
       (young, held, record { others = λ l n. refl; spare_too = λ b. absurd b }, record { place = omega (arith, e); within = within })

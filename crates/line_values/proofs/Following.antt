@@ -3,13 +3,13 @@ use Rattle.std.proofs.Common.{◌≡◌, ℕ, zero, suc, ◌+◌, ◌^◌, ◌<�
 use Rattle.std.specs.List.{AllByRecursion, Contains}
 use Rattle.std.proofs.lemmas.List.Elements.{recursion_from_All}
 use Rattle.bs_words.specs.declared.types.Comp.{Comp}
-use Rattle.emit_rules.specs.Emitted.{part_of}
-use Rattle.emit_rules.specs.Entry.{Frame}
+use Rattle.emit_rules.specs.Emitted.{part_of_line}
+use Rattle.emit_rules.specs.Entry.{FrameLayout}
 use Rattle.emit_rules.specs.Units.{is_branch}
 use Rattle.emit_rules.proofs.Units.{if_branch}
 use Rattle.layout_rules.specs.Forms.{total_words}
-use Rattle.layout_rules.specs.Words.{Named}
-use Rattle.lin_ir.specs.Formed.{FlowHasForm, IsFormed, formed_op, formed_flow, IsLocation, goes_to, comps, spare}
+use Rattle.layout_rules.specs.Words.{NameAddresses}
+use Rattle.lin_ir.specs.Formed.{FlowHasForm, IsFormedLine, formed_op, formed_flow, IsLocation, goes_to, comps, spare}
 use Rattle.lin_ir.specs.Meaning.{Locations, NamedAt, State, after_label, code_at, step}
 use Rattle.lin_ir.specs.Walks.{may_raise, targets}
 use Rattle.lin_ir.specs.declared.descr.Descr.{Descr}
@@ -22,7 +22,7 @@ use Rattle.lin_ir.specs.declared.lin.LinOp.TheVariants as lin
 use Rattle.lin_ir.specs.declared.lin.Spot.{Spot}
 use Rattle.mach_ir.specs.Acts.{Around, At, On}
 use Rattle.mach_ir.specs.Forms.{IsTested, HasForm, checks, constant, operates, a_register, a_constant, is_immediate, is_immediate_12}
-use Rattle.mach_ir.specs.Runs.{Place, Step, Continues, Pays, Deepens, Waits, FinishesBy, Finishes, FinishesRaising, IsStuck}
+use Rattle.mach_ir.specs.Runs.{ActivationSetting, Step, Continues, Pays, Deepens, Waits, FinishesBy, Finishes, FinishesRaising, IsStuck}
 use Rattle.mach_ir.specs.Walks.{OneOf, this, other}
 use Rattle.mach_ir.specs.declared.op.Access.TheVariants as access
 use Rattle.mach_ir.specs.declared.op.Leaving.TheVariants as leaving
@@ -86,10 +86,10 @@ check_with_inv : (w : ℕ) (xs ys : List Comp) → HasForm (op.Leaving (leaving.
     (t : Comp) × (xs ≡ t ∷ []) × (ys ≡ []) × (is_immediate_12 w ≡ true)
 check_with_inv w xs ys (checks {bound = t} (a_constant e)) = (t, refl, refl, e)
 
-form_of : (f : Op) (args results : List Spot) → IsFormed (record { op = lin.Op f; args = args; results = results }) → HasForm f (comps args) (comps results)
+form_of : (f : Op) (args results : List Spot) → IsFormedLine (record { op = lin.Op f; args = args; results = results }) → HasForm f (comps args) (comps results)
 form_of f args results (formed_op h) = h
 
-flow_form_of : (f : Flow) (args results : List Spot) → IsFormed (record { op = lin.Flow f; args = args; results = results }) →
+flow_form_of : (f : Flow) (args results : List Spot) → IsFormedLine (record { op = lin.Flow f; args = args; results = results }) →
     FlowHasForm f (comps args) (comps results)
 flow_form_of f args results (formed_flow h) = h
 
@@ -119,7 +119,7 @@ branch_follows k s laid live entry c v (Finishes x) b = absurd b
 branch_follows k s laid live entry c v (FinishesRaising x) b = absurd b
 branch_follows k s laid live entry c v IsStuck b = tt
 
-module _ (s : Fixed) (laid : Laid) (n : Named) (m : Lin) (place : Place) (named : NamedAt) (live : List Line → Type 0) (entry : ℕ → ℕ) (c : Below) (f : Frame)
+module _ (s : Fixed) (laid : Laid) (n : NameAddresses) (m : Lin) (place : ActivationSetting) (named : NamedAt) (live : List Line → Type 0) (entry : ℕ → ℕ) (c : Below) (f : FrameLayout)
     (d : Option Descr) (next : List Line) where
   abbrev Goal : LinOp → List Spot → List Spot → Type 0
   Goal o args results = Followed s laid n m place named live entry c f d (record { op = o; args = args; results = results }) next
@@ -129,7 +129,7 @@ module _ (s : Fixed) (laid : Laid) (n : Named) (m : Lin) (place : Place) (named 
       (file : Locations) (a : Around) (v : View)
       (st : LineStands s laid n m place.setting live a.tries f d (record { op = o; args = args; results = results }) next) → a.raised ≡ None →
       IsAt s laid live c (record { rest = record { op = o; args = args; results = results } ∷ next; file = file; around = a }) v →
-      FollowsBranch (total_words (part_of (length a.tries) f d (record { op = o; args = args; results = results })) st.part.forms) s laid live c v
+      FollowsBranch (total_words (part_of_line (length a.tries) f d (record { op = o; args = args; results = results })) st.part.forms) s laid live c v
       (step place named m (record { rest = record { op = o; args = args; results = results } ∷ next; file = file; around = a }))
 
   module _ (o : LinOp) (args results : List Spot) (a : Around)
@@ -138,17 +138,17 @@ module _ (s : Fixed) (laid : Laid) (n : Named) (m : Lin) (place : Place) (named 
     line = record { op = o; args = args; results = results }
 
     abbrev words : ℕ
-    words = total_words (part_of (length a.tries) f d (record { op = o; args = args; results = results })) st.part.forms
+    words = total_words (part_of_line (length a.tries) f d (record { op = o; args = args; results = results })) st.part.forms
 
     part_at : (v : View) → v.place ≡ laid.part (suc (length next)) →
-        PartStands s n v.place (v.place + total_words (part_of (length a.tries) f d (record { op = o; args = args; results = results })) st.part.forms)
-        (part_of (length a.tries) f d (record { op = o; args = args; results = results }))
+        PartStands s n v.place (v.place + total_words (part_of_line (length a.tries) f d (record { op = o; args = args; results = results })) st.part.forms)
+        (part_of_line (length a.tries) f d (record { op = o; args = args; results = results }))
     part_at v e =
         let p = st.part.past in
-        let to : laid.part (length next) ≡ v.place + total_words (part_of (length a.tries) f d (record { op = o; args = args; results = results }))
+        let to : laid.part (length next) ≡ v.place + total_words (part_of_line (length a.tries) f d (record { op = o; args = args; results = results }))
         st.part.forms = omega (arith, p, e) in
-        subst (λ z. PartStands s n v.place z (part_of (length a.tries) f d (record { op = o; args = args; results = results }))) to
-        (subst (λ z. PartStands s n z (laid.part (length next)) (part_of (length a.tries) f d (record {
+        subst (λ z. PartStands s n v.place z (part_of_line (length a.tries) f d (record { op = o; args = args; results = results }))) to
+        (subst (λ z. PartStands s n z (laid.part (length next)) (part_of_line (length a.tries) f d (record {
           op = o;
           args = args;
           results =
@@ -156,7 +156,7 @@ module _ (s : Fixed) (laid : Laid) (n : Named) (m : Lin) (place : Place) (named 
         }))) (sym e) st.part)
 
     behind : (v : View) → v.place ≡ laid.part (suc (length next)) →
-        laid.part (length next) ≡ v.place + total_words (part_of (length a.tries) f d (record { op = o; args = args; results = results })) st.part.forms
+        laid.part (length next) ≡ v.place + total_words (part_of_line (length a.tries) f d (record { op = o; args = args; results = results })) st.part.forms
     behind v e = let p = st.part.past in omega (arith, p, e)
 
     locates : AllByRecursion (λ (p : Spot). IsLocation m p.loc) args
@@ -369,7 +369,7 @@ module _ (s : Fixed) (laid : Laid) (n : Named) (m : Lin) (place : Place) (named 
       (λ p. with_none results i.2 (λ ys. Goal (lin.Op (op.Leaving (leaving.Checkbound (right.Constant w)))) (p ∷ []) ys)
       (check_with_case w (immediate_small w i.3) p))
 
-  by_op : (o : LinOp) (args results : List Spot) → IsPlain o → IsFormed (record { op = o; args = args; results = results }) → Goal o args results
+  by_op : (o : LinOp) (args results : List Spot) → IsPlain o → IsFormedLine (record { op = o; args = args; results = results }) → Goal o args results
   by_op o args results (plain_pure {g}) h = by_pure g args results (form_of (op.Pure g) args results h)
   by_op o args results (plain_load {k} {offset}) h =
       let i = load_inv k offset (comps args) (comps results) (form_of (op.Access (access.Load k offset)) args results h) in
@@ -404,10 +404,10 @@ module _ (s : Fixed) (laid : Laid) (n : Named) (m : Lin) (place : Place) (named 
   pub plain_followed : (i : Line) → IsPlain i.op → Followed s laid n m place named live entry c f d i next
   plain_followed i plain file a v st none at = by_op i.op i.args i.results plain st.formed file a v st none at
 
-  branch_by : (o : LinOp) (args results : List Spot) → is_branch o ≡ true → IsFormed (record { op = o; args = args; results = results }) →
+  branch_by : (o : LinOp) (args results : List Spot) → is_branch o ≡ true → IsFormedLine (record { op = o; args = args; results = results }) →
       Branches o args results
   branch_by o args results b =
-      if_branch (λ g. IsFormed (record { op = g; args = args; results = results }) → Branches g args results)
+      if_branch (λ g. IsFormedLine (record { op = g; args = args; results = results }) → Branches g args results)
       (λ t l h.
       let i = branch_inv t l (comps args) (comps results) (flow_form_of (flow.Branch t l) args results h) in
       with_none results i.1 (λ ys. Branches (lin.Flow (flow.Branch t l)) args ys) (branch_takes t l args i.0)) o b
@@ -416,7 +416,7 @@ module _ (s : Fixed) (laid : Laid) (n : Named) (m : Lin) (place : Place) (named 
   pub branch_followed : (i : Line) → is_branch i.op ≡ true → (file : Locations) (a : Around) (v : View)
       (st : LineStands s laid n m place.setting live a.tries f d i next) → a.raised ≡ None →
       IsAt s laid live c (record { rest = i ∷ next; file = file; around = a }) v →
-      FollowsBranch (total_words (part_of (length a.tries) f d i) st.part.forms) s laid live c v
+      FollowsBranch (total_words (part_of_line (length a.tries) f d i) st.part.forms) s laid live c v
       (step place named m (record { rest = i ∷ next; file = file; around = a }))
   branch_followed i b file a v st none at = branch_by i.op i.args i.results b st.formed file a v st none at
 

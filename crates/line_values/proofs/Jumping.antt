@@ -5,14 +5,14 @@ use Rattle.std.proofs.lemmas.Option.{slice_get_within}
 use Rattle.std.proofs.Math.Bool.{not-not}
 use Rattle.bs_words.specs.Word.{add_word}
 use Rattle.bs_words.proofs.Below.{add_word-below}
-use Rattle.layout_rules.specs.Forms.{branch_form, branch_reaches, branch_words, jal_reaches, jump_form, rank}
+use Rattle.layout_rules.specs.Forms.{branch_form, branch_reaches, branch_words, jal_reaches, jump_form, form_rank}
 use Rattle.layout_rules.specs.Laid.{address_of_place}
 use Rattle.layout_rules.specs.Words.{branch_code, branch_offset, distance, far_jump, inverted, jal_offset, jump_code, upper}
 use Rattle.emit_rules.specs.Instructions.{low_12}
 use Rattle.layout_rules.specs.declared.form.Form.{Form}
 use Rattle.layout_rules.specs.declared.form.Form.TheVariants.{Near, Middle, Far}
 use Rattle.layout_rules.proofs.Offsets.{branch_lands, by_13, far_lands, jal_lands}
-use Rattle.rv_isa.specs.Registers.{number}
+use Rattle.rv_isa.specs.Registers.{register_number}
 use Rattle.rv_isa.specs.declared.instr.Condition.{Condition}
 use Rattle.rv_isa.specs.declared.instr.Condition.TheVariants as condition
 use Rattle.rv_isa.specs.Encoding.{encoded}
@@ -23,7 +23,7 @@ use Rattle.rv_machine.specs.Arithmetic.{imm_b, imm_i, imm_u, is_less, is_taken}
 use Rattle.rv_machine.specs.Memory.{code_start}
 use Rattle.rv_machine.specs.Sound.{AreRegisters}
 use Rattle.linear_machine.specs.Straight.{Differs}
-use Rattle.linear_machine.specs.View.{Fixed, View, HasCode, IsCode, Leads}
+use Rattle.linear_machine.specs.View.{Fixed, View, HasCode, IsInstructionAt, ReachesView}
 use Rattle.linear_machine.proofs.Formats.{goes_branch_on, goes_branch_taken, goes_jal, sets_auipc, sets_jalr}
 use Rattle.linear_machine.proofs.Sequences.{code_past, set_changes}
 use Rattle.linear_machine.proofs.Steps.{at_place, go_step, reg, set_to_step, then_leads}
@@ -31,7 +31,7 @@ use Rattle.linear_machine.proofs.Steps.{at_place, go_step, reg, set_to_step, the
 -- so many instructions lead to a place, where t1 and t2 alone may have changed
 pub record Goes (s : Fixed) (u : View) (k to : ℕ) : Type 0 where
   pub view : View
-  pub leads : Leads s k u view
+  pub leads : ReachesView s k u view
   pub place : view.place ≡ to
   pub differs : Differs (6 ∷ 7 ∷ []) u.memory u view
 
@@ -39,7 +39,7 @@ pub record Goes (s : Fixed) (u : View) (k to : ℕ) : Type 0 where
 abbrev pub IsPlace : ℕ → Type 0
 IsPlace p = p ≤ 2 ^ 26
 
-goes_at : (s : Fixed) (u : View) → AreRegisters u.registers → (k to : ℕ) → Leads s k u (at_place to u) → Goes s u k to
+goes_at : (s : Fixed) (u : View) → AreRegisters u.registers → (k to : ℕ) → ReachesView s k u (at_place to u) → Goes s u k to
 goes_at s u are k to leads = record {
   view = at_place to u;
   leads = leads;
@@ -48,7 +48,7 @@ goes_at s u are k to leads = record {
 }
 
 -- one after an instruction that only goes to a place
-goes_then : (s : Fixed) (u : View) (p k to : ℕ) → Leads s 1 u (at_place p u) → Goes s (at_place p u) k to → Goes s u (1 + k) to
+goes_then : (s : Fixed) (u : View) (p k to : ℕ) → ReachesView s 1 u (at_place p u) → Goes s (at_place p u) k to → Goes s u (1 + k) to
 goes_then s u p k to first g = record {
   view = g.view;
   leads = then_leads s 1 k u (at_place p u) g.view first g.leads;
@@ -59,7 +59,7 @@ goes_then s u p k to first g = record {
 module _ (s : Fixed) (u : View) (are : AreRegisters u.registers) (to : ℕ) (near_u : u.place < 2 ^ 26) (near_to : IsPlace to) where
   -- ---- jumps
 
-  near_jump : jal_reaches u.place to ≡ true → IsCode s u.place (Jal 0 (jal_offset (address_of_place u.place) (address_of_place to))) → Goes s u 1 to
+  near_jump : jal_reaches u.place to ≡ true → IsInstructionAt s u.place (Jal 0 (jal_offset (address_of_place u.place) (address_of_place to))) → Goes s u 1 to
   near_jump h code =
       let p = and_parts (nat_lt to (u.place + 262144)) (nat_le u.place (to + 262144)) h in
       let below = ltb-true to (u.place + 262144) p.0 in
@@ -102,12 +102,12 @@ pub record Jumped (s : Fixed) (u : View) (k to : ℕ) : Type 0 where
   pub few : count ≤ k
   pub goes : Goes s u count to
 
-jump_test : (t : Bool) → rank (cond t Near Far) ≤ 0 → t ≡ true
+jump_test : (t : Bool) → form_rank (cond t Near Far) ≤ 0 → t ≡ true
 jump_test true l = refl
 jump_test false l = absurd (omega (arith, l))
 
 pub jump_goes : (s : Fixed) (u : View) → AreRegisters u.registers → (to : ℕ) → u.place < 2 ^ 26 → IsPlace to → (f : Form) →
-    rank (jump_form u.place to) ≤ rank f →
+    form_rank (jump_form u.place to) ≤ form_rank f →
     HasCode s u.place (jump_code f (address_of_place u.place) (address_of_place to)) → (k : ℕ) → k ≡ length (jump_code f 0 0) → Jumped s u k to
 jump_goes s u are to near_u near_to Near reach code k e = record {
   count = 1;
@@ -140,12 +140,12 @@ skip_by from bytes x to small e high (inr p) = let q = p.0 in absurd (omega (ari
 pub skips : (from bytes to : ℕ) → bytes < 4096 → from + bytes ≡ to → to < 2 ^ 32 → add_word from (imm_b bytes) ≡ to
 skips from bytes to small e high = skip_by from bytes (imm_b bytes) to small e high (by_13 bytes (omega (arith, small)))
 
-near_test : (t r : Bool) → rank (cond t Near (cond r Middle Far)) ≤ 0 → t ≡ true
+near_test : (t r : Bool) → form_rank (cond t Near (cond r Middle Far)) ≤ 0 → t ≡ true
 near_test true r l = refl
 near_test false true l = absurd (omega (arith, l))
 near_test false false l = absurd (omega (arith, l))
 
-middle_test : (t r : Bool) → rank (cond t Near (cond r Middle Far)) ≤ 1 → (t ≡ true) ⊎ (r ≡ true)
+middle_test : (t r : Bool) → form_rank (cond t Near (cond r Middle Far)) ≤ 1 → (t ≡ true) ⊎ (r ≡ true)
 middle_test true r l = inl refl
 middle_test false true l = inr refl
 middle_test false false l = absurd (omega (arith, l))
@@ -153,45 +153,45 @@ middle_test false false l = absurd (omega (arith, l))
 module _ (s : Fixed) (u : View) (are : AreRegisters u.registers) (to : ℕ) (near_u : u.place + 4 < 2 ^ 26) (near_to : IsPlace to) (c : Condition)
     (a b : Register) where
   abbrev Taken : Bool → Type 0
-  Taken t = is_taken c (reg u.registers (number a)) (reg u.registers (number b)) ≡ t
+  Taken t = is_taken c (reg u.registers (register_number a)) (reg u.registers (register_number b)) ≡ t
 
   -- the inverted branch goes on with the jump
-  goes_on : (offset : ℕ) → Taken true → IsCode s u.place (Branch (inverted c) (number a) (number b) offset) → Leads s 1 u (at_place (u.place + 1) u)
+  goes_on : (offset : ℕ) → Taken true → IsInstructionAt s u.place (Branch (inverted c) (register_number a) (register_number b) offset) → ReachesView s 1 u (at_place (u.place + 1) u)
   goes_on offset h code =
-      go_step s u (Branch (inverted c) (number a) (number b) offset) (u.place + 1) code
-      (goes_branch_on s u (inverted c) (number a) (number b) offset (inverted_is c (reg u.registers (number a)) (reg u.registers (number b)) true h))
+      go_step s u (Branch (inverted c) (register_number a) (register_number b) offset) (u.place + 1) code
+      (goes_branch_on s u (inverted c) (register_number a) (register_number b) offset (inverted_is c (reg u.registers (register_number a)) (reg u.registers (register_number b)) true h))
 
   -- or over it
-  goes_over : (words : ℕ) → words ≤ 3 → Taken false → IsCode s u.place (Branch (inverted c) (number a) (number b) (4 * words)) →
+  goes_over : (words : ℕ) → words ≤ 3 → Taken false → IsInstructionAt s u.place (Branch (inverted c) (register_number a) (register_number b) (4 * words)) →
       Goes s u 1 (u.place + words)
   goes_over words few h code =
       goes_at s u are 1 (u.place + words)
-      (go_step s u (Branch (inverted c) (number a) (number b) (4 * words)) (u.place + words) code
-      (goes_branch_taken s u (inverted c) (number a) (number b) (4 * words) (u.place + words)
-      (inverted_is c (reg u.registers (number a)) (reg u.registers (number b)) false h)
+      (go_step s u (Branch (inverted c) (register_number a) (register_number b) (4 * words)) (u.place + words) code
+      (goes_branch_taken s u (inverted c) (register_number a) (register_number b) (4 * words) (u.place + words)
+      (inverted_is c (reg u.registers (register_number a)) (reg u.registers (register_number b)) false h)
       (skips (code_start + 4 * u.place) (4 * words) (code_start + 4 * (u.place + words)) (omega (arith, few)) (omega arith) (omega (arith, near_u, few)))))
 
   next_address : address_of_place u.place + 4 ≡ address_of_place (u.place + 1)
   next_address = omega arith
 
   near_branch : branch_reaches u.place to ≡ true → (t : Bool) → Taken t →
-      IsCode s u.place (Branch c (number a) (number b) (branch_offset (address_of_place u.place) (address_of_place to))) →
+      IsInstructionAt s u.place (Branch c (register_number a) (register_number b) (branch_offset (address_of_place u.place) (address_of_place to))) →
       Goes s u 1 (cond t to (u.place + 1))
   near_branch h true e code =
       let p = and_parts (nat_lt to (u.place + 1024)) (nat_le u.place (to + 1024)) h in
       let below = ltb-true to (u.place + 1024) p.0 in
       let above = leb-true u.place (to + 1024) p.1 in
       let offset : ℕ = branch_offset (address_of_place u.place) (address_of_place to) in
-      goes_at s u are 1 to (go_step s u (Branch c (number a) (number b) offset) to code
-      (goes_branch_taken s u c (number a) (number b) offset to e
+      goes_at s u are 1 to (go_step s u (Branch c (register_number a) (register_number b) offset) to code
+      (goes_branch_taken s u c (register_number a) (register_number b) offset to e
       (branch_lands (address_of_place u.place) (address_of_place to) (omega (arith, near_u)) (omega (arith, near_to)) (omega (arith, below))
       (omega (arith, above)))))
   near_branch h false e code =
       let offset : ℕ = branch_offset (address_of_place u.place) (address_of_place to) in
-      goes_at s u are 1 (u.place + 1) (go_step s u (Branch c (number a) (number b) offset) (u.place + 1) code
-      (goes_branch_on s u c (number a) (number b) offset e))
+      goes_at s u are 1 (u.place + 1) (go_step s u (Branch c (register_number a) (register_number b) offset) (u.place + 1) code
+      (goes_branch_on s u c (register_number a) (register_number b) offset e))
 
-  jal_after : rank (branch_form u.place to) ≤ 1 → jal_reaches (u.place + 1) to ≡ true
+  jal_after : form_rank (branch_form u.place to) ≤ 1 → jal_reaches (u.place + 1) to ≡ true
   jal_after l =
       ⊎_elim
       (λ h.
@@ -213,8 +213,8 @@ module _ (s : Fixed) (u : View) (are : AreRegisters u.registers) (to : ℕ) (nea
     pub same : t ≡ false → goes.view.registers ≡ u.registers
 
   -- To the label where the condition holds, else after the branch.
-  pub branch_goes : (t : Bool) → is_taken c (reg u.registers (number a)) (reg u.registers (number b)) ≡ t → (f : Form) →
-      rank (branch_form u.place to) ≤ rank f → HasCode s u.place (branch_code f c a b (address_of_place u.place) (address_of_place to)) →
+  pub branch_goes : (t : Bool) → is_taken c (reg u.registers (register_number a)) (reg u.registers (register_number b)) ≡ t → (f : Form) →
+      form_rank (branch_form u.place to) ≤ form_rank f → HasCode s u.place (branch_code f c a b (address_of_place u.place) (address_of_place to)) →
       Branched t (branch_words f) (cond t to (u.place + branch_words f))
   unfolding near_branch goes_at goes_over
   branch_goes true e Near reach code = record {
@@ -232,8 +232,8 @@ module _ (s : Fixed) (u : View) (are : AreRegisters u.registers) (to : ℕ) (nea
     same = λ q. refl;
   }
   branch_goes true e Middle reach code =
-      let next : IsCode s (u.place + 1) (Jal 0 (jal_offset (address_of_place (u.place + 1)) (address_of_place to))) =
-      subst (λ z. IsCode s (u.place + 1) (Jal 0 (jal_offset z (address_of_place to)))) next_address code.1.0 in
+      let next : IsInstructionAt s (u.place + 1) (Jal 0 (jal_offset (address_of_place (u.place + 1)) (address_of_place to))) =
+      subst (λ z. IsInstructionAt s (u.place + 1) (Jal 0 (jal_offset z (address_of_place to)))) next_address code.1.0 in
       record {
         count = 2;
         some = omega arith;
@@ -270,7 +270,7 @@ module _ (s : Fixed) (u : View) (are : AreRegisters u.registers) (to : ℕ) (nea
 
 -- ---- code lies in the image
 
-pub code_near : (s : Fixed) (p : ℕ) (i : Instr) → IsCode s p i → p + 16384 < 2 ^ 26
+pub code_near : (s : Fixed) (p : ℕ) (i : Instr) → IsInstructionAt s p i → p + 16384 < 2 ^ 26
 code_near s p i code =
     let l = slice_get_within s.image.code p (encoded i) code.there in
     let short = s.functions.tables.code.short in

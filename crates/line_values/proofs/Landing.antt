@@ -1,8 +1,8 @@
 -- Labels, jumps and exits follow their lines.
 use Rattle.std.proofs.Common.{◌≡◌, ℕ, ◌+◌, ◌^◌, ◌<◌, ◌≤◌, inl, inr, Bool, true, false, List, [], ◌∷◌, length, Some, refl, arith, sym, subst, ⊎_elim}
-use Rattle.layout_rules.specs.Forms.{jump_form, jump_words, rank, words_of}
+use Rattle.layout_rules.specs.Forms.{jump_form, jump_words, form_rank, piece_words}
 use Rattle.layout_rules.specs.Laid.{address_of_place}
-use Rattle.layout_rules.specs.Words.{Named, jump_code}
+use Rattle.layout_rules.specs.Words.{NameAddresses, jump_code}
 use Rattle.layout_rules.specs.declared.form.Form.{Form}
 use Rattle.layout_rules.specs.declared.form.Form.TheVariants.{Near, Middle, Far}
 use Rattle.lin_ir.specs.Meaning.{Locations, NamedAt, after_label, step, wrote}
@@ -11,7 +11,7 @@ use Rattle.lin_ir.specs.declared.lin.Lin.{Lin}
 use Rattle.lin_ir.specs.declared.lin.Line.{Line}
 use Rattle.lin_ir.specs.declared.lin.LinOp.TheVariants as lin
 use Rattle.mach_ir.specs.Acts.{Around}
-use Rattle.mach_ir.specs.Runs.{Place}
+use Rattle.mach_ir.specs.Runs.{ActivationSetting}
 use Rattle.rv_machine.specs.Hart.{Placed}
 use Rattle.rv_machine.specs.Sound.{AreRegisters}
 use Rattle.rv_pieces.specs.declared.piece.Piece.{Piece}
@@ -20,7 +20,7 @@ use Rattle.linear_machine.specs.Arrival.{ArrivesIn}
 use Rattle.linear_machine.specs.Follows.{Agrees, FollowsStep, IsAt, needs_of}
 use Rattle.linear_machine.specs.Relation.{Below, Laid, ReturnStands, Within}
 use Rattle.linear_machine.specs.Straight.{Differs}
-use Rattle.linear_machine.specs.View.{Fixed, View, HasCode, Leads}
+use Rattle.linear_machine.specs.View.{Fixed, View, HasCode, ReachesView}
 use Rattle.linear_machine.proofs.Arriving.{leads_in}
 use Rattle.linear_machine.proofs.Flows.{label_follows}
 use Rattle.linear_machine.proofs.Following.{agrees_on}
@@ -63,14 +63,14 @@ within_gone s laid v w young held a c d within =
 -- ---- where labels lie
 
 -- a label's address is that of the part after it
-pub record Lies (s : Fixed) (laid : Laid) (n : Named) (m : Lin) (l : ℕ) : Type 0 where
+pub record Lies (s : Fixed) (laid : Laid) (n : NameAddresses) (m : Lin) (l : ℕ) : Type 0 where
   pub address : n.label l ≡ address_of_place (laid.part (length (after_label l m.code)))
   pub inside : laid.part (length (after_label l m.code)) ≤ length s.image.code
 
-pub lies_near : (s : Fixed) (laid : Laid) (n : Named) (m : Lin) (l : ℕ) → Lies s laid n m l → IsPlace (laid.part (length (after_label l m.code)))
+pub lies_near : (s : Fixed) (laid : Laid) (n : NameAddresses) (m : Lin) (l : ℕ) → Lies s laid n m l → IsPlace (laid.part (length (after_label l m.code)))
 lies_near s laid n m l lies = let i = lies.inside in let short = s.functions.tables.code.short in omega (arith, i, short)
 
-pub lies_place : (s : Fixed) (laid : Laid) (n : Named) (m : Lin) (l : ℕ) → Lies s laid n m l → label_place n l ≡ laid.part (length (after_label l m.code))
+pub lies_place : (s : Fixed) (laid : Laid) (n : NameAddresses) (m : Lin) (l : ℕ) → Lies s laid n m l → label_place n l ≡ laid.part (length (after_label l m.code))
 lies_place s laid n m l lies = let e = lies.address in omega (arith, e)
 
 jump_near : (s : Fixed) (p from to : ℕ) (f : Form) → HasCode s p (jump_code f from to) → p + 16384 < 2 ^ 26
@@ -84,7 +84,7 @@ jump_length Middle = refl
 jump_length Far = refl
 
 -- a jump piece leads to its label
-pub jump_lands : (s : Fixed) (laid : Laid) (n : Named) (m : Lin) (u : View) → AreRegisters u.registers → (l : ℕ) → Lies s laid n m l →
+pub jump_lands : (s : Fixed) (laid : Laid) (n : NameAddresses) (m : Lin) (u : View) → AreRegisters u.registers → (l : ℕ) → Lies s laid n m l →
     (k : ℕ) (ys : List Piece) →
     PartStands s n u.place (u.place + k) (Jump l ∷ ys) → Jumped s u k (laid.part (length (after_label l m.code)))
 jump_lands s laid n m u are l lies k ys part =
@@ -93,18 +93,18 @@ jump_lands s laid n m u are l lies k ys part =
     let e = g.sum in
     let code : HasCode s u.place (jump_code g.form (address_of_place u.place) (address_of_place (laid.part (length (after_label l m.code))))) =
     subst (λ z. HasCode s u.place (jump_code g.form (address_of_place u.place) z)) lies.address g.code in
-    let reach : rank (jump_form u.place (laid.part (length (after_label l m.code)))) ≤ rank g.form =
-    subst (λ z. rank (jump_form u.place z) ≤ rank g.form) (lies_place s laid n m l lies) g.reaches in
+    let reach : form_rank (jump_form u.place (laid.part (length (after_label l m.code)))) ≤ form_rank g.form =
+    subst (λ z. form_rank (jump_form u.place z) ≤ form_rank g.form) (lies_place s laid n m l lies) g.reaches in
     let near = jump_near s u.place (address_of_place u.place) (address_of_place to) g.form code in
     let jumped = jump_goes s u are to (omega (arith, near)) (lies_near s laid n m l lies) g.form reach code (jump_words g.form) (jump_length g.form) in
     let few = jumped.few in
     record { count = jumped.count; some = jumped.some; few = omega (arith, few, e); goes = jumped.goes }
 
-module _ (s : Fixed) (n : Named) (laid : Laid) (m : Lin) (live : List Line → Type 0) (entry : ℕ → ℕ) (c : Below)
-    (place : Place) (named : NamedAt) (next : List Line) (v : View) (young : List Placed) (held file : Locations) (a : Around)
+module _ (s : Fixed) (n : NameAddresses) (laid : Laid) (m : Lin) (live : List Line → Type 0) (entry : ℕ → ℕ) (c : Below)
+    (place : ActivationSetting) (named : NamedAt) (next : List Line) (v : View) (young : List Placed) (held file : Locations) (a : Around)
     (within : Within s laid v young 0 held a c) (before : Type 0) (agrees : Agrees before held file) (k : ℕ) where
   -- it lands before this code in at least so many instructions
-  pub lands_in : (least count : ℕ) → least ≤ count → count ≤ k → (rest : List Line) (w : View) → Leads s count v w → w.place ≡ laid.part (length rest) →
+  pub lands_in : (least count : ℕ) → least ≤ count → count ≤ k → (rest : List Line) (w : View) → ReachesView s count v w → w.place ≡ laid.part (length rest) →
       Within s laid w young 0 held a c → (live rest → before) →
       ArrivesIn least k s (needs_of laid c (record { rest = rest; file = file; around = a })) v
       (IsAt s laid live c (record { rest = rest; file = file; around = a }))
@@ -113,7 +113,7 @@ module _ (s : Fixed) (n : Named) (laid : Laid) (m : Lin) (live : List Line → T
       (young, held, agrees_on before (live rest) held file passes agrees, record { place = at; within = stands })
 
   -- or in so many or fewer
-  pub lands : (count : ℕ) → count ≤ k → (rest : List Line) (w : View) → Leads s count v w → w.place ≡ laid.part (length rest) →
+  pub lands : (count : ℕ) → count ≤ k → (rest : List Line) (w : View) → ReachesView s count v w → w.place ≡ laid.part (length rest) →
       Within s laid w young 0 held a c → (live rest → before) → FollowsStep k s laid live entry c v (wrote rest a (Some file))
   lands count few rest w leads at stands passes = lands_in 0 count (omega arith) few rest w leads at stands passes
 
@@ -126,7 +126,7 @@ module _ (s : Fixed) (n : Named) (laid : Laid) (m : Lin) (live : List Line → T
   label_line l behind part passes =
       let g = starts s n v.place k (Label l) [] part in
       let e = g.sum in
-      let z = none_left s n (v.place + words_of (Label l) g.form) g.others g.rest in
+      let z = none_left s n (v.place + piece_words (Label l) g.form) g.others g.rest in
       let none : k ≡ 0 = omega (arith, e, z) in
       subst (λ j. FollowsStep j s laid live entry c v (step place named m (record {
         rest = record { op = lin.Flow (flow.Label l); args = []; results = [] } ∷ next;

@@ -8,24 +8,24 @@ use Rattle.bs_words.specs.declared.types.Ty.TheVariants as ty
 use Rattle.bs_words.specs.declared.values.Kind.{Kind}
 use Rattle.bs_words.specs.declared.values.Value.{Value}
 use Rattle.bs_words.specs.declared.values.Value.TheVariants.{Word, Block, Function}
-use Rattle.emit_rules.specs.Instructions.{load}
+use Rattle.emit_rules.specs.Instructions.{load_piece}
 use Rattle.emit_rules.specs.Memory.{address_offset, address_register, address_words, load_from, load_part, load_width}
-use Rattle.emit_rules.specs.Slots.{fetched, kept, register_of, target}
-use Rattle.layout_rules.specs.Words.{Named}
+use Rattle.emit_rules.specs.Slots.{fetch_pieces, keep_pieces, register_of, target}
+use Rattle.layout_rules.specs.Words.{NameAddresses}
 use Rattle.lin_ir.specs.Formed.{IsLocation}
-use Rattle.lin_ir.specs.Meaning.{Locations, NamedAt, on_act, on_values, put, step}
+use Rattle.lin_ir.specs.Meaning.{Locations, NamedAt, on_act, on_values, assign_spot, step}
 use Rattle.lin_ir.specs.declared.lin.Lin.{Lin}
 use Rattle.lin_ir.specs.declared.lin.Line.{Line}
 use Rattle.lin_ir.specs.declared.lin.LinOp.TheVariants as lin
 use Rattle.lin_ir.specs.declared.lin.Spot.{Spot}
-use Rattle.mach_ir.specs.Acts.{Around, Stuck, is_among, loaded_act, moved_by, one_result}
-use Rattle.mach_ir.specs.Runs.{Place}
+use Rattle.mach_ir.specs.Acts.{Around, Stuck, is_among_cells, loaded_act, moved_by, one_result}
+use Rattle.mach_ir.specs.Runs.{ActivationSetting}
 use Rattle.mach_ir.specs.declared.op.Access.TheVariants as access
 use Rattle.mach_ir.specs.declared.op.Op.TheVariants as op
-use Rattle.moving_laws.specs.Stands.{Among}
+use Rattle.moving_laws.specs.Stands.{AmongNumbers}
 use Rattle.moving_laws.specs.Words.{held_word}
 use Rattle.moving_laws.proofs.Held.{IsHeld, held_below}
-use Rattle.rv_isa.specs.Registers.{number}
+use Rattle.rv_isa.specs.Registers.{register_number}
 use Rattle.rv_isa.specs.declared.instr.Instr.TheVariants.{Load}
 use Rattle.rv_isa.specs.declared.register.Register.{Register}
 use Rattle.rv_isa.specs.declared.register.Register.TheVariants.{T1}
@@ -33,9 +33,9 @@ use Rattle.rv_machine.specs.Hart.{Placed, bytes_loaded, register_loaded}
 use Rattle.machine_laws.proofs.Values.{loaded_word}
 use Rattle.rv_pieces.specs.declared.piece.Piece.{Piece}
 use Rattle.linear_machine.specs.Follows.{Agrees, FollowsStep}
-use Rattle.linear_machine.specs.Relation.{Below, Laid, StandsFor, Within, all_of}
-use Rattle.linear_machine.specs.Straight.{Changes, Comes}
-use Rattle.linear_machine.specs.View.{Fixed, View, IsCode}
+use Rattle.linear_machine.specs.Relation.{Below, Laid, StandsFor, Within, blocks_by_serial}
+use Rattle.linear_machine.specs.Straight.{Changes, LeadsFurther}
+use Rattle.linear_machine.specs.View.{Fixed, View, IsInstructionAt}
 use Rattle.linear_machine.proofs.Following.{PassesSpare, result_follows}
 use Rattle.linear_machine.proofs.Pure.{Reads, reads_held}
 use Rattle.linear_machine.proofs.Reading.{reads_one}
@@ -127,35 +127,35 @@ module _ (s : Fixed) (placed : List Placed) (end w from : ℕ) (small : w < 2 ^ 
 
 -- ---- lines
 
-module _ (s : Fixed) (n : Named) (laid : Laid) (m : Lin) (slots : m.slots ≡ laid.slots) (live : List Line → Type 0) (entry : ℕ → ℕ) (c : Below)
-    (place : Place) (named : NamedAt) (next : List Line) (v : View) (young : List Placed) (held file : Locations) (a : Around) (none : a.raised ≡ None)
+module _ (s : Fixed) (n : NameAddresses) (laid : Laid) (m : Lin) (slots : m.slots ≡ laid.slots) (live : List Line → Type 0) (entry : ℕ → ℕ) (c : Below)
+    (place : ActivationSetting) (named : NamedAt) (next : List Line) (v : View) (young : List Placed) (held file : Locations) (a : Around) (none : a.raised ≡ None)
     (within : Within s laid v young 0 held a c) (before : Type 0) (agrees : Agrees before held file) (k : ℕ) (behind : laid.part (length next) ≡ v.place + k)
     (r : Spot) (at_r : IsLocation m r.loc) (passes : PassesSpare before (live next) r.loc)
     (ch : Chunk) (offset : ℕ) (fits_64 : offset < 2 ^ 64) (p : Spot) (at_p : IsLocation m p.loc) (reads : Reads before p.loc)
     (part_is : PartStands s n v.place (v.place + k) (load_part (length a.tries) ch offset (p ∷ []) (r ∷ []))) where
-  target_or_scratch : (t q : ℕ) → Among q (t ∷ 6 ∷ 7 ∷ []) → (q ≡ t) ⊎ IsScratch q
+  target_or_scratch : (t q : ℕ) → AmongNumbers q (t ∷ 6 ∷ 7 ∷ []) → (q ≡ t) ⊎ IsScratch q
   target_or_scratch t q i =
       ⊎_elim (λ e. inl e) (λ f. ⊎_elim (λ e. inr (inl e)) (λ g. ⊎_elim (λ e. inr (inr e)) (λ z. absurd z) g) f) i
 
-  loads : (x z : Value) (cell : Cell) → held p.loc ≡ Some x → cell_at a.memory (width ch) (moved_by offset x) ≡ Some cell → is_among cell a.unwritten ≡ false →
+  loads : (x z : Value) (cell : Cell) → held p.loc ≡ Some x → cell_at a.memory (width ch) (moved_by offset x) ≡ Some cell → is_among_cells cell a.unwritten ≡ false →
       loaded_as ch (end_of_data a.memory) (offset_in_cell (moved_by offset x)) (value_in a.memory cell) ≡ Ok z →
-      Comes s v k (λ w. Within s laid w young 0 (put r z held) a c)
+      LeadsFurther s v k (λ w. Within s laid w young 0 (assign_spot r z held) a c)
   loads x z cell h there written e =
       let base : Register = register_of T1 p.loc in
-      let one : List Piece = fetched (length a.tries) T1 p.loc in
+      let one : List Piece = fetch_pieces (length a.tries) T1 p.loc in
       let work : List Piece = load_from ch offset (register_of T1 p.loc) (target r.loc) in
-      let keep : List Piece = kept (length a.tries) r.loc in
+      let keep : List Piece = keep_pieces (length a.tries) r.loc in
       let turned : PartStands s n v.place (v.place + k) (one ++ (work ++ keep)) =
       subst (PartStands s n v.place (v.place + k)) (append_assoc one work keep) part_is in
       let g1 = counts s n v.place k one (work ++ keep) turned in
       let g2 = counts s n (v.place + g1.own) g1.others work keep g1.second in
       let g3 = counts s n (v.place + g1.own) g2.own (address_words (register_of T1 p.loc) offset)
-      (load (load_width ch) (target r.loc) (address_register (register_of T1 p.loc) offset) (address_offset offset) ∷ []) g2.first in
+      (load_piece (load_width ch) (target r.loc) (address_register (register_of T1 p.loc) offset) (address_offset offset) ∷ []) g2.first in
       let f1 = fetches s n laid m slots v young held a c none within T1 5 refl (inl refl) v.place g1.own p.loc at_p g1.first in
       let tg = targeted s n laid m slots v young held a c none within r.loc at_r in
       let ad = addresses s n laid young held a c (register_of T1 p.loc) f1.r f1.is f1.apart offset fits_64 (v.place + g1.own) g3.own g3.first in
       let l = last s n (v.place + g1.own + g3.own) g3.others
-      (Load (load_width ch) (number (target r.loc)) (number (address_register (register_of T1 p.loc) offset)) (address_offset offset % 4096)) g3.second in
+      (Load (load_width ch) (register_number (target r.loc)) (register_number (address_register (register_of T1 p.loc) offset)) (address_offset offset % 4096)) g3.second in
       let e1 = g1.sum in
       let e2 = g2.sum in
       let e3 = g3.sum in
@@ -163,26 +163,26 @@ module _ (s : Fixed) (n : Named) (laid : Laid) (m : Lin) (slots : m.slots ≡ la
       let all : k ≡ g1.own + (g2.own + g2.others) = omega (arith, e1, e2) in
       let two : g2.own ≡ g3.own + 1 = omega (arith, e3, e4) in
       let rs : List ℕ = suc tg.t ∷ 6 ∷ 7 ∷ [] in
-      subst (λ j. Comes s v j (λ w. Within s laid w young 0 (put r z held) a c)) (sym all)
-      (unary s laid young a c none held tg.rest (put r z held) v.place g1.own g2.own g2.others (suc f1.r) (suc tg.t) f1.list (suc tg.t ∷ 6 ∷ 7 ∷ []) x z
+      subst (λ j. LeadsFurther s v j (λ w. Within s laid w young 0 (assign_spot r z held) a c)) (sym all)
+      (unary s laid young a c none held tg.rest (assign_spot r z held) v.place g1.own g2.own g2.others (suc f1.r) (suc tg.t) f1.list (suc tg.t ∷ 6 ∷ 7 ∷ []) x z
       (f1.gets x h) tg.makes (target_or_scratch (suc tg.t)) (tg.keeps r refl z (v.place + g1.own + g2.own) g2.others g2.second)
       (λ u at w sx.
-      let reach = reached s (all_of u young) u.memory w.usable.regions a w.heap (width ch) (chunk_width ch) (moved_by offset x) cell there in
+      let reach = reached s (blocks_by_serial u young) u.memory w.usable.regions a w.heap (width ch) (chunk_width ch) (moved_by offset x) cell there in
       let lies = reach.is written in
       let from : ℕ = reach.byte in
       let value : ℕ = register_loaded (load_width ch) (part (held_word u.memory reach.at) reach.byte (width ch)) in
-      let stands : StandsFor s (all_of u young) (register_loaded (load_width ch) (part (held_word u.memory reach.at) reach.byte (width ch))) z =
-      loaded_stands s (all_of u young) (end_of_data a.memory) (held_word u.memory reach.at) reach.byte (held_below u.memory reach.at w.usable.regions.each) ch (value_in a.memory cell) z
+      let stands : StandsFor s (blocks_by_serial u young) (register_loaded (load_width ch) (part (held_word u.memory reach.at) reach.byte (width ch))) z =
+      loaded_stands s (blocks_by_serial u young) (end_of_data a.memory) (held_word u.memory reach.at) reach.byte (held_below u.memory reach.at w.usable.regions.each) ch (value_in a.memory cell) z
       lies reach.inside (subst (λ b. loaded_as ch (end_of_data a.memory) b (value_in a.memory cell) ≡ Ok z) reach.offset e) in
       let first = ad.gets x (no_function a (width ch) offset x cell there) u at w sx in
-      let code : IsCode s (u.place + g3.own) (Load (load_width ch) (suc tg.t) (suc ad.r) (address_offset offset % 4096)) =
-      subst (λ y. IsCode s (y + g3.own) (Load (load_width ch) (suc tg.t) (suc ad.r) (address_offset offset % 4096))) (sym at)
-      (subst (λ y. IsCode s (v.place + g1.own + g3.own) (Load (load_width ch) y (suc ad.r) (address_offset offset % 4096))) tg.is
-      (subst (λ y. IsCode s (v.place + g1.own + g3.own) (Load (load_width ch) (number (target r.loc)) y (address_offset offset % 4096))) ad.is l.0)) in
-      subst (λ j. Changes s u j (suc tg.t ∷ 6 ∷ 7 ∷ []) u.memory (λ o. StandsFor s (all_of u young) (slice_index o.registers (suc tg.t)) z)) (sym two)
+      let code : IsInstructionAt s (u.place + g3.own) (Load (load_width ch) (suc tg.t) (suc ad.r) (address_offset offset % 4096)) =
+      subst (λ y. IsInstructionAt s (y + g3.own) (Load (load_width ch) (suc tg.t) (suc ad.r) (address_offset offset % 4096))) (sym at)
+      (subst (λ y. IsInstructionAt s (v.place + g1.own + g3.own) (Load (load_width ch) y (suc ad.r) (address_offset offset % 4096))) tg.is
+      (subst (λ y. IsInstructionAt s (v.place + g1.own + g3.own) (Load (load_width ch) (register_number (target r.loc)) y (address_offset offset % 4096))) ad.is l.0)) in
+      subst (λ j. Changes s u j (suc tg.t ∷ 6 ∷ 7 ∷ []) u.memory (λ o. StandsFor s (blocks_by_serial u young) (slice_index o.registers (suc tg.t)) z)) (sym two)
       (widened s u (g3.own + 1) (suc tg.t ∷ 6 ∷ 7 ∷ []) (suc tg.t ∷ 6 ∷ 7 ∷ []) u.memory
       (λ o. slice_index o.registers (suc tg.t) ≡ register_loaded (load_width ch) (part (held_word u.memory reach.at) reach.byte (width ch))) _ (λ q i. i)
-      (λ o past f. subst (λ y. StandsFor s (all_of u young) y z) (sym f) stands)
+      (λ o past f. subst (λ y. StandsFor s (blocks_by_serial u young) y z) (sym f) stands)
       (set_then s u g3.own (suc tg.t ∷ 6 ∷ 7 ∷ []) u.memory _
       (Load (load_width ch) (suc tg.t) (suc ad.r) (address_offset offset % 4096)) tg.t value
       (widened s u g3.own ad.list (suc tg.t ∷ 6 ∷ 7 ∷ []) u.memory _ _
@@ -216,7 +216,7 @@ module _ (s : Fixed) (n : Named) (laid : Laid) (m : Lin) (slots : m.slots ≡ la
       (λ x h e. by_cell x (cell_at a.memory (width ch) (moved_by offset x)) refl h)
     where
       by_result : (x : Value) (cell : Cell) (o : Result Value Kind) → cell_at a.memory (width ch) (moved_by offset x) ≡ Some cell →
-          is_among cell a.unwritten ≡ false → memory.loaded ch a.memory (moved_by offset x) ≡ o →
+          is_among_cells cell a.unwritten ≡ false → memory.loaded ch a.memory (moved_by offset x) ≡ o →
           file p.loc ≡ Some x → FollowsStep k s laid live entry c v
           (on_act place m (record { op = lin.Op (op.Access (access.Load ch offset)); args = p ∷ []; results = r ∷ [] }) next file a (one_result a o))
       by_result x cell (Err kind) e w f h = tt
@@ -225,7 +225,7 @@ module _ (s : Fixed) (n : Named) (laid : Laid) (m : Lin) (slots : m.slots ≡ la
           (λ fit. loads x z cell (reads_held before held file p.loc agrees reads ∙ h) e w
           (ap (loaded_from ch a.memory (offset_in_cell (moved_by offset x))) (sym e) ∙ f))
 
-      by_written : (x : Value) (cell : Cell) (b : Bool) → is_among cell a.unwritten ≡ b → cell_at a.memory (width ch) (moved_by offset x) ≡ Some cell →
+      by_written : (x : Value) (cell : Cell) (b : Bool) → is_among_cells cell a.unwritten ≡ b → cell_at a.memory (width ch) (moved_by offset x) ≡ Some cell →
           file p.loc ≡ Some x →
           FollowsStep k s laid live entry c v
           (on_act place m (record {
@@ -244,4 +244,4 @@ module _ (s : Fixed) (n : Named) (laid : Laid) (m : Lin) (slots : m.slots ≡ la
             results = r ∷ [];
           }) next file a (loaded_act a o (memory.loaded ch a.memory (moved_by offset x))))
       by_cell x None e h = tt
-      by_cell x (Some cell) e h = by_written x cell (is_among cell a.unwritten) refl e h
+      by_cell x (Some cell) e h = by_written x cell (is_among_cells cell a.unwritten) refl e h

@@ -8,8 +8,8 @@ use Rattle.bs_words.specs.declared.values.Value.{Value}
 use Rattle.bs_words.specs.declared.values.Value.TheVariants.{Word}
 use Rattle.emit_rules.specs.Emitted.{pure_part}
 use Rattle.emit_rules.specs.Operators.{operated, operated_with}
-use Rattle.emit_rules.specs.Slots.{fetched, kept, register_of, target}
-use Rattle.layout_rules.specs.Words.{Named}
+use Rattle.emit_rules.specs.Slots.{fetch_pieces, keep_pieces, register_of, target}
+use Rattle.layout_rules.specs.Words.{NameAddresses}
 use Rattle.lin_ir.specs.Formed.{IsLocation}
 use Rattle.lin_ir.specs.Meaning.{Locations, NamedAt, step}
 use Rattle.lin_ir.specs.declared.lin.Lin.{Lin}
@@ -18,12 +18,12 @@ use Rattle.lin_ir.specs.declared.lin.LinOp.TheVariants as lin
 use Rattle.lin_ir.specs.declared.lin.Spot.{Spot}
 use Rattle.mach_ir.specs.Acts.{Around}
 use Rattle.mach_ir.specs.Forms.{is_immediate}
-use Rattle.mach_ir.specs.Runs.{Place}
+use Rattle.mach_ir.specs.Runs.{ActivationSetting}
 use Rattle.mach_ir.specs.declared.op.Op.TheVariants as op
 use Rattle.mach_ir.specs.declared.op.Pure.TheVariants as pure
 use Rattle.mach_ir.specs.declared.op.Right.TheVariants as right
 use Rattle.moving_laws.specs.Heap.{AreBlocks}
-use Rattle.moving_laws.specs.Stands.{Among}
+use Rattle.moving_laws.specs.Stands.{AmongNumbers}
 use Rattle.rv_isa.specs.declared.register.Register.TheVariants.{T1, T2}
 use Rattle.rv_machine.specs.Arithmetic.{bit_of}
 use Rattle.rv_machine.specs.Hart.{Placed}
@@ -31,7 +31,7 @@ use Rattle.rv_machine.specs.Memory.{Region}
 use Rattle.rv_pieces.specs.declared.piece.Piece.{Piece}
 use Rattle.linear_machine.specs.Contents.{size_in}
 use Rattle.linear_machine.specs.Follows.{Agrees, FollowsStep}
-use Rattle.linear_machine.specs.Relation.{Below, HeapStands, Laid, StandsFor, Within, all_of}
+use Rattle.linear_machine.specs.Relation.{Below, HeapStands, Laid, StandsFor, Within, blocks_by_serial}
 use Rattle.linear_machine.specs.Relation as relation
 use Rattle.linear_machine.specs.View.{Fixed, View}
 use Rattle.linear_machine.proofs.Following.{PassesSpare}
@@ -89,12 +89,12 @@ module _ (s : Fixed) (placed : List Placed) (blocks : AreBlocks placed) (ns : Li
 -- ---- lines
 
 -- t1, or a register that is a location, is not t2
-pub no_second : (r : ℕ) → (r ≡ 6) ⊎ relation.IsLocation r → r ≢ 7
+pub no_second : (r : ℕ) → (r ≡ 6) ⊎ relation.IsLocationRegister r → r ≢ 7
 no_second r (inl e) f = omega (arith, e, f)
 no_second r (inr l) f = l.no_scratch.1 f
 
-module _ (s : Fixed) (n : Named) (laid : Laid) (m : Lin) (slots : m.slots ≡ laid.slots) (live : List Line → Type 0) (entry : ℕ → ℕ) (c : Below)
-    (place : Place) (named : NamedAt) (next : List Line) (v : View) (young : List Placed) (held file : Locations) (a : Around) (none : a.raised ≡ None)
+module _ (s : Fixed) (n : NameAddresses) (laid : Laid) (m : Lin) (slots : m.slots ≡ laid.slots) (live : List Line → Type 0) (entry : ℕ → ℕ) (c : Below)
+    (place : ActivationSetting) (named : NamedAt) (next : List Line) (v : View) (young : List Placed) (held file : Locations) (a : Around) (none : a.raised ≡ None)
     (within : Within s laid v young 0 held a c) (before : Type 0) (agrees : Agrees before held file) (k : ℕ) (behind : laid.part (length next) ≡ v.place + k)
     (r : Spot) (at_r : IsLocation m r.loc) (passes : PassesSpare before (live next) r.loc) where
   pub operator_line : (f : IntOp) (p q : Spot) → IsLocation m p.loc → IsLocation m q.loc → Reads before p.loc → Reads before q.loc →
@@ -105,10 +105,10 @@ module _ (s : Fixed) (n : Named) (laid : Laid) (m : Lin) (slots : m.slots ≡ la
         around = a;
       }))
   operator_line f p q at_p at_q reads_p reads_q part =
-      let one : List Piece = fetched (length a.tries) T1 p.loc in
-      let two : List Piece = fetched (length a.tries) T2 q.loc in
+      let one : List Piece = fetch_pieces (length a.tries) T1 p.loc in
+      let two : List Piece = fetch_pieces (length a.tries) T2 q.loc in
       let work : List Piece = operated f (target r.loc) (register_of T1 p.loc) (register_of T2 q.loc) in
-      let keep : List Piece = kept (length a.tries) r.loc in
+      let keep : List Piece = keep_pieces (length a.tries) r.loc in
       let turned : PartStands s n v.place (v.place + k) (one ++ (two ++ (work ++ keep))) =
       subst (PartStands s n v.place (v.place + k)) (append_assoc (one ++ two) work keep ∙ append_assoc one two (work ++ keep)) part in
       let g1 = counts s n v.place k one (two ++ (work ++ keep)) turned in
@@ -136,13 +136,13 @@ module _ (s : Fixed) (n : Named) (laid : Laid) (m : Lin) (slots : m.slots ≡ la
       let are = w.own.are in
       widened s u g3.own (suc tg.t ∷ []) (suc tg.t ∷ []) u.memory
       (λ o. slice_index o.registers (suc tg.t) ≡ result_word f (slice_index u.registers (suc f1.r)) (slice_index u.registers (suc f2.r))) _ (λ i j. j)
-      (λ o past h. subst (λ i. StandsFor s (all_of u young) i z) (sym h)
-      (operated_value s (all_of u young) w.heap.old (sizes a.memory) (sized s (all_of u young) u.memory a w.heap) f x y z
+      (λ o past h. subst (λ i. StandsFor s (blocks_by_serial u young) i z) (sym h)
+      (operated_value s (blocks_by_serial u young) w.heap.old (sizes a.memory) (sized s (blocks_by_serial u young) u.memory a w.heap) f x y z
       (slice_index u.registers (suc f1.r)) (slice_index u.registers (suc f2.r)) (are.words (suc f1.r)) (are.words (suc f2.r)) sx sy e))
       (operated_leaves s n u are (target r.loc) tg.t tg.is tg.fits tg.no_sp (register_of T1 p.loc) f1.r f1.is g3.own (register_of T2 q.loc) f2.r f2.is f
       there)))
 
-  target_and_second : (t q : ℕ) → Among q (t ∷ 7 ∷ []) → (q ≡ t) ⊎ IsScratch q
+  target_and_second : (t q : ℕ) → AmongNumbers q (t ∷ 7 ∷ []) → (q ≡ t) ⊎ IsScratch q
   target_and_second t q i = ⊎_elim (λ e. inl e) (λ f. ⊎_elim (λ e. inr (inr e)) (λ z. absurd z) f) i
 
   pub operator_with_line : (f : IntOp) (w : ℕ) → is_immediate f w ≡ true → w < 2 ^ 64 → (p : Spot) → IsLocation m p.loc → Reads before p.loc →
@@ -153,9 +153,9 @@ module _ (s : Fixed) (n : Named) (laid : Laid) (m : Lin) (slots : m.slots ≡ la
         around = a;
       }))
   operator_with_line f w has small p at_p reads_p part =
-      let one : List Piece = fetched (length a.tries) T1 p.loc in
+      let one : List Piece = fetch_pieces (length a.tries) T1 p.loc in
       let work : List Piece = operated_with f (target r.loc) (register_of T1 p.loc) w in
-      let keep : List Piece = kept (length a.tries) r.loc in
+      let keep : List Piece = keep_pieces (length a.tries) r.loc in
       let turned : PartStands s n v.place (v.place + k) (one ++ (work ++ keep)) =
       subst (PartStands s n v.place (v.place + k)) (append_assoc one work keep) part in
       let g1 = counts s n v.place k one (work ++ keep) turned in
@@ -180,8 +180,8 @@ module _ (s : Fixed) (n : Named) (laid : Laid) (m : Lin) (slots : m.slots ≡ la
       let are = i.own.are in
       widened s u g2.own (suc tg.t ∷ 7 ∷ []) (suc tg.t ∷ 7 ∷ []) u.memory
       (λ o. slice_index o.registers (suc tg.t) ≡ result_word f (slice_index u.registers (suc f1.r)) w) _ (λ y j. j)
-      (λ o past h. subst (λ y. StandsFor s (all_of u young) y z) (sym h)
-      (operated_value s (all_of u young) i.heap.old (sizes a.memory) (sized s (all_of u young) u.memory a i.heap) f x (Word w) z
+      (λ o past h. subst (λ y. StandsFor s (blocks_by_serial u young) y z) (sym h)
+      (operated_value s (blocks_by_serial u young) i.heap.old (sizes a.memory) (sized s (blocks_by_serial u young) u.memory a i.heap) f x (Word w) z
       (slice_index u.registers (suc f1.r)) w (are.words (suc f1.r)) small sx (record { is = refl; known = tt }) e))
       (operated_with_leaves s n u are (target r.loc) tg.t tg.is tg.fits tg.no_sp (register_of T1 p.loc) f1.r f1.is (no_second (suc f1.r) f1.apart)
       g2.own w f has there)))

@@ -6,21 +6,21 @@ use Rattle.std.proofs.lemmas.List.Elements.{All-contains, All-nil, All-cons}
 use Rattle.bs_words.specs.declared.types.Loc.TheVariants as loc
 use Rattle.lin_ir.specs.Formed.{is_colour, is_slot, IsLocation, is_home, is_spare}
 use Rattle.lin_ir.specs.declared.lin.Lin.{Lin}
-use Rattle.mach_ir.specs.Placed.{colours}
-use Rattle.rv_isa.specs.Registers.{number, register_at}
+use Rattle.mach_ir.specs.Placed.{colour_numbers}
+use Rattle.rv_isa.specs.Registers.{register_number, register_at}
 use Rattle.linear_machine.specs.Relation as relation
 use Rattle.lin_laws.proofs.Forms.{same_machine}
 
 -- a register that holds values, with the number that its name has
 pub record IsUsual (r : ℕ) : Type 0 where
-  pub number_is : number (register_at r) ≡ r
-  pub location : relation.IsLocation r
+  pub number_is : register_number (register_at r) ≡ r
+  pub location : relation.IsLocationRegister r
 
 -- ---- by tests
 
 abbrev is_usual : ℕ → Bool
 is_usual r =
-    nat_eq (number (register_at r)) r && (nat_le 3 r && (nat_lt r 32 && (not (nat_eq r 9) && (not (nat_eq r 26) && (not (nat_eq r 27) && (not (nat_eq r 6)
+    nat_eq (register_number (register_at r)) r && (nat_le 3 r && (nat_lt r 32 && (not (nat_eq r 9) && (not (nat_eq r 26) && (not (nat_eq r 27) && (not (nat_eq r 6)
     && not (nat_eq r 7)))))))
 
 no_equal : (a b : ℕ) → not (nat_eq a b) ≡ true → a ≡ b → ⊥
@@ -36,7 +36,7 @@ by_test r t =
     let p6 = and_parts _ _ p5.1 in
     let p7 = and_parts _ _ p6.1 in
     record {
-      number_is = eqb-true (number (register_at r)) r p1.0;
+      number_is = eqb-true (register_number (register_at r)) r p1.0;
       location = record {
         some = leb-true 3 r p2.0;
         below = ltb-true r 32 p3.0;
@@ -60,7 +60,7 @@ from_tests (x ∷ xs) e =
 -- ---- locations
 
 pub usual_of : (m : Lin) (r : ℕ) → IsLocation m (loc.Machine r) → IsUsual r
-usual_of m r (is_home (is_colour c)) = All-contains IsUsual colours r (from_tests colours refl) c
+usual_of m r (is_home (is_colour c)) = All-contains IsUsual colour_numbers r (from_tests colour_numbers refl) c
 usual_of m r (is_spare e) = subst IsUsual (sym (same_machine r 5 e)) (by_test 5 refl)
 
 pub slot_of : (m : Lin) (k : ℕ) → IsLocation m (loc.Slot k) → k < m.slots

@@ -7,12 +7,12 @@ use Rattle.bs_words.specs.declared.operators.CmpOp.{CmpOp}
 use Rattle.bs_words.specs.declared.operators.CmpOp.TheVariants as compare
 use Rattle.bs_words.specs.declared.operators.IntOp.{IntOp}
 use Rattle.bs_words.specs.declared.operators.IntOp.TheVariants as operator
-use Rattle.emit_rules.specs.Constants.{constant}
-use Rattle.emit_rules.specs.Instructions.{addi, operation, shift, with_immediate}
+use Rattle.emit_rules.specs.Constants.{constant_pieces}
+use Rattle.emit_rules.specs.Instructions.{addi, alu_operation, shift_piece, with_immediate}
 use Rattle.emit_rules.specs.Operators.{compared, compared_with, operated, operated_with}
-use Rattle.layout_rules.specs.Words.{Named}
+use Rattle.layout_rules.specs.Words.{NameAddresses}
 use Rattle.mach_ir.specs.Forms.{is_immediate, is_immediate_12, is_opposite_immediate_12}
-use Rattle.rv_isa.specs.Registers.{number}
+use Rattle.rv_isa.specs.Registers.{register_number}
 use Rattle.rv_isa.specs.declared.instr.AluImmOp.{AluImmOp}
 use Rattle.rv_isa.specs.declared.instr.AluImmOp.TheVariants as imm
 use Rattle.rv_isa.specs.declared.instr.AluOp.{AluOp}
@@ -28,7 +28,7 @@ use Rattle.rv_machine.specs.Arithmetic.{alu, bit_of, imm_i}
 use Rattle.rv_machine.specs.Sound.{AreRegisters}
 use Rattle.machine_laws.proofs.Values.{alu-below, alu_imm-below}
 use Rattle.linear_machine.specs.Straight.{Changes}
-use Rattle.linear_machine.specs.View.{Fixed, View, IsCode}
+use Rattle.linear_machine.specs.View.{Fixed, View, IsInstructionAt}
 use Rattle.linear_machine.proofs.Formats.{sets_imm, sets_op}
 use Rattle.machine_laws.proofs.Immediates.{by_12}
 use Rattle.linear_machine.proofs.Rows.{IsImmediateRow, adds, less, less_unsigned, and_bits, or_bits, xor_bits, immediate_sets, immediate_small, shift_sets}
@@ -62,30 +62,30 @@ result_word (operator.CmpU f) a b = compared_word (alu row.Sltu) f a b
 abbrev pub Leaves : Fixed → View → ℕ → ℕ → ℕ → Type 0
 Leaves s u k t x = Changes s u k (t ∷ []) u.memory (λ w. slice_index w.registers t ≡ x)
 
-module _ (s : Fixed) (n : Named) (u : View) (are : AreRegisters u.registers) (to : Register) (t : ℕ) (t_is : number to ≡ suc t) (fits : suc t < 32)
+module _ (s : Fixed) (n : NameAddresses) (u : View) (are : AreRegisters u.registers) (to : Register) (t : ℕ) (t_is : register_number to ≡ suc t) (fits : suc t < 32)
     (no_sp : suc t ≢ 2) where
   -- ---- instructions
 
-  row_leaves : (r : AluOp) (a b : Register) (ra rb : ℕ) → number a ≡ suc ra → number b ≡ suc rb → IsCode s u.place (Op r (number to) (number a) (number b)) →
+  row_leaves : (r : AluOp) (a b : Register) (ra rb : ℕ) → register_number a ≡ suc ra → register_number b ≡ suc rb → IsInstructionAt s u.place (Op r (register_number to) (register_number a) (register_number b)) →
       Leaves s u 1 (suc t) (alu r (slice_index u.registers (suc ra)) (slice_index u.registers (suc rb)))
   row_leaves r a b ra rb a_is b_is c =
       let wx : ℕ = slice_index u.registers (suc ra) in
       let wy : ℕ = slice_index u.registers (suc rb) in
-      let code : IsCode s u.place (Op r (suc t) (suc ra) (suc rb)) =
-      subst (λ z. IsCode s u.place (Op r z (suc ra) (suc rb))) t_is
-      (subst (λ z. IsCode s u.place (Op r (number to) z (suc rb))) a_is (subst (λ z. IsCode s u.place (Op r (number to) (number a) z)) b_is c)) in
+      let code : IsInstructionAt s u.place (Op r (suc t) (suc ra) (suc rb)) =
+      subst (λ z. IsInstructionAt s u.place (Op r z (suc ra) (suc rb))) t_is
+      (subst (λ z. IsInstructionAt s u.place (Op r (register_number to) z (suc rb))) a_is (subst (λ z. IsInstructionAt s u.place (Op r (register_number to) (register_number a) z)) b_is c)) in
       set_changes s u (Op r (suc t) (suc ra) (suc rb)) t (alu r wx wy) code (inl no_sp) (sets_op s u r (suc t) (suc ra) (suc rb)) are fits
       (alu-below r wx wy (are.words (suc ra)) (are.words (suc rb)))
 
   -- of a register and a constant
   constant_leaves : (i : Instr) (r : AluOp) (ra w : ℕ) → w < 2 ^ 64 → SetsRegister s u i (suc t) (alu r (slice_index u.registers (suc ra)) w) →
-      IsCode s u.place i → Leaves s u 1 (suc t) (alu r (slice_index u.registers (suc ra)) w)
+      IsInstructionAt s u.place i → Leaves s u 1 (suc t) (alu r (slice_index u.registers (suc ra)) w)
   constant_leaves i r ra w small sets code =
       set_changes s u i t (alu r (slice_index u.registers (suc ra)) w) code (inl no_sp) sets are fits
       (alu-below r (slice_index u.registers (suc ra)) w (are.words (suc ra)) small)
 
   -- and then one instruction more, of the target itself
-  more : (i : Instr) (g : ℕ → ℕ) (x : ℕ) → Leaves s u 1 (suc t) x → IsCode s (u.place + 1) i →
+  more : (i : Instr) (g : ℕ → ℕ) (x : ℕ) → Leaves s u 1 (suc t) x → IsInstructionAt s (u.place + 1) i →
       ((w : View) → SetsRegister s w i (suc t) (g (slice_index w.registers (suc t)))) → g x < 2 ^ 64 → Leaves s u 2 (suc t) (g x)
   more i g x first code sets below =
       set_then s u 1 (suc t ∷ []) u.memory (λ w. slice_index w.registers (suc t) ≡ x) i t (g x) first (inl refl)
@@ -96,36 +96,36 @@ module _ (s : Fixed) (n : Named) (u : View) (are : AreRegisters u.registers) (to
   bit_below false = omega arith
 
   -- the last of two
-  then_opposed : (x : ℕ) → x < 2 ^ 64 → Leaves s u 1 (suc t) x → IsCode s (u.place + 1) (OpImm imm.Xori (number to) (number to) 1) →
+  then_opposed : (x : ℕ) → x < 2 ^ 64 → Leaves s u 1 (suc t) x → IsInstructionAt s (u.place + 1) (OpImm imm.Xori (register_number to) (register_number to) 1) →
       Leaves s u 2 (suc t) (bit_xor x (imm_i 1))
   then_opposed x small first code =
-      more (OpImm imm.Xori (suc t) (suc t) 1) (λ z. bit_xor z (imm_i 1)) x first (subst (λ z. IsCode s (u.place + 1) (OpImm imm.Xori z z 1)) t_is code)
+      more (OpImm imm.Xori (suc t) (suc t) 1) (λ z. bit_xor z (imm_i 1)) x first (subst (λ z. IsInstructionAt s (u.place + 1) (OpImm imm.Xori z z 1)) t_is code)
       (λ w. sets_imm s w imm.Xori (suc t) (suc t) 1) (alu_imm-below imm.Xori x 1 small)
 
-  then_none : (x : ℕ) → x < 2 ^ 64 → Leaves s u 1 (suc t) x → IsCode s (u.place + 1) (OpImm imm.Sltiu (number to) (number to) 1) →
+  then_none : (x : ℕ) → x < 2 ^ 64 → Leaves s u 1 (suc t) x → IsInstructionAt s (u.place + 1) (OpImm imm.Sltiu (register_number to) (register_number to) 1) →
       Leaves s u 2 (suc t) (bit_of (nat_lt x (imm_i 1)))
   then_none x small first code =
       more (OpImm imm.Sltiu (suc t) (suc t) 1) (λ z. bit_of (nat_lt z (imm_i 1))) x first
-      (subst (λ z. IsCode s (u.place + 1) (OpImm imm.Sltiu z z 1)) t_is code) (λ w. sets_imm s w imm.Sltiu (suc t) (suc t) 1)
+      (subst (λ z. IsInstructionAt s (u.place + 1) (OpImm imm.Sltiu z z 1)) t_is code) (λ w. sets_imm s w imm.Sltiu (suc t) (suc t) 1)
       (bit_below (nat_lt x (imm_i 1)))
 
-  then_some : (x : ℕ) → Leaves s u 1 (suc t) x → IsCode s (u.place + 1) (Op row.Sltu (number to) 0 (number to)) →
+  then_some : (x : ℕ) → Leaves s u 1 (suc t) x → IsInstructionAt s (u.place + 1) (Op row.Sltu (register_number to) 0 (register_number to)) →
       Leaves s u 2 (suc t) (bit_of (nat_lt 0 x))
   then_some x first code =
-      more (Op row.Sltu (suc t) 0 (suc t)) (λ z. bit_of (nat_lt 0 z)) x first (subst (λ z. IsCode s (u.place + 1) (Op row.Sltu z 0 z)) t_is code)
+      more (Op row.Sltu (suc t) 0 (suc t)) (λ z. bit_of (nat_lt 0 z)) x first (subst (λ z. IsInstructionAt s (u.place + 1) (Op row.Sltu z 0 z)) t_is code)
       (λ w. sets_op s w row.Sltu (suc t) 0 (suc t)) (bit_below (nat_lt 0 x))
 
   -- ---- parts
 
   -- one instruction, or two
-  one_part : (k x : ℕ) (i : Instr) → PartStands s n u.place (u.place + k) (Known i ∷ []) → (IsCode s u.place i → Leaves s u 1 (suc t) x) →
+  one_part : (k x : ℕ) (i : Instr) → PartStands s n u.place (u.place + k) (Known i ∷ []) → (IsInstructionAt s u.place i → Leaves s u 1 (suc t) x) →
       Leaves s u k (suc t) x
   one_part k x i part f =
       let g = last s n u.place k i part in
       subst (λ z. Leaves s u z (suc t) x) (sym g.1) (f g.0)
 
   two_part : (k x : ℕ) (i j : Instr) → PartStands s n u.place (u.place + k) (Known i ∷ Known j ∷ []) →
-      (IsCode s u.place i → IsCode s (u.place + 1) j → Leaves s u 2 (suc t) x) → Leaves s u k (suc t) x
+      (IsInstructionAt s u.place i → IsInstructionAt s (u.place + 1) j → Leaves s u 2 (suc t) x) → Leaves s u k (suc t) x
   two_part k x i j part f =
       let g = leads s n u.place k i (Known j ∷ []) part in
       let h = last s n (u.place + 1) g.others j g.rest in
@@ -134,35 +134,35 @@ module _ (s : Fixed) (n : Named) (u : View) (are : AreRegisters u.registers) (to
       let two : k ≡ 2 = omega (arith, e1, e2) in
       subst (λ z. Leaves s u z (suc t) x) (sym two) (f g.code h.0)
 
-  module _ (a : Register) (ra : ℕ) (a_is : number a ≡ suc ra) where
+  module _ (a : Register) (ra : ℕ) (a_is : register_number a ≡ suc ra) where
     abbrev wx : ℕ
     wx = slice_index u.registers (suc ra)
 
-    module _ (k : ℕ) (b : Register) (rb : ℕ) (b_is : number b ≡ suc rb) where
+    module _ (k : ℕ) (b : Register) (rb : ℕ) (b_is : register_number b ≡ suc rb) where
       abbrev wy : ℕ
       wy = slice_index u.registers (suc rb)
 
-      one_row : (r : AluOp) → PartStands s n u.place (u.place + k) (operation r to a b ∷ []) →
+      one_row : (r : AluOp) → PartStands s n u.place (u.place + k) (alu_operation r to a b ∷ []) →
           Leaves s u k (suc t) (alu r (slice_index u.registers (suc ra)) (slice_index u.registers (suc rb)))
-      one_row r part = one_part k (alu r wx wy) (Op r (number to) (number a) (number b)) part (row_leaves r a b ra rb a_is b_is)
+      one_row r part = one_part k (alu r wx wy) (Op r (register_number to) (register_number a) (register_number b)) part (row_leaves r a b ra rb a_is b_is)
 
       compared_leaves : (r : AluOp) (f : CmpOp) → PartStands s n u.place (u.place + k) (compared r f to a b) →
           Leaves s u k (suc t) (compared_word (alu r) f (slice_index u.registers (suc ra)) (slice_index u.registers (suc rb)))
       compared_leaves r compare.Eq part =
-          two_part k (compared_word (alu r) compare.Eq wx wy) (Op row.Xor (number to) (number a) (number b)) (OpImm imm.Sltiu (number to) (number to) 1) part
+          two_part k (compared_word (alu r) compare.Eq wx wy) (Op row.Xor (register_number to) (register_number a) (register_number b)) (OpImm imm.Sltiu (register_number to) (register_number to) 1) part
           (λ c d. then_none (alu row.Xor wx wy) (alu-below row.Xor wx wy (are.words (suc ra)) (are.words (suc rb)))
           (row_leaves row.Xor a b ra rb a_is b_is c) d)
       compared_leaves r compare.Ne part =
-          two_part k (compared_word (alu r) compare.Ne wx wy) (Op row.Xor (number to) (number a) (number b)) (Op row.Sltu (number to) 0 (number to)) part
+          two_part k (compared_word (alu r) compare.Ne wx wy) (Op row.Xor (register_number to) (register_number a) (register_number b)) (Op row.Sltu (register_number to) 0 (register_number to)) part
           (λ c d. then_some (alu row.Xor wx wy) (row_leaves row.Xor a b ra rb a_is b_is c) d)
       compared_leaves r compare.Lt part = one_row r part
       compared_leaves r compare.Ge part =
-          two_part k (compared_word (alu r) compare.Ge wx wy) (Op r (number to) (number a) (number b)) (OpImm imm.Xori (number to) (number to) 1) part
+          two_part k (compared_word (alu r) compare.Ge wx wy) (Op r (register_number to) (register_number a) (register_number b)) (OpImm imm.Xori (register_number to) (register_number to) 1) part
           (λ c d. then_opposed (alu r wx wy) (alu-below r wx wy (are.words (suc ra)) (are.words (suc rb))) (row_leaves r a b ra rb a_is b_is c) d)
       compared_leaves r compare.Gt part =
-          one_part k (alu r wy wx) (Op r (number to) (number b) (number a)) part (row_leaves r b a rb ra b_is a_is)
+          one_part k (alu r wy wx) (Op r (register_number to) (register_number b) (register_number a)) part (row_leaves r b a rb ra b_is a_is)
       compared_leaves r compare.Le part =
-          two_part k (compared_word (alu r) compare.Le wx wy) (Op r (number to) (number b) (number a)) (OpImm imm.Xori (number to) (number to) 1) part
+          two_part k (compared_word (alu r) compare.Le wx wy) (Op r (register_number to) (register_number b) (register_number a)) (OpImm imm.Xori (register_number to) (register_number to) 1) part
           (λ c d. then_opposed (alu r wy wx) (alu-below r wy wx (are.words (suc rb)) (are.words (suc ra))) (row_leaves r b a rb ra b_is a_is c) d)
 
       -- Two registers.
@@ -190,25 +190,25 @@ module _ (s : Fixed) (n : Named) (u : View) (are : AreRegisters u.registers) (to
     module _ (k w : ℕ) where
       -- a row with an immediate
       immediate_code : (r : AluOp) (i : AluImmOp) → IsImmediateRow r i → is_immediate_12 w ≡ true →
-          IsCode s u.place (OpImm i (number to) (number a) (w % 4096)) → Leaves s u 1 (suc t) (alu r (slice_index u.registers (suc ra)) w)
+          IsInstructionAt s u.place (OpImm i (register_number to) (register_number a) (w % 4096)) → Leaves s u 1 (suc t) (alu r (slice_index u.registers (suc ra)) w)
       immediate_code r i is h c =
           constant_leaves (OpImm i (suc t) (suc ra) (w % 4096)) r ra w (immediate_small w h) (immediate_sets s u t ra w r i is h)
-          (subst (λ z. IsCode s u.place (OpImm i z (suc ra) (w % 4096))) t_is
-          (subst (λ z. IsCode s u.place (OpImm i (number to) z (w % 4096))) a_is c))
+          (subst (λ z. IsInstructionAt s u.place (OpImm i z (suc ra) (w % 4096))) t_is
+          (subst (λ z. IsInstructionAt s u.place (OpImm i (register_number to) z (w % 4096))) a_is c))
 
       immediate_row : (r : AluOp) (i : AluImmOp) → IsImmediateRow r i → is_immediate_12 w ≡ true →
           PartStands s n u.place (u.place + k) (with_immediate i to a w ∷ []) → Leaves s u k (suc t) (alu r (slice_index u.registers (suc ra)) w)
-      immediate_row r i is h part = one_part k (alu r wx w) (OpImm i (number to) (number a) (w % 4096)) part (immediate_code r i is h)
+      immediate_row r i is h part = one_part k (alu r wx w) (OpImm i (register_number to) (register_number a) (w % 4096)) part (immediate_code r i is h)
 
       shift_row : (r : AluOp) (i : ShiftOp) →
           (((r ≡ row.Sll) × (i ≡ amount.Slli)) ⊎ (((r ≡ row.Srl) × (i ≡ amount.Srli)) ⊎ ((r ≡ row.Sra) × (i ≡ amount.Srai)))) → nat_lt w 64 ≡ true →
-          PartStands s n u.place (u.place + k) (shift i to a w ∷ []) → Leaves s u k (suc t) (alu r (slice_index u.registers (suc ra)) w)
+          PartStands s n u.place (u.place + k) (shift_piece i to a w ∷ []) → Leaves s u k (suc t) (alu r (slice_index u.registers (suc ra)) w)
       shift_row r i which h part =
           let small = ltb-true w 64 h in
-          one_part k (alu r wx w) (Shift i (number to) (number a) (w % 64)) part
+          one_part k (alu r wx w) (Shift i (register_number to) (register_number a) (w % 64)) part
           (λ c. constant_leaves (Shift i (suc t) (suc ra) (w % 64)) r ra w (omega (arith, small)) (shift_sets s u t ra w r i which small)
-          (subst (λ z. IsCode s u.place (Shift i z (suc ra) (w % 64))) t_is
-          (subst (λ z. IsCode s u.place (Shift i (number to) z (w % 64))) a_is c)))
+          (subst (λ z. IsInstructionAt s u.place (Shift i z (suc ra) (w % 64))) t_is
+          (subst (λ z. IsInstructionAt s u.place (Shift i (register_number to) z (w % 64))) a_is c)))
 
       -- the opposite is added
       opposite_by : (x y i : ℕ) → x < 2 ^ 64 → w < 2 ^ 64 → (w ≤ 2048) ⊎ (0xFFFFFFFFFFFFF800 < w) → y ≡ (4096 - w % 4096) % 4096 →
@@ -237,10 +237,10 @@ module _ (s : Fixed) (n : Named) (u : View) (are : AreRegisters u.registers) (to
       opposite_row : is_opposite_immediate_12 w ≡ true → PartStands s n u.place (u.place + k) (addi to a (4096 - w % 4096) ∷ []) →
           Leaves s u k (suc t) (sub_word (slice_index u.registers (suc ra)) w)
       opposite_row h part =
-          one_part k (sub_word wx w) (OpImm imm.Addi (number to) (number a) ((4096 - w % 4096) % 4096)) part
+          one_part k (sub_word wx w) (OpImm imm.Addi (register_number to) (register_number a) ((4096 - w % 4096) % 4096)) part
           (λ c. set_changes s u (OpImm imm.Addi (suc t) (suc ra) ((4096 - w % 4096) % 4096)) t (sub_word wx w)
-          (subst (λ z. IsCode s u.place (OpImm imm.Addi z (suc ra) ((4096 - w % 4096) % 4096))) t_is
-          (subst (λ z. IsCode s u.place (OpImm imm.Addi (number to) z ((4096 - w % 4096) % 4096))) a_is c))
+          (subst (λ z. IsInstructionAt s u.place (OpImm imm.Addi z (suc ra) ((4096 - w % 4096) % 4096))) t_is
+          (subst (λ z. IsInstructionAt s u.place (OpImm imm.Addi (register_number to) z ((4096 - w % 4096) % 4096))) a_is c))
           (inl no_sp)
           (sets_as s u (OpImm imm.Addi (suc t) (suc ra) ((4096 - w % 4096) % 4096)) (suc t) _ (sub_word wx w) (opposite_is wx (are.words (suc ra)) h)
           (sets_imm s u imm.Addi (suc t) (suc ra) ((4096 - w % 4096) % 4096)))
@@ -250,15 +250,15 @@ module _ (s : Fixed) (n : Named) (u : View) (are : AreRegisters u.registers) (to
 abbrev pub LeavesFar : Fixed → View → ℕ → ℕ → ℕ → Type 0
 LeavesFar s u k t x = Changes s u k (t ∷ 7 ∷ []) u.memory (λ w. slice_index w.registers t ≡ x)
 
-module _ (s : Fixed) (n : Named) (u : View) (are : AreRegisters u.registers) (to : Register) (t : ℕ) (t_is : number to ≡ suc t) (fits : suc t < 32)
-    (no_sp : suc t ≢ 2) (a : Register) (ra : ℕ) (a_is : number a ≡ suc ra) (kept : suc ra ≢ 7) (k w : ℕ) where
+module _ (s : Fixed) (n : NameAddresses) (u : View) (are : AreRegisters u.registers) (to : Register) (t : ℕ) (t_is : register_number to ≡ suc t) (fits : suc t < 32)
+    (no_sp : suc t ≢ 2) (a : Register) (ra : ℕ) (a_is : register_number a ≡ suc ra) (kept : suc ra ≢ 7) (k w : ℕ) where
   wider : (x : ℕ) → Leaves s u k (suc t) x → LeavesFar s u k (suc t) x
   wider x c = widened s u k (suc t ∷ []) (suc t ∷ 7 ∷ []) u.memory _ _ (λ q i. ⊎_elim (λ e. inl e) (λ f. absurd f) i) (λ v p h. h) c
 
-  far_leaves : (r : AluOp) (f : CmpOp) → w < 2 ^ 64 → PartStands s n u.place (u.place + k) (constant T2 w ++ compared r f to a T2) →
+  far_leaves : (r : AluOp) (f : CmpOp) → w < 2 ^ 64 → PartStands s n u.place (u.place + k) (constant_pieces T2 w ++ compared r f to a T2) →
       LeavesFar s u k (suc t) (compared_word (alu r) f (slice_index u.registers (suc ra)) w)
   far_leaves r f small part =
-      let g = counts s n u.place k (constant T2 w) (compared r f to a T2) part in
+      let g = counts s n u.place k (constant_pieces T2 w) (compared r f to a T2) part in
       let wx : ℕ = slice_index u.registers (suc ra) in
       subst (λ z. LeavesFar s u z (suc t) (compared_word (alu r) f (slice_index u.registers (suc ra)) w)) (sym g.sum)
       (then_changes s u g.own g.others (suc t ∷ 7 ∷ []) u.memory u.memory
@@ -285,15 +285,15 @@ module _ (s : Fixed) (n : Named) (u : View) (are : AreRegisters u.registers) (to
   compared_with_leaves r i is compare.Eq h part =
       let wx : ℕ = slice_index u.registers (suc ra) in
       wider (compared_word (alu r) compare.Eq wx w)
-      (two_part s n u are to t t_is fits no_sp k (compared_word (alu r) compare.Eq wx w) (OpImm imm.Xori (number to) (number a) (w % 4096))
-      (OpImm imm.Sltiu (number to) (number to) 1) part
+      (two_part s n u are to t t_is fits no_sp k (compared_word (alu r) compare.Eq wx w) (OpImm imm.Xori (register_number to) (register_number a) (w % 4096))
+      (OpImm imm.Sltiu (register_number to) (register_number to) 1) part
       (λ c d. then_none s n u are to t t_is fits no_sp (alu row.Xor wx w) (alu-below row.Xor wx w (are.words (suc ra)) (immediate_small w h))
       (immediate_code s n u are to t t_is fits no_sp a ra a_is k w row.Xor imm.Xori xor_bits h c) d))
   compared_with_leaves r i is compare.Ne h part =
       let wx : ℕ = slice_index u.registers (suc ra) in
       wider (compared_word (alu r) compare.Ne wx w)
-      (two_part s n u are to t t_is fits no_sp k (compared_word (alu r) compare.Ne wx w) (OpImm imm.Xori (number to) (number a) (w % 4096))
-      (Op row.Sltu (number to) 0 (number to)) part
+      (two_part s n u are to t t_is fits no_sp k (compared_word (alu r) compare.Ne wx w) (OpImm imm.Xori (register_number to) (register_number a) (w % 4096))
+      (Op row.Sltu (register_number to) 0 (register_number to)) part
       (λ c d. then_some s n u are to t t_is fits no_sp (alu row.Xor wx w)
       (immediate_code s n u are to t t_is fits no_sp a ra a_is k w row.Xor imm.Xori xor_bits h c) d))
   compared_with_leaves r i is compare.Lt h part =
@@ -302,8 +302,8 @@ module _ (s : Fixed) (n : Named) (u : View) (are : AreRegisters u.registers) (to
   compared_with_leaves r i is compare.Ge h part =
       let wx : ℕ = slice_index u.registers (suc ra) in
       wider (compared_word (alu r) compare.Ge wx w)
-      (two_part s n u are to t t_is fits no_sp k (compared_word (alu r) compare.Ge wx w) (OpImm i (number to) (number a) (w % 4096))
-      (OpImm imm.Xori (number to) (number to) 1) part
+      (two_part s n u are to t t_is fits no_sp k (compared_word (alu r) compare.Ge wx w) (OpImm i (register_number to) (register_number a) (w % 4096))
+      (OpImm imm.Xori (register_number to) (register_number to) 1) part
       (λ c d. then_opposed s n u are to t t_is fits no_sp (alu r wx w) (alu-below r wx w (are.words (suc ra)) (immediate_small w h))
       (immediate_code s n u are to t t_is fits no_sp a ra a_is k w r i is h c) d))
   compared_with_leaves r i is compare.Gt h part = far_leaves r compare.Gt (immediate_small w h) part

@@ -11,9 +11,9 @@ use Rattle.image_form.specs.Tables.{Tables}
 use Rattle.mach_ir.specs.Acts.{Around}
 use Rattle.rv_machine.specs.Hart.{Placed}
 use Rattle.rv_machine.specs.Memory.{Region}
-use Rattle.rv_machine.specs.Relocation.{root_cells}
+use Rattle.rv_machine.specs.Relocation.{root_addresses}
 use Rattle.rv_machine.specs.Sound.{HasRegions, extents}
-use Rattle.moving_laws.specs.Stands.{Among}
+use Rattle.moving_laws.specs.Stands.{AmongNumbers}
 use Rattle.moving_laws.specs.Values.{IsKnown, IsStill, IsVal, start_of, value_word}
 use Rattle.moving_laws.specs.Words.{held_word}
 use Rattle.moving_laws.proofs.Held.{IsHeld, hold, hold_other, hold_same, readable_hold, word_hold}
@@ -242,13 +242,13 @@ module _ (s : Fixed) (placed : List Placed) (m : List Region) (regions : HasRegi
       same_static e f = same_Some _ _ (sym e ∙ f)
 
   kind_by : (t : Bool) → is_root a.memory.roots at ≡ t → fits (end_of_data a.memory) (type_of_static t) x ≡ true →
-      (IsVal s.image (length placed) x × Among at (root_cells s.image)) ⊎ (IsStill x × (Among at (root_cells s.image) → ⊥))
+      (IsVal s.image (length placed) x × AmongNumbers at (root_addresses s.image)) ⊎ (IsStill x × (AmongNumbers at (root_addresses s.image) → ⊥))
   kind_by true r e =
       let ends = h.lie.ends in
       inl (val_of s.image (length placed) (end_of_data a.memory) x (omega (arith, ends)) stands.known e, h.lie.root at r)
   kind_by false r e = inr (int_still (end_of_data a.memory) x e, λ i. let f = h.lie.roots at i in absurd (cc))
 
-  kind_here : (IsVal s.image (length placed) x × Among at (root_cells s.image)) ⊎ (IsStill x × (Among at (root_cells s.image) → ⊥))
+  kind_here : (IsVal s.image (length placed) x × AmongNumbers at (root_addresses s.image)) ⊎ (IsStill x × (AmongNumbers at (root_addresses s.image) → ⊥))
   kind_here =
       let root : is_root a.memory.roots ((slice_index_or a.memory.statics list no_list).start + 8 * index) ≡ is_root a.memory.roots at =
       ap (is_root a.memory.roots) (ap (λ (l : StaticList). l.start + 8 * index) own_is ∙ at_is) in
@@ -295,8 +295,8 @@ module _ (s : Fixed) (placed : List Placed) (m : List Region) (regions : HasRegi
               (static_as y v e);
           kind = λ y v e. ⊎_elim
               (λ q.
-              subst (λ z. (IsVal s.image (length placed) v × Among z (root_cells s.image)) ⊎ (IsStill v × (Among z (root_cells s.image) → ⊥))) (sym q.0)
-              (subst (λ z. (IsVal s.image (length placed) z × Among at (root_cells s.image)) ⊎ (IsStill z × (Among at (root_cells s.image) → ⊥))) (sym q.1)
+              subst (λ z. (IsVal s.image (length placed) v × AmongNumbers z (root_addresses s.image)) ⊎ (IsStill v × (AmongNumbers z (root_addresses s.image) → ⊥))) (sym q.0)
+              (subst (λ z. (IsVal s.image (length placed) z × AmongNumbers at (root_addresses s.image)) ⊎ (IsStill z × (AmongNumbers at (root_addresses s.image) → ⊥))) (sym q.1)
               kind_here))
               (λ q. h.statics.kind y v q.1)
               (static_as y v e);

@@ -11,7 +11,7 @@ use Rattle.bs_words.specs.declared.values.Kind.{Kind}
 use Rattle.bs_words.specs.declared.values.Value.{Value}
 use Rattle.bs_words.specs.declared.values.Value.TheVariants.{Word, Block, Function}
 use Rattle.bs_words.proofs.Truths.{bool_same}
-use Rattle.mach_ir.specs.Acts.{Act, Around, Goes, On, Stuck, is_among, after_store, first_written, only_if, stored_act, without}
+use Rattle.mach_ir.specs.Acts.{Act, Around, Goes, On, Stuck, is_among_cells, after_store, first_written, stuck_unless, stored_act, without}
 use Rattle.rv_machine.specs.Hart.{Placed}
 use Rattle.rv_machine.specs.Memory.{Region, write}
 use Rattle.linear_machine.specs.Relation.{StandsFor, HeapStands}
@@ -129,7 +129,7 @@ module _ (s : Fixed) (placed : List Placed) (m : List Region) (regions : HasRegi
     (h : HeapStands s placed m a) (at value : ℕ) (small : value < 2 ^ 64) where
   block_puts : (k j : ℕ) (b : HeapBlock) → slice_get a.memory.blocks k ≡ Some b → j < length b.cells → at ≡ start_of placed k + 8 * j → IsReadable m at →
       (after : Memory) → Puts s placed a.memory after (InBlock k j) value → (unwritten : List Cell) →
-      ((c : Cell) → is_among c unwritten ≡ false → (c ≡ InBlock k j) ⊎ (is_among c a.unwritten ≡ false)) →
+      ((c : Cell) → is_among_cells c unwritten ≡ false → (c ≡ InBlock k j) ⊎ (is_among_cells c a.unwritten ≡ false)) →
       HeapStands s placed (hold m at value) (record a { memory = after; unwritten = unwritten })
   block_puts k j b there inside e can after p unwritten fewer =
       let ends = h.lie.ends in
@@ -171,7 +171,7 @@ module _ (s : Fixed) (placed : List Placed) (m : List Region) (regions : HasRegi
     stored_is = ap (λ o. stored_in ch a.memory (offset_in_cell x) o v) there ∙ ap (λ o. stored_in ch a.memory o (Some cell) v) reach.offset
 
     -- where the cell is no header
-    puts_of : (after : Memory) → (width ch ≡ 8) ⊎ (is_among cell a.unwritten ≡ false) →
+    puts_of : (after : Memory) → (width ch ≡ 8) ⊎ (is_among_cells cell a.unwritten ≡ false) →
         stored_as ch (end_of_data a.memory) a.memory cell reach.byte v ≡ Ok after →
         Puts s placed a.memory after cell (replaced (held_word m reach.at) reach.byte (width ch) w)
     puts_of after before e =
@@ -190,7 +190,7 @@ module _ (s : Fixed) (placed : List Placed) (m : List Region) (regions : HasRegi
       ((memory : Memory) (unwritten : List Cell) →
       HeapStands s placed (hold m reach.at (replaced (held_word m reach.at) reach.byte (width ch) w)) (record a { memory = memory; unwritten = unwritten }) →
       Then (Goes [] On (record a { memory = memory; unwritten = unwritten }))) →
-      (t : Bool) → is_among (InHeader k) a.unwritten ≡ t →
+      (t : Bool) → is_among_cells (InHeader k) a.unwritten ≡ t →
       Then (cond t (first_written ch a (InHeader k) x v) (after_store a a.unwritten (memory.stored ch a.memory x v)))
   head_goes k b there i cell reach at go true f =
       by_chunk ch v stands refl refl
@@ -214,7 +214,7 @@ module _ (s : Fixed) (placed : List Placed) (m : List Region) (regions : HasRegi
 
       by_word : (y : ℕ) → w ≡ y → ch ≡ chunk.Int → (b' : Bool) →
           nat_eq y (slice_index_or a.memory.blocks k (record { header = 0; cells = [] })).header ≡ b' →
-          Then (only_if b' (Goes [] On (record a { unwritten = without (InHeader k) a.unwritten })))
+          Then (stuck_unless b' (Goes [] On (record a { unwritten = without (InHeader k) a.unwritten })))
       by_word y e c false g = stuck
       by_word y e c true g =
           let same : w ≡ b.header = e ∙ eqb-true y _ g ∙ header_is in
@@ -253,7 +253,7 @@ module _ (s : Fixed) (placed : List Placed) (m : List Region) (regions : HasRegi
       ((memory : Memory) (unwritten : List Cell) →
       HeapStands s placed (hold m reach.at (replaced (held_word m reach.at) reach.byte (width ch) w)) (record a { memory = memory; unwritten = unwritten }) →
       Then (Goes [] On (record a { memory = memory; unwritten = unwritten }))) →
-      (t : Bool) → is_among (InBlock k j) a.unwritten ≡ t →
+      (t : Bool) → is_among_cells (InBlock k j) a.unwritten ≡ t →
       Then (cond t (first_written ch a (InBlock k j) x v) (after_store a a.unwritten (memory.stored ch a.memory x v)))
   own_goes k j b there inside cell reach at go false f =
       by_result (InBlock k j) cell reach go a.unwritten (memory.stored ch a.memory x v)
@@ -263,7 +263,7 @@ module _ (s : Fixed) (placed : List Placed) (m : List Region) (regions : HasRegi
   own_goes k j b there inside cell reach at go true f = by_width (nat_eq (width ch) 8) refl
     where
       by_width : (t : Bool) → nat_eq (width ch) 8 ≡ t →
-          Then (only_if t (after_store a (without (InBlock k j) a.unwritten) (memory.stored ch a.memory x v)))
+          Then (stuck_unless t (after_store a (without (InBlock k j) a.unwritten) (memory.stored ch a.memory x v)))
       by_width false t = stuck
       by_width true t =
           by_result (InBlock k j) cell reach go (without (InBlock k j) a.unwritten) (memory.stored ch a.memory x v)
@@ -277,7 +277,7 @@ module _ (s : Fixed) (placed : List Placed) (m : List Region) (regions : HasRegi
       ((memory : Memory) (unwritten : List Cell) →
       HeapStands s placed (hold m reach.at (replaced (held_word m reach.at) reach.byte (width ch) w)) (record a { memory = memory; unwritten = unwritten }) →
       Then (Goes [] On (record a { memory = memory; unwritten = unwritten }))) →
-      (t : Bool) → is_among (InStatic l j) a.unwritten ≡ t →
+      (t : Bool) → is_among_cells (InStatic l j) a.unwritten ≡ t →
       Then (cond t (first_written ch a (InStatic l j) x v) (after_store a a.unwritten (memory.stored ch a.memory x v)))
   static_goes l j cell reach there go true f = stuck
   static_goes l j cell reach there go false f =
@@ -292,7 +292,7 @@ module _ (s : Fixed) (placed : List Placed) (m : List Region) (regions : HasRegi
       HeapStands s placed (hold m reach.at (replaced (held_word m reach.at) reach.byte (width ch) w)) (record a { memory = memory; unwritten = unwritten }) →
       Then (Goes [] On (record a { memory = memory; unwritten = unwritten }))) →
       Lies placed a reach.at cell → Then (stored_act ch a (Some cell) x v)
-  store_goes (InHeader k) cell reach go (head_cell {b} l there at) = head_goes k b there l cell reach at go (is_among (InHeader k) a.unwritten) refl
+  store_goes (InHeader k) cell reach go (head_cell {b} l there at) = head_goes k b there l cell reach at go (is_among_cells (InHeader k) a.unwritten) refl
   store_goes (InBlock k j) cell reach go (own_cell {b} l there inside inside' at) =
-      own_goes k j b there inside cell reach at go (is_among (InBlock k j) a.unwritten) refl
-  store_goes (InStatic l j) cell reach go (static_cell there) = static_goes l j cell reach there go (is_among (InStatic l j) a.unwritten) refl
+      own_goes k j b there inside cell reach at go (is_among_cells (InBlock k j) a.unwritten) refl
+  store_goes (InStatic l j) cell reach go (static_cell there) = static_goes l j cell reach there go (is_among_cells (InStatic l j) a.unwritten) refl

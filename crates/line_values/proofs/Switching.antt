@@ -10,7 +10,7 @@ use Rattle.bs_words.specs.declared.values.Value.TheVariants.{Word}
 use Rattle.emit_rules.specs.Instructions.{addi}
 use Rattle.emit_rules.specs.Tests.{switch_part, table_of_jumps, tests_in_turn, value_words}
 use Rattle.layout_rules.specs.Laid.{address_of_place}
-use Rattle.layout_rules.specs.Words.{Named, far_jump}
+use Rattle.layout_rules.specs.Words.{NameAddresses, far_jump}
 use Rattle.lin_ir.specs.Formed.{IsLocation}
 use Rattle.lin_ir.specs.Meaning.{Locations, NamedAt, after_label, on_act, on_values, step, wrote}
 use Rattle.lin_ir.specs.declared.lin.Flow.TheVariants as flow
@@ -19,8 +19,8 @@ use Rattle.lin_ir.specs.declared.lin.Line.{Line}
 use Rattle.lin_ir.specs.declared.lin.LinOp.TheVariants as lin
 use Rattle.lin_ir.specs.declared.lin.Spot.{Spot}
 use Rattle.mach_ir.specs.Acts.{Around, goes_to_case}
-use Rattle.mach_ir.specs.Runs.{Place}
-use Rattle.rv_isa.specs.Registers.{number, register_at}
+use Rattle.mach_ir.specs.Runs.{ActivationSetting}
+use Rattle.rv_isa.specs.Registers.{register_number, register_at}
 use Rattle.rv_isa.specs.declared.instr.AluImmOp.TheVariants.{Addi}
 use Rattle.rv_isa.specs.declared.instr.AluOp.TheVariants.{Add}
 use Rattle.rv_isa.specs.declared.instr.Condition.TheVariants as condition
@@ -34,8 +34,8 @@ use Rattle.rv_machine.specs.Sound.{AreRegisters}
 use Rattle.rv_pieces.specs.declared.piece.Piece.TheVariants.{Jump, Row}
 use Rattle.linear_machine.specs.Follows.{Agrees, FollowsStep}
 use Rattle.linear_machine.specs.Relation.{Below, Laid, Within}
-use Rattle.linear_machine.specs.Straight.{Changes, Comes, Differs}
-use Rattle.linear_machine.specs.View.{Fixed, View, HasCode, IsCode, Leads}
+use Rattle.linear_machine.specs.Straight.{Changes, LeadsFurther, Differs}
+use Rattle.linear_machine.specs.View.{Fixed, View, HasCode, IsInstructionAt, ReachesView}
 use Rattle.linear_machine.proofs.Formats.{sets_auipc, sets_imm, sets_jalr, sets_op, sets_shift}
 use Rattle.machine_laws.proofs.Immediates.{by_20, down, high_12, low_12, up}
 use Rattle.linear_machine.proofs.Locations.{read_register}
@@ -54,7 +54,7 @@ use Rattle.line_values.proofs.Testing.{branch_lands, first_comes}
 use Rattle.line_values.proofs.Checking.{word_of}
 
 -- instructions that change t1 and t2 alone, and then some that lead to a place
-goes_more : (s : Fixed) (u w : View) (k1 k2 to : ℕ) → Leads s k1 u w → Differs (6 ∷ 7 ∷ []) u.memory u w → Goes s w k2 to → Goes s u (k1 + k2) to
+goes_more : (s : Fixed) (u w : View) (k1 k2 to : ℕ) → ReachesView s k1 u w → Differs (6 ∷ 7 ∷ []) u.memory u w → Goes s w k2 to → Goes s u (k1 + k2) to
 goes_more s u w k1 k2 to first d g = record {
   view = g.view;
   leads = then_leads s k1 k2 u w g.view first g.leads;
@@ -76,7 +76,7 @@ record Arrives (s : Fixed) (u : View) (k to : ℕ) : Type 0 where
 get_none : {X : Type 0} (j : ℕ) (x : X) → slice_get [] j ≡ Some x → ⊥
 get_none j x e = absurd (cc)
 
-module _ (s : Fixed) (laid : Laid) (n : Named) (m : Lin) where
+module _ (s : Fixed) (laid : Laid) (n : NameAddresses) (m : Lin) where
   -- where each label lies
   abbrev AllLie : List ℕ → Type 0
   AllLie labels = (j l : ℕ) → slice_get labels j ≡ Some l → Lies s laid n m l
@@ -84,7 +84,7 @@ module _ (s : Fixed) (laid : Laid) (n : Named) (m : Lin) where
   -- ---- tests in turn
 
   -- the index is one less
-  lowers : (u : View) → AreRegisters u.registers → (i : ℕ) → slice_index u.registers 6 ≡ suc i → IsCode s u.place (OpImm Addi 6 6 4095) →
+  lowers : (u : View) → AreRegisters u.registers → (i : ℕ) → slice_index u.registers 6 ≡ suc i → IsInstructionAt s u.place (OpImm Addi 6 6 4095) →
       Changes s u 1 (6 ∷ []) u.memory (λ w. slice_index w.registers 6 ≡ i)
   lowers u are i e code =
       let small = are.words 6 in
@@ -122,7 +122,7 @@ module _ (s : Fixed) (laid : Laid) (n : Named) (m : Lin) where
       let at = g.goes.place in
       let h = leads s n (u.place + g.words) g.others (OpImm Addi 6 6 4095) (tests_in_turn (l1 ∷ labels)) g.rest in
       let i' : slice_index w.registers 6 ≡ suc j = ap (λ r. slice_index r 6) same ∙ i in
-      let step = lowers w g.goes.differs.are j i' (subst (λ z. IsCode s z (OpImm Addi 6 6 4095)) (sym at) h.code) in
+      let step = lowers w g.goes.differs.are j i' (subst (λ z. IsInstructionAt s z (OpImm Addi 6 6 4095)) (sym at) h.code) in
       let x = step.view in
       let past = step.past in
       let at' = past.place in
@@ -227,8 +227,8 @@ module _ (s : Fixed) (laid : Laid) (n : Named) (m : Lin) where
       let sum3 : add_word (slice_index c2.view.registers 7) (slice_index c2.view.registers 6) ≡ code_start + 4 * (u.place + 1) + 8 * j =
       up (slice_index c2.view.registers 7) (slice_index c2.view.registers 6) (code_start + 4 * (u.place + 1) + 8 * j) (omega (arith, e6, e7))
       (omega (arith, near)) in
-      let code3 : IsCode s (u.place + 2) (Op Add 7 7 6) = let q : u.place + 1 + 1 ≡ u.place + 2 =
-      omega arith in subst (λ z. IsCode s z (Op Add 7 7 6)) q g3.code in
+      let code3 : IsInstructionAt s (u.place + 2) (Op Add 7 7 6) = let q : u.place + 1 + 1 ≡ u.place + 2 =
+      omega arith in subst (λ z. IsInstructionAt s z (Op Add 7 7 6)) q g3.code in
       let c3 =
       set_more s u 2 (6 ∷ 7 ∷ []) u.memory _ (Op Add 7 7 6) 6 base c2 (inr (inl refl))
       (sets_as s c2.view (Op Add 7 7 6) 7 _ base sum3 (sets_op s c2.view Add 7 7 6)) code3 (inl (λ q. omega (arith, q))) (omega arith)
@@ -237,11 +237,11 @@ module _ (s : Fixed) (laid : Laid) (n : Named) (m : Lin) where
       let target : add_word (reg w.registers 7) (imm_i 12) ≡ code_start + 4 * (u.place + 1 + 1 + 1 + 1 + 2 * j) =
       up (slice_index w.registers 7) (imm_i 12) (code_start + 4 * (u.place + 1 + 1 + 1 + 1 + 2 * j))
       (row_sum u.place j (slice_index w.registers 7) (imm_i 12) c3.holds.0 twelve_is) (address_small (u.place + 1 + 1 + 1 + 1 + 2 * j) near) in
-      let code4 : IsCode s (u.place + 3) (Jalr 0 7 12) =
-      subst (λ z. IsCode s z (Jalr 0 7 12)) (third u.place) g4.code in
+      let code4 : IsInstructionAt s (u.place + 3) (Jalr 0 7 12) =
+      subst (λ z. IsInstructionAt s z (Jalr 0 7 12)) (third u.place) g4.code in
       let to : ℕ = laid.part (length (after_label l m.code)) in
       let x = at_place (u.place + 1 + 1 + 1 + 1 + 2 * j) w in
-      let four : Leads s 4 u (at_place (u.place + 1 + 1 + 1 + 1 + 2 * j) w) =
+      let four : ReachesView s 4 u (at_place (u.place + 1 + 1 + 1 + 1 + 2 * j) w) =
       then_leads s 3 1 u w (at_place here w) c3.leads
       (set_to_step s w (Jalr 0 7 12) 0 (code_start + 4 * (w.place + 1)) here (code_past s 3 (6 ∷ 7 ∷ []) u.memory u w (Jalr 0 7 12) c3.past code4)
       (inl zero_no_sp) (sets_jalr s w 0 7 12 here target)) in
@@ -264,13 +264,13 @@ module _ (s : Fixed) (laid : Laid) (n : Named) (m : Lin) where
   cases_go labels lie u are j l e i k true part = tests_go labels lie u are j l e i k part
   cases_go labels lie u are j l e i k false part = table_go labels lie u are j l e i k part
 
-module _ (s : Fixed) (n : Named) (laid : Laid) (m : Lin) (slots : m.slots ≡ laid.slots) (live : List Line → Type 0) (entry : ℕ → ℕ) (c : Below)
-    (place : Place) (named : NamedAt) (next : List Line) (v : View) (young : List Placed) (held file : Locations) (a : Around) (none : a.raised ≡ None)
+module _ (s : Fixed) (n : NameAddresses) (laid : Laid) (m : Lin) (slots : m.slots ≡ laid.slots) (live : List Line → Type 0) (entry : ℕ → ℕ) (c : Below)
+    (place : ActivationSetting) (named : NamedAt) (next : List Line) (v : View) (young : List Placed) (held file : Locations) (a : Around) (none : a.raised ≡ None)
     (within : Within s laid v young 0 held a c) (before : Type 0) (agrees : Agrees before held file) (k : ℕ) where
   -- the index comes into t1
   index_comes : (l : Loc) → IsLocation m l → (j : ℕ) → PartStands s n v.place (v.place + j) (value_words (length a.tries) l) → (i : ℕ) →
       held l ≡ Some (Word i) →
-      Comes s v j (λ u. Within s laid u young 0 held a c × (slice_index u.registers 6 ≡ i))
+      LeadsFurther s v j (λ u. Within s laid u young 0 held a c × (slice_index u.registers 6 ≡ i))
   index_comes (loc.Slot o) is j part i h =
       let g = first_comes s n laid m slots v young held a c none within (loc.Slot o) is j part (Word i) h in
       record { view = g.view; leads = g.leads; place = g.place; holds = (g.holds.0, g.holds.1.is) }
@@ -278,13 +278,13 @@ module _ (s : Fixed) (n : Named) (laid : Laid) (m : Lin) (slots : m.slots ≡ la
       let u = usual_of m q is in
       let some = u.location.some in
       let same : q ≡ suc (q - 1) = omega (arith, some) in
-      let g = last s n v.place j (OpImm Addi 6 (number (register_at q)) 0) part in
-      let code : IsCode s v.place (OpImm Addi 6 (suc (q - 1)) 0) = subst (λ z. IsCode s v.place (OpImm Addi 6 z 0)) (u.number_is ∙ same) g.0 in
+      let g = last s n v.place j (OpImm Addi 6 (register_number (register_at q)) 0) part in
+      let code : IsInstructionAt s v.place (OpImm Addi 6 (suc (q - 1)) 0) = subst (λ z. IsInstructionAt s v.place (OpImm Addi 6 z 0)) (u.number_is ∙ same) g.0 in
       let w : ℕ = slice_index v.registers (suc (q - 1)) in
       let small = within.own.are.words (suc (q - 1)) in
       let sum : add_word w (imm_i 0) ≡ w = ap (add_word w) (low_12 0 (omega arith)) ∙ up w 0 w (omega arith) small in
       let stands : slice_index v.registers q ≡ i = (read_register s laid v young 0 held a c within q (Word i) none h).1.is in
-      subst (λ z. Comes s v z (λ u. Within s laid u young 0 held a c × (slice_index u.registers 6 ≡ i))) (sym g.1)
+      subst (λ z. LeadsFurther s v z (λ u. Within s laid u young 0 held a c × (slice_index u.registers 6 ≡ i))) (sym g.1)
       (changes_come s v 1 (6 ∷ []) v.memory (λ u. slice_index u.registers 6 ≡ slice_index v.registers (suc (q - 1))) _
       (λ u past e. (
         within_past s laid v u young 0 held a c 1 (6 ∷ []) past (λ o x. ⊎_elim (λ f. inl f) (λ f. absurd f) x) within,

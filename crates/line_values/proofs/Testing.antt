@@ -13,12 +13,12 @@ use Rattle.bs_words.specs.declared.types.Loc.{Loc}
 use Rattle.bs_words.specs.declared.values.Kind.{Kind}
 use Rattle.bs_words.specs.declared.values.Value.{Value}
 use Rattle.bs_words.specs.declared.values.Value.TheVariants.{Word}
-use Rattle.emit_rules.specs.Constants.{constant}
-use Rattle.emit_rules.specs.Slots.{fetched, register_of, second}
+use Rattle.emit_rules.specs.Constants.{constant_pieces}
+use Rattle.emit_rules.specs.Slots.{fetch_pieces, register_of, second}
 use Rattle.emit_rules.specs.Tests.{branch_part, constant_register, constant_words, signed_branch, unsigned_branch}
-use Rattle.layout_rules.specs.Forms.{branch_form, branch_words, rank}
+use Rattle.layout_rules.specs.Forms.{branch_form, branch_words, form_rank}
 use Rattle.layout_rules.specs.Laid.{address_of_place}
-use Rattle.layout_rules.specs.Words.{Named, branch_code}
+use Rattle.layout_rules.specs.Words.{NameAddresses, branch_code}
 use Rattle.layout_rules.specs.declared.form.Form.{Form}
 use Rattle.layout_rules.specs.declared.form.Form.TheVariants.{Near, Middle, Far}
 use Rattle.lin_ir.specs.Formed.{IsLocation, comps}
@@ -28,14 +28,14 @@ use Rattle.lin_ir.specs.declared.lin.Lin.{Lin}
 use Rattle.lin_ir.specs.declared.lin.Line.{Line}
 use Rattle.lin_ir.specs.declared.lin.LinOp.TheVariants as lin
 use Rattle.lin_ir.specs.declared.lin.Spot.{Spot}
-use Rattle.mach_ir.specs.Acts.{Around, At, On, as_condition, branches, opposite, proper, truth_of}
+use Rattle.mach_ir.specs.Acts.{Around, At, On, as_condition, goes_by_test, opposite, proper_condition, truth_of}
 use Rattle.mach_ir.specs.Forms.{a_constant, IsTested, is_immediate_12, signed, unsigned}
-use Rattle.mach_ir.specs.Runs.{Place}
+use Rattle.mach_ir.specs.Runs.{ActivationSetting}
 use Rattle.mach_ir.specs.declared.mach.Test.{Test}
 use Rattle.mach_ir.specs.declared.mach.Test.TheVariants as test
 use Rattle.mach_ir.specs.declared.op.Right.TheVariants as right
-use Rattle.moving_laws.specs.Stands.{Among}
-use Rattle.rv_isa.specs.Registers.{number}
+use Rattle.moving_laws.specs.Stands.{AmongNumbers}
+use Rattle.rv_isa.specs.Registers.{register_number}
 use Rattle.rv_isa.specs.declared.instr.Condition.{Condition}
 use Rattle.rv_isa.specs.declared.instr.Condition.TheVariants as condition
 use Rattle.rv_isa.specs.declared.register.Register.{Register}
@@ -46,8 +46,8 @@ use Rattle.rv_machine.specs.Sound.{AreRegisters}
 use Rattle.rv_pieces.specs.declared.piece.Piece.{Piece}
 use Rattle.rv_pieces.specs.declared.piece.Piece.TheVariants as piece
 use Rattle.linear_machine.specs.Follows.{Agrees}
-use Rattle.linear_machine.specs.Relation.{Below, Laid, StandsFor, Within, all_of}
-use Rattle.linear_machine.specs.Straight.{Changes, Comes}
+use Rattle.linear_machine.specs.Relation.{Below, Laid, StandsFor, Within, blocks_by_serial}
+use Rattle.linear_machine.specs.Straight.{Changes, LeadsFurther}
 use Rattle.linear_machine.specs.View.{Fixed, View, HasCode}
 use Rattle.linear_machine.proofs.Parts.{changes_come, comes_then}
 use Rattle.linear_machine.proofs.Pure.{Reads, reads_held}
@@ -75,7 +75,7 @@ branch_near s p from to Middle c a b code = code_near s p _ code.0
 branch_near s p from to Far c a b code = code_near s p _ code.0
 
 -- It leads to its label where the condition holds, else after it.
-pub record BranchLands (s : Fixed) (n : Named) (u : View) (k to : ℕ) (t : Bool) (ys : List Piece) : Type 0 where
+pub record BranchLands (s : Fixed) (n : NameAddresses) (u : View) (k to : ℕ) (t : Bool) (ys : List Piece) : Type 0 where
   pub words : ℕ
   pub others : ℕ
   pub sum : k ≡ words + others
@@ -86,16 +86,16 @@ pub record BranchLands (s : Fixed) (n : Named) (u : View) (k to : ℕ) (t : Bool
   pub same : t ≡ false → goes.view.registers ≡ u.registers
   pub rest : PartStands s n (u.place + words) (u.place + words + others) ys
 
-pub branch_lands : (s : Fixed) (laid : Laid) (n : Named) (m : Lin) (u : View) → AreRegisters u.registers → (l : ℕ) → Lies s laid n m l → (c : Condition)
-    (a b : Register) (t : Bool) → is_taken c (reg u.registers (number a)) (reg u.registers (number b)) ≡ t → (k : ℕ) (ys : List Piece) →
+pub branch_lands : (s : Fixed) (laid : Laid) (n : NameAddresses) (m : Lin) (u : View) → AreRegisters u.registers → (l : ℕ) → Lies s laid n m l → (c : Condition)
+    (a b : Register) (t : Bool) → is_taken c (reg u.registers (register_number a)) (reg u.registers (register_number b)) ≡ t → (k : ℕ) (ys : List Piece) →
     PartStands s n u.place (u.place + k) (piece.Branch c a b l ∷ ys) → BranchLands s n u k (laid.part (length (after_label l m.code))) t ys
 branch_lands s laid n m u are l lies c a b t e k ys part =
     let g = starts s n u.place k (piece.Branch c a b l) ys part in
     let to : ℕ = laid.part (length (after_label l m.code)) in
     let code : HasCode s u.place (branch_code g.form c a b (address_of_place u.place) (address_of_place (laid.part (length (after_label l m.code))))) =
     subst (λ z. HasCode s u.place (branch_code g.form c a b (address_of_place u.place) z)) lies.address g.code in
-    let reach : rank (branch_form u.place (laid.part (length (after_label l m.code)))) ≤ rank g.form =
-    subst (λ z. rank (branch_form u.place z) ≤ rank g.form) (lies_place s laid n m l lies) g.reaches in
+    let reach : form_rank (branch_form u.place (laid.part (length (after_label l m.code)))) ≤ form_rank g.form =
+    subst (λ z. form_rank (branch_form u.place z) ≤ form_rank g.form) (lies_place s laid n m l lies) g.reaches in
     let near = branch_near s u.place (address_of_place u.place) (address_of_place to) g.form c a b code in
     let branched = branch_goes s u are to (omega (arith, near)) (lies_near s laid n m l lies) c a b t e g.form reach code in
     record {
@@ -118,16 +118,16 @@ pub record Tests (p : Piece) (l : ℕ) (registers : List ℕ) (t : Bool) : Type 
   pub left : Register
   pub right : Register
   pub is : p ≡ piece.Branch condition left right l
-  pub taken : is_taken condition (reg registers (number left)) (reg registers (number right)) ≡ t
+  pub taken : is_taken condition (reg registers (register_number left)) (reg registers (register_number right)) ≡ t
 
 module _ (a b : Register) (l : ℕ) (registers : List ℕ) (t : Bool) where
   abbrev wa : ℕ
-  wa = reg registers (number a)
+  wa = reg registers (register_number a)
 
   abbrev wb : ℕ
-  wb = reg registers (number b)
+  wb = reg registers (register_number b)
 
-  signed_tests : (f : CmpOp) → signed_holds f (reg registers (number a)) (reg registers (number b)) ≡ t → Tests (signed_branch f a b l) l registers t
+  signed_tests : (f : CmpOp) → signed_holds f (reg registers (register_number a)) (reg registers (register_number b)) ≡ t → Tests (signed_branch f a b l) l registers t
   signed_tests compare.Eq e = record { condition = condition.Beq; left = a; right = b; is = refl; taken = e }
   signed_tests compare.Ne e = record { condition = condition.Bne; left = a; right = b; is = refl; taken = e }
   signed_tests compare.Lt e = record { condition = condition.Blt; left = a; right = b; is = refl; taken = e }
@@ -135,7 +135,7 @@ module _ (a b : Register) (l : ℕ) (registers : List ℕ) (t : Bool) where
   signed_tests compare.Gt e = record { condition = condition.Blt; left = b; right = a; is = refl; taken = e }
   signed_tests compare.Ge e = record { condition = condition.Bge; left = a; right = b; is = refl; taken = sym (int_le_is (signed_of wb) (signed_of wa)) ∙ e }
 
-  unsigned_tests : (f : CmpOp) → unsigned_holds f (reg registers (number a)) (reg registers (number b)) ≡ t → Tests (unsigned_branch f a b l) l registers t
+  unsigned_tests : (f : CmpOp) → unsigned_holds f (reg registers (register_number a)) (reg registers (register_number b)) ≡ t → Tests (unsigned_branch f a b l) l registers t
   unsigned_tests compare.Eq e = record { condition = condition.Beq; left = a; right = b; is = refl; taken = e }
   unsigned_tests compare.Ne e = record { condition = condition.Bne; left = a; right = b; is = refl; taken = e }
   unsigned_tests compare.Lt e = record { condition = condition.Bltu; left = a; right = b; is = refl; taken = e }
@@ -145,17 +145,17 @@ module _ (a b : Register) (l : ℕ) (registers : List ℕ) (t : Bool) where
 
 -- ---- right operands
 
-module _ (s : Fixed) (n : Named) (laid : Laid) (m : Lin) (slots : m.slots ≡ laid.slots) (v : View) (young : List Placed) (held : Locations) (a : Around)
+module _ (s : Fixed) (n : NameAddresses) (laid : Laid) (m : Lin) (slots : m.slots ≡ laid.slots) (v : View) (young : List Placed) (held : Locations) (a : Around)
     (c : Below) (none : a.raised ≡ None) (within : Within s laid v young 0 held a c) where
   -- From a place on so many words bring a value of this kind into the register, and t2 alone may
   -- change.
   pub record Seconded (holds : Value → Type 0) (at k : ℕ) (right : Register) : Type 0 where
     pub list : List ℕ
-    pub only : (p : ℕ) → Among p list → p ≡ 7
+    pub only : (p : ℕ) → AmongNumbers p list → p ≡ 7
     pub gets : (y : Value) → holds y → (u : View) → u.place ≡ at → Within s laid u young 0 held a c →
-        Changes s u k list u.memory (λ w. StandsFor s (all_of u young) (reg w.registers (number right)) y)
+        Changes s u k list u.memory (λ w. StandsFor s (blocks_by_serial u young) (reg w.registers (register_number right)) y)
 
-  pub second_location : (l : Loc) → IsLocation m l → (at k : ℕ) → PartStands s n at (at + k) (fetched (length a.tries) T2 l) →
+  pub second_location : (l : Loc) → IsLocation m l → (at k : ℕ) → PartStands s n at (at + k) (fetch_pieces (length a.tries) T2 l) →
       Seconded (λ y. held l ≡ Some y) at k (register_of T2 l)
   second_location l is at k part =
       let f = fetches s n laid m slots v young held a c none within T2 6 refl (inr refl) at k l is part in
@@ -163,8 +163,8 @@ module _ (s : Fixed) (n : Named) (laid : Laid) (m : Lin) (slots : m.slots ≡ la
         list = f.list;
         only = f.only;
         gets = λ y h u p w.
-            widened s u k f.list f.list u.memory (λ o. StandsFor s (all_of u young) (slice_index o.registers (suc f.r)) y) _ (λ q i. i)
-            (λ o past st. subst (λ z. StandsFor s (all_of u young) (reg o.registers z) y) (sym f.is) st)
+            widened s u k f.list f.list u.memory (λ o. StandsFor s (blocks_by_serial u young) (slice_index o.registers (suc f.r)) y) _ (λ q i. i)
+            (λ o past st. subst (λ z. StandsFor s (blocks_by_serial u young) (reg o.registers z) y) (sym f.is) st)
             ((f.gets y h).by u p w);
       }
 
@@ -172,70 +172,70 @@ module _ (s : Fixed) (n : Named) (laid : Laid) (m : Lin) (slots : m.slots ≡ la
       Seconded (λ y. y ≡ Word w) at k (constant_register w)
   second_constant w small at k part = by_test (nat_eq w 0) refl part
     where
-      by_test : (t : Bool) → nat_eq w 0 ≡ t → PartStands s n at (at + k) (cond t [] (constant T2 w)) → Seconded (λ y. y ≡ Word w) at k (cond t Zero T2)
+      by_test : (t : Bool) → nat_eq w 0 ≡ t → PartStands s n at (at + k) (cond t [] (constant_pieces T2 w)) → Seconded (λ y. y ≡ Word w) at k (cond t Zero T2)
       by_test true t part =
           let zero : w ≡ 0 = eqb-true w 0 t in
           record {
             list = [];
             only = λ p i. absurd i;
             gets = λ y e u p i.
-                subst (λ z. Changes s u z [] u.memory (λ o. StandsFor s (all_of u young) 0 y)) (sym (none_left s n at k part))
-                (no_change s u [] (λ o. StandsFor s (all_of u young) 0 y) i.own.are
-                (subst (StandsFor s (all_of u young) 0) (sym e) (record { is = sym zero; known = tt })));
+                subst (λ z. Changes s u z [] u.memory (λ o. StandsFor s (blocks_by_serial u young) 0 y)) (sym (none_left s n at k part))
+                (no_change s u [] (λ o. StandsFor s (blocks_by_serial u young) 0 y) i.own.are
+                (subst (StandsFor s (blocks_by_serial u young) 0) (sym e) (record { is = sym zero; known = tt })));
           }
       by_test false t part = record {
         list = 7 ∷ [];
         only = λ p i. ⊎_elim (λ e. e) (λ f. absurd f) i;
         gets = λ y e u p i.
             widened s u k (7 ∷ []) (7 ∷ []) u.memory (λ o. slice_index o.registers 7 ≡ w) _ (λ q j. j)
-            (λ o past h. subst (StandsFor s (all_of u young) (slice_index o.registers 7)) (sym e) (record { is = h; known = tt }))
+            (λ o past h. subst (StandsFor s (blocks_by_serial u young) (slice_index o.registers 7)) (sym e) (record { is = h; known = tt }))
             (constant_comes s n T2 6 refl (omega arith) (λ q. omega (arith, q)) w small u k
-            (subst (λ z. PartStands s n z (z + k) (constant T2 w)) (sym p) part) i.own.are);
+            (subst (λ z. PartStands s n z (z + k) (constant_pieces T2 w)) (sym p) part) i.own.are);
       }
 
   -- the first operand in its register
   abbrev FirstReady : Register → Value → View → Type 0
-  FirstReady left x u = Within s laid u young 0 held a c × StandsFor s (all_of u young) (reg u.registers (number left)) x
+  FirstReady left x u = Within s laid u young 0 held a c × StandsFor s (blocks_by_serial u young) (reg u.registers (register_number left)) x
 
   abbrev BothReady : Register → Register → Value → Value → View → Type 0
   BothReady left right x y u =
-      Within s laid u young 0 held a c × StandsFor s (all_of u young) (reg u.registers (number left)) x
-      × StandsFor s (all_of u young) (reg u.registers (number right)) y
+      Within s laid u young 0 held a c × StandsFor s (blocks_by_serial u young) (reg u.registers (register_number left)) x
+      × StandsFor s (blocks_by_serial u young) (reg u.registers (register_number right)) y
 
-  pub first_comes : (l : Loc) → IsLocation m l → (k : ℕ) → PartStands s n v.place (v.place + k) (fetched (length a.tries) T1 l) → (x : Value) →
+  pub first_comes : (l : Loc) → IsLocation m l → (k : ℕ) → PartStands s n v.place (v.place + k) (fetch_pieces (length a.tries) T1 l) → (x : Value) →
       held l ≡ Some x →
-      Comes s v k (λ u. Within s laid u young 0 held a c × StandsFor s (all_of u young) (reg u.registers (number (register_of T1 l))) x)
+      LeadsFurther s v k (λ u. Within s laid u young 0 held a c × StandsFor s (blocks_by_serial u young) (reg u.registers (register_number (register_of T1 l))) x)
   first_comes l is k part x h =
       let f = fetches s n laid m slots v young held a c none within T1 5 refl (inl refl) v.place k l is part in
       changes_come s v k f.list v.memory _ _
       (λ u past st. (
         within_past s laid v u young 0 held a c k f.list past (λ q i. inl (f.only q i)) within,
-        (let same : all_of u young ≡ all_of v young = ap (λ bs. all_of (record v { blocks = bs }) young) past.blocks in
-            subst (λ z. StandsFor s (all_of u young) (reg u.registers z) x) (sym f.is)
+        (let same : blocks_by_serial u young ≡ blocks_by_serial v young = ap (λ bs. blocks_by_serial (record v { blocks = bs }) young) past.blocks in
+            subst (λ z. StandsFor s (blocks_by_serial u young) (reg u.registers z) x) (sym f.is)
             (subst (λ b. StandsFor s b (slice_index u.registers (suc f.r)) x) (sym same) st)),
       ))
       ((f.gets x h).by v refl within)
 
-  pub both_come : (l : Loc) (is : IsLocation m l) (k1 k2 : ℕ) → PartStands s n v.place (v.place + k1) (fetched (length a.tries) T1 l) →
+  pub both_come : (l : Loc) (is : IsLocation m l) (k1 k2 : ℕ) → PartStands s n v.place (v.place + k1) (fetch_pieces (length a.tries) T1 l) →
       (holds : Value → Type 0) (right : Register) → Seconded holds (v.place + k1) k2 right → (x y : Value) → held l ≡ Some x → holds y →
-      Comes s v (k1 + k2) (λ u. Within s laid u young 0 held a c × StandsFor s (all_of u young) (reg u.registers (number (register_of T1 l))) x
-      × StandsFor s (all_of u young) (reg u.registers (number right)) y)
+      LeadsFurther s v (k1 + k2) (λ u. Within s laid u young 0 held a c × StandsFor s (blocks_by_serial u young) (reg u.registers (register_number (register_of T1 l))) x
+      × StandsFor s (blocks_by_serial u young) (reg u.registers (register_number right)) y)
   both_come l is k1 k2 part holds right snd x y h hy =
       let f = fetches s n laid m slots v young held a c none within T1 5 refl (inl refl) v.place k1 l is part in
       comes_then s v k1 k2 _ _ (first_comes l is k1 part x h)
       (λ u at both.
       changes_come s u k2 snd.list u.memory _ _
       (λ w past st.
-      let same : all_of w young ≡ all_of u young = ap (λ bs. all_of (record u { blocks = bs }) young) past.blocks in
+      let same : blocks_by_serial w young ≡ blocks_by_serial u young = ap (λ bs. blocks_by_serial (record u { blocks = bs }) young) past.blocks in
       let kept : slice_index w.registers (suc f.r) ≡ slice_index u.registers (suc f.r) =
       past.others (suc f.r) (λ i. no_second (suc f.r) f.apart (snd.only (suc f.r) i)) in
-      let sx : StandsFor s (all_of u young) (slice_index u.registers (suc f.r)) x =
-      subst (λ z. StandsFor s (all_of u young) (reg u.registers z) x) f.is both.1 in (
+      let sx : StandsFor s (blocks_by_serial u young) (slice_index u.registers (suc f.r)) x =
+      subst (λ z. StandsFor s (blocks_by_serial u young) (reg u.registers z) x) f.is both.1 in (
         within_past s laid u w young 0 held a c k2 snd.list past (λ q i. inr (snd.only q i)) both.0,
-        subst (λ z. StandsFor s (all_of w young) (reg w.registers z) x) (sym f.is)
+        subst (λ z. StandsFor s (blocks_by_serial w young) (reg w.registers z) x) (sym f.is)
             (subst (λ b. StandsFor s b (slice_index w.registers (suc f.r)) x) (sym same)
-            (subst (λ z. StandsFor s (all_of u young) z x) (sym kept) sx)),
-        subst (λ b. StandsFor s b (reg w.registers (number right)) y) (sym same) st,
+            (subst (λ z. StandsFor s (blocks_by_serial u young) z x) (sym kept) sx)),
+        subst (λ b. StandsFor s b (reg w.registers (register_number right)) y) (sym same) st,
       ))
       (snd.gets y hy u (omega (arith, at)) both.0))
 
@@ -245,11 +245,11 @@ known_truth : (ns : List ℕ) (b : Bool) → as_condition ns (Ok (truth b)) ≡ 
 known_truth ns true = refl
 known_truth ns false = refl
 
-proper_ok : (r : Result Bool Kind) (b : Bool) → proper r ≡ Some b → r ≡ Ok b
+proper_ok : (r : Result Bool Kind) (b : Bool) → proper_condition r ≡ Some b → r ≡ Ok b
 proper_ok (Ok d) b e = ap Ok (same_Some _ _ e)
 proper_ok (Err kind) b e = absurd (cc)
 
-opposite_ok : (r : Result Bool Kind) (b : Bool) → opposite (proper r) ≡ Some b → (d : Bool) × (r ≡ Ok d) × (not d ≡ b)
+opposite_ok : (r : Result Bool Kind) (b : Bool) → opposite (proper_condition r) ≡ Some b → (d : Bool) × (r ≡ Ok d) × (not d ≡ b)
 opposite_ok (Ok d) b e = (d, refl, same_Some _ _ e)
 opposite_ok (Err kind) b e = absurd (cc)
 
@@ -264,20 +264,20 @@ not_twice false d b e f = ap not e ∙ f
 module _ (s : Fixed) (laid : Laid) (u : View) (young : List Placed) (held : Locations) (a : Around) (c : Below) (within : Within s laid u young 0 held a c)
     (l : ℕ) (left : Register) (b : Bool) where
   abbrev placed : List Placed
-  placed = all_of u young
+  placed = blocks_by_serial u young
 
-  holds_tests : (x : Value) → StandsFor s (all_of u young) (reg u.registers (number left)) x → truth_of (sizes a.memory) test.Holds (x ∷ []) ≡ Some b →
+  holds_tests : (x : Value) → StandsFor s (blocks_by_serial u young) (reg u.registers (register_number left)) x → truth_of (sizes a.memory) test.Holds (x ∷ []) ≡ Some b →
       Tests (piece.Branch condition.Bne left Zero l) l u.registers b
   holds_tests x st e = record {
     condition = condition.Bne;
     left = left;
     right = Zero;
     is = refl;
-    taken = condition_word s (all_of u young) within.heap.old (sizes a.memory) (sized s (all_of u young) u.memory a within.heap) x b
-        (reg u.registers (number left)) st (proper_ok (condition_of (sizes a.memory) x) b e);
+    taken = condition_word s (blocks_by_serial u young) within.heap.old (sizes a.memory) (sized s (blocks_by_serial u young) u.memory a within.heap) x b
+        (reg u.registers (register_number left)) st (proper_ok (condition_of (sizes a.memory) x) b e);
   }
 
-  fails_tests : (x : Value) → StandsFor s (all_of u young) (reg u.registers (number left)) x → truth_of (sizes a.memory) test.Fails (x ∷ []) ≡ Some b →
+  fails_tests : (x : Value) → StandsFor s (blocks_by_serial u young) (reg u.registers (register_number left)) x → truth_of (sizes a.memory) test.Fails (x ∷ []) ≡ Some b →
       Tests (piece.Branch condition.Beq left Zero l) l u.registers b
   fails_tests x st e =
       let g = opposite_ok (condition_of (sizes a.memory) x) b e in
@@ -286,51 +286,51 @@ module _ (s : Fixed) (laid : Laid) (u : View) (young : List Placed) (held : Loca
         left = left;
         right = Zero;
         is = refl;
-        taken = not_twice (reg u.registers (number left) == 0) g.0 b
-            (condition_word s (all_of u young) within.heap.old (sizes a.memory) (sized s (all_of u young) u.memory a within.heap) x g.0
-            (reg u.registers (number left)) st g.1) g.2;
+        taken = not_twice (reg u.registers (register_number left) == 0) g.0 b
+            (condition_word s (blocks_by_serial u young) within.heap.old (sizes a.memory) (sized s (blocks_by_serial u young) u.memory a within.heap) x g.0
+            (reg u.registers (register_number left)) st g.1) g.2;
       }
 
-  module _ (right : Register) (x y : Value) (sx : StandsFor s (all_of u young) (reg u.registers (number left)) x)
-      (sy : StandsFor s (all_of u young) (reg u.registers (number right)) y) (f : CmpOp) where
+  module _ (right : Register) (x y : Value) (sx : StandsFor s (blocks_by_serial u young) (reg u.registers (register_number left)) x)
+      (sy : StandsFor s (blocks_by_serial u young) (reg u.registers (register_number right)) y) (f : CmpOp) where
     signed_says : as_condition (sizes a.memory) (apply (operator.Cmp f) (sizes a.memory) x y) ≡ Some b → Tests (signed_branch f left right l) l u.registers b
     signed_says e =
         let ns : List ℕ = sizes a.memory in
-        let are = sized s (all_of u young) u.memory a within.heap in
+        let are = sized s (blocks_by_serial u young) u.memory a within.heap in
         let g = condition_ok ns (apply (operator.Cmp f) ns x y) b e in
-        let z = compared_words s (all_of u young) within.heap.old ns are signed_holds (signed_agrees s (all_of u young) within.heap.old ns are)
-        (reg u.registers (number left)) (reg u.registers (number right)) f x y g.0 sx sy g.1 in
+        let z = compared_words s (blocks_by_serial u young) within.heap.old ns are signed_holds (signed_agrees s (blocks_by_serial u young) within.heap.old ns are)
+        (reg u.registers (register_number left)) (reg u.registers (register_number right)) f x y g.0 sx sy g.1 in
         signed_tests left right l u.registers b f
-        (same_Some _ _ (sym (known_truth ns (signed_holds f (reg u.registers (number left)) (reg u.registers (number right))))
+        (same_Some _ _ (sym (known_truth ns (signed_holds f (reg u.registers (register_number left)) (reg u.registers (register_number right))))
         ∙ ap (λ q. as_condition ns (Ok q)) (sym z) ∙ g.2))
 
     unsigned_says : as_condition (sizes a.memory) (apply (operator.CmpU f) (sizes a.memory) x y) ≡ Some b →
         Tests (unsigned_branch f left right l) l u.registers b
     unsigned_says e =
         let ns : List ℕ = sizes a.memory in
-        let are = sized s (all_of u young) u.memory a within.heap in
+        let are = sized s (blocks_by_serial u young) u.memory a within.heap in
         let g = condition_ok ns (apply (operator.CmpU f) ns x y) b e in
-        let z = compared_words s (all_of u young) within.heap.old ns are unsigned_holds (unsigned_agrees s (all_of u young) within.heap.old ns are)
-        (reg u.registers (number left)) (reg u.registers (number right)) f x y g.0 sx sy g.1 in
+        let z = compared_words s (blocks_by_serial u young) within.heap.old ns are unsigned_holds (unsigned_agrees s (blocks_by_serial u young) within.heap.old ns are)
+        (reg u.registers (register_number left)) (reg u.registers (register_number right)) f x y g.0 sx sy g.1 in
         unsigned_tests left right l u.registers b f
-        (same_Some _ _ (sym (known_truth ns (unsigned_holds f (reg u.registers (number left)) (reg u.registers (number right))))
+        (same_Some _ _ (sym (known_truth ns (unsigned_holds f (reg u.registers (register_number left)) (reg u.registers (register_number right))))
         ∙ ap (λ q. as_condition ns (Ok q)) (sym z) ∙ g.2))
 
 -- ---- lines
 
-module _ (s : Fixed) (n : Named) (laid : Laid) (m : Lin) (slots : m.slots ≡ laid.slots) (live : List Line → Type 0) (entry : ℕ → ℕ) (c : Below)
-    (place : Place) (named : NamedAt) (next : List Line) (v : View) (young : List Placed) (held file : Locations) (a : Around) (none : a.raised ≡ None)
+module _ (s : Fixed) (n : NameAddresses) (laid : Laid) (m : Lin) (slots : m.slots ≡ laid.slots) (live : List Line → Type 0) (entry : ℕ → ℕ) (c : Below)
+    (place : ActivationSetting) (named : NamedAt) (next : List Line) (v : View) (young : List Placed) (held file : Locations) (a : Around) (none : a.raised ≡ None)
     (within : Within s laid v young 0 held a c) (before : Type 0) (agrees : Agrees before held file) (k : ℕ) (behind : laid.part (length next) ≡ v.place + k)
     (l : ℕ) (lies : Lies s laid n m l) (passes : (live next → before) × (live (after_label l m.code) → before)) where
   -- where a test of this truth has been made
   module _ (t : Test) (args : List Spot) (p : Piece) (k1 k2 : ℕ) (sum : k ≡ k1 + k2)
       (part : PartStands s n (v.place + k1) (v.place + k1 + k2) (p ∷ [])) where
-    branched : (b : Bool) → Comes s v k1 (λ u. Within s laid u young 0 held a c × Tests p l u.registers b) →
+    branched : (b : Bool) → LeadsFurther s v k1 (λ u. Within s laid u young 0 held a c × Tests p l u.registers b) →
         FollowsBranch k s laid live c v (on_act place m (record {
           op = lin.Flow (flow.Branch t l);
           args = args;
           results = [];
-        }) next file a (branches a (At l) On (Some b)))
+        }) next file a (goes_by_test a (At l) On (Some b)))
     branched b comes =
         let u = comes.view in
         let tests = comes.holds.1 in
@@ -352,7 +352,7 @@ module _ (s : Fixed) (n : Named) (laid : Laid) (m : Lin) (slots : m.slots ≡ la
               op = lin.Flow (flow.Branch t l);
               args = args;
               results = [];
-            }) next file a (branches a (At l) On (Some b)))
+            }) next file a (goes_by_test a (At l) On (Some b)))
         by_truth true count words some few all on goes =
             lands_in s n laid m live entry c place named next v young held file a within before agrees k 1 (k1 + count)
             (omega (arith, some)) (omega (arith, few, all)) (after_label l m.code) goes.view (then_leads s k1 count v comes.view goes.view comes.leads goes.leads) goes.place
@@ -362,19 +362,19 @@ module _ (s : Fixed) (n : Named) (laid : Laid) (m : Lin) (slots : m.slots ≡ la
             (omega (arith, some)) (omega (arith, few, all)) next goes.view (then_leads s k1 count v comes.view goes.view comes.leads goes.leads) (goes.place ∙ on)
             (within_gone s laid comes.view goes.view young held a c goes.differs comes.holds.0) passes.0
 
-    branched_by : (o : Option Bool) → ((b : Bool) → o ≡ Some b → Comes s v k1 (λ u. Within s laid u young 0 held a c × Tests p l u.registers b)) →
+    branched_by : (o : Option Bool) → ((b : Bool) → o ≡ Some b → LeadsFurther s v k1 (λ u. Within s laid u young 0 held a c × Tests p l u.registers b)) →
         FollowsBranch k s laid live c v (on_act place m (record {
           op = lin.Flow (flow.Branch t l);
           args = args;
           results = [];
-        }) next file a (branches a (At l) On o))
+        }) next file a (goes_by_test a (At l) On o))
     branched_by None f = tt
     branched_by (Some b) f = branched b (f b refl)
 
   -- of one operand
   one_line : (t : Test) (p : Spot) → IsLocation m p.loc → Reads before p.loc → (branch : Piece) →
-      PartStands s n v.place (v.place + k) (fetched (length a.tries) T1 p.loc ++ branch ∷ []) →
-      ((b : Bool) (u : View) (x : Value) → Within s laid u young 0 held a c → StandsFor s (all_of u young) (reg u.registers (number (register_of T1 p.loc))) x →
+      PartStands s n v.place (v.place + k) (fetch_pieces (length a.tries) T1 p.loc ++ branch ∷ []) →
+      ((b : Bool) (u : View) (x : Value) → Within s laid u young 0 held a c → StandsFor s (blocks_by_serial u young) (reg u.registers (register_number (register_of T1 p.loc))) x →
       truth_of (sizes a.memory) t (x ∷ []) ≡ Some b → Tests branch l u.registers b) →
       FollowsBranch k s laid live c v (step place named m (record {
         rest = record { op = lin.Flow (flow.Branch t l); args = p ∷ []; results = [] } ∷ next;
@@ -382,7 +382,7 @@ module _ (s : Fixed) (n : Named) (laid : Laid) (m : Lin) (slots : m.slots ≡ la
         around = a;
       }))
   one_line t p at_p reads branch part says =
-      let g = counts s n v.place k (fetched (length a.tries) T1 p.loc) (branch ∷ []) part in
+      let g = counts s n v.place k (fetch_pieces (length a.tries) T1 p.loc) (branch ∷ []) part in
       reads_one place.setting.end file
       (λ vs. FollowsBranch k s laid live c v (on_values place (named (length next)) m (record {
         op = lin.Flow (flow.Branch t l);
@@ -397,18 +397,18 @@ module _ (s : Fixed) (n : Named) (laid : Laid) (m : Lin) (slots : m.slots ≡ la
 
   -- of two, by what is read
   pub two_comes : (p : Spot) → IsLocation m p.loc → Reads before p.loc → (branch : Piece) (words : List Piece) (right : Register) (holds : Value → Type 0) →
-      PartStands s n v.place (v.place + k) (fetched (length a.tries) T1 p.loc ++ words ++ branch ∷ []) →
+      PartStands s n v.place (v.place + k) (fetch_pieces (length a.tries) T1 p.loc ++ words ++ branch ∷ []) →
       ((at j : ℕ) → PartStands s n at (at + j) words → Seconded s n laid m slots v young held a c none within holds at j right) →
       (t : Test) (args : List Spot) (o : Option Bool) (x y : Value) → held p.loc ≡ Some x → holds y →
-      ((b : Bool) (u : View) → Within s laid u young 0 held a c → StandsFor s (all_of u young) (reg u.registers (number (register_of T1 p.loc))) x →
-      StandsFor s (all_of u young) (reg u.registers (number right)) y → o ≡ Some b → Tests branch l u.registers b) →
+      ((b : Bool) (u : View) → Within s laid u young 0 held a c → StandsFor s (blocks_by_serial u young) (reg u.registers (register_number (register_of T1 p.loc))) x →
+      StandsFor s (blocks_by_serial u young) (reg u.registers (register_number right)) y → o ≡ Some b → Tests branch l u.registers b) →
       FollowsBranch k s laid live c v (on_act place m (record {
         op = lin.Flow (flow.Branch t l);
         args = args;
         results = [];
-      }) next file a (branches a (At l) On o))
+      }) next file a (goes_by_test a (At l) On o))
   two_comes p at_p reads branch words right holds part second t args o x y h hy says =
-      let one : List Piece = fetched (length a.tries) T1 p.loc in
+      let one : List Piece = fetch_pieces (length a.tries) T1 p.loc in
       let turned : PartStands s n v.place (v.place + k) (one ++ (words ++ branch ∷ [])) =
       subst (PartStands s n v.place (v.place + k)) (append_assoc one words (branch ∷ [])) part in
       let g1 = counts s n v.place k one (words ++ branch ∷ []) turned in
@@ -432,10 +432,10 @@ module _ (s : Fixed) (n : Named) (laid : Laid) (m : Lin) (slots : m.slots ≡ la
 
   -- the right operand a location
   register_line : (t : Test) (p q : Spot) → IsLocation m p.loc → IsLocation m q.loc → Reads before p.loc → Reads before q.loc → (branch : Piece) →
-      PartStands s n v.place (v.place + k) (fetched (length a.tries) T1 p.loc ++ fetched (length a.tries) T2 q.loc ++ branch ∷ []) →
+      PartStands s n v.place (v.place + k) (fetch_pieces (length a.tries) T1 p.loc ++ fetch_pieces (length a.tries) T2 q.loc ++ branch ∷ []) →
       ((b : Bool) (u : View) (x y : Value) → Within s laid u young 0 held a c →
-      StandsFor s (all_of u young) (reg u.registers (number (register_of T1 p.loc))) x →
-      StandsFor s (all_of u young) (reg u.registers (number (register_of T2 q.loc))) y →
+      StandsFor s (blocks_by_serial u young) (reg u.registers (register_number (register_of T1 p.loc))) x →
+      StandsFor s (blocks_by_serial u young) (reg u.registers (register_number (register_of T2 q.loc))) y →
       truth_of (sizes a.memory) t (x ∷ y ∷ []) ≡ Some b → Tests branch l u.registers b) →
       FollowsBranch k s laid live c v (step place named m (record {
         rest = record { op = lin.Flow (flow.Branch t l); args = p ∷ q ∷ []; results = [] } ∷ next;
@@ -450,17 +450,17 @@ module _ (s : Fixed) (n : Named) (laid : Laid) (m : Lin) (slots : m.slots ≡ la
         results = [];
       }) next file a vs)) tt p q
       (λ x y h e i g.
-      two_comes p at_p reads_p branch (fetched (length a.tries) T2 q.loc) (register_of T2 q.loc) (λ z. held q.loc ≡ Some z) part
+      two_comes p at_p reads_p branch (fetch_pieces (length a.tries) T2 q.loc) (register_of T2 q.loc) (λ z. held q.loc ≡ Some z) part
       (λ at j pt. second_location s n laid m slots v young held a c none within q.loc at_q at j pt) t (p ∷ q ∷ []) (truth_of (sizes a.memory) t (x ∷ y ∷ []))
       x y (reads_held before held file p.loc agrees reads_p ∙ h) (reads_held before held file q.loc agrees reads_q ∙ i)
       (λ b u w sx sy o. says b u x y w sx sy o))
 
   -- a constant
   constant_line : (t : Test) (w : ℕ) → w < 2 ^ 64 → (p : Spot) → IsLocation m p.loc → Reads before p.loc → (branch : Piece) →
-      PartStands s n v.place (v.place + k) (fetched (length a.tries) T1 p.loc ++ constant_words w ++ branch ∷ []) →
+      PartStands s n v.place (v.place + k) (fetch_pieces (length a.tries) T1 p.loc ++ constant_words w ++ branch ∷ []) →
       ((b : Bool) (u : View) (x : Value) → Within s laid u young 0 held a c →
-      StandsFor s (all_of u young) (reg u.registers (number (register_of T1 p.loc))) x →
-      StandsFor s (all_of u young) (reg u.registers (number (constant_register w))) (Word w) →
+      StandsFor s (blocks_by_serial u young) (reg u.registers (register_number (register_of T1 p.loc))) x →
+      StandsFor s (blocks_by_serial u young) (reg u.registers (register_number (constant_register w))) (Word w) →
       truth_of (sizes a.memory) t (x ∷ []) ≡ Some b → Tests branch l u.registers b) →
       FollowsBranch k s laid live c v (step place named m (record {
         rest = record { op = lin.Flow (flow.Branch t l); args = p ∷ []; results = [] } ∷ next;
@@ -492,14 +492,14 @@ module _ (s : Fixed) (n : Named) (laid : Laid) (m : Lin) (slots : m.slots ≡ la
   branch_line test.Holds (p ∷ []) h at part =
       one_line test.Holds p at.0.0 at.0.1 (piece.Branch condition.Bne (register_of T1 p.loc) Zero l)
       (subst (λ z. PartStands s n v.place (v.place + k) (z ++ piece.Branch condition.Bne (register_of T1 p.loc) Zero l ∷ []))
-      (append-nil (fetched (length a.tries) T1 p.loc)) part)
+      (append-nil (fetch_pieces (length a.tries) T1 p.loc)) part)
       (λ b u x w sx e. holds_tests s laid u young held a c w l (register_of T1 p.loc) b x sx e)
   branch_line test.Holds (p ∷ q ∷ qs) h at part = elim h [ ]
   branch_line test.Fails [] h at part = elim h [ ]
   branch_line test.Fails (p ∷ []) h at part =
       one_line test.Fails p at.0.0 at.0.1 (piece.Branch condition.Beq (register_of T1 p.loc) Zero l)
       (subst (λ z. PartStands s n v.place (v.place + k) (z ++ piece.Branch condition.Beq (register_of T1 p.loc) Zero l ∷ []))
-      (append-nil (fetched (length a.tries) T1 p.loc)) part)
+      (append-nil (fetch_pieces (length a.tries) T1 p.loc)) part)
       (λ b u x w sx e. fails_tests s laid u young held a c w l (register_of T1 p.loc) b x sx e)
   branch_line test.Fails (p ∷ q ∷ qs) h at part = elim h [ ]
   branch_line (test.Signed f r) [] h at part = elim h [ ]

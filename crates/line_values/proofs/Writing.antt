@@ -6,8 +6,8 @@ use Rattle.bs_words.specs.declared.types.Chunk.{Chunk}
 use Rattle.bs_words.specs.declared.types.Chunk.TheVariants as chunk
 use Rattle.bs_words.specs.declared.values.Value.{Value}
 use Rattle.emit_rules.specs.Memory.{address_offset, address_register, address_words, store_width, store_part}
-use Rattle.emit_rules.specs.Slots.{fetched, register_of}
-use Rattle.layout_rules.specs.Words.{Named}
+use Rattle.emit_rules.specs.Slots.{fetch_pieces, register_of}
+use Rattle.layout_rules.specs.Words.{NameAddresses}
 use Rattle.lin_ir.specs.Formed.{IsLocation}
 use Rattle.lin_ir.specs.Meaning.{Locations, NamedAt, on_act, on_values, step}
 use Rattle.lin_ir.specs.declared.lin.Lin.{Lin}
@@ -15,11 +15,11 @@ use Rattle.lin_ir.specs.declared.lin.Line.{Line}
 use Rattle.lin_ir.specs.declared.lin.LinOp.TheVariants as lin
 use Rattle.lin_ir.specs.declared.lin.Spot.{Spot}
 use Rattle.mach_ir.specs.Acts.{Around, moved_by, stored_act}
-use Rattle.mach_ir.specs.Runs.{Place}
+use Rattle.mach_ir.specs.Runs.{ActivationSetting}
 use Rattle.mach_ir.specs.declared.op.Access.TheVariants as access
 use Rattle.mach_ir.specs.declared.op.Op.TheVariants as op
 use Rattle.moving_laws.specs.Values.{value_word}
-use Rattle.rv_isa.specs.Registers.{number}
+use Rattle.rv_isa.specs.Registers.{register_number}
 use Rattle.rv_isa.specs.declared.register.Register.{Register}
 use Rattle.rv_isa.specs.declared.register.Register.TheVariants.{T1, T2}
 use Rattle.rv_machine.specs.Arithmetic.{imm_i}
@@ -30,9 +30,9 @@ use Rattle.moving_laws.specs.Words.{held_word}
 use Rattle.moving_laws.proofs.Held.{held_below, hold, hold_regions, word_hold}
 use Rattle.rv_pieces.specs.declared.piece.Piece.{Piece}
 use Rattle.linear_machine.specs.Follows.{Agrees, FollowsStep}
-use Rattle.linear_machine.specs.Relation.{Below, Laid, StandsFor, Within, all_of}
-use Rattle.linear_machine.specs.Straight.{Comes}
-use Rattle.linear_machine.specs.View.{Fixed, View, IsCode}
+use Rattle.linear_machine.specs.Relation.{Below, Laid, StandsFor, Within, blocks_by_serial}
+use Rattle.linear_machine.specs.Straight.{LeadsFurther}
+use Rattle.linear_machine.specs.View.{Fixed, View, IsInstructionAt}
 use Rattle.linear_machine.proofs.Parts.{changes_come, comes_then}
 use Rattle.linear_machine.proofs.Pure.{Reads, reads_held}
 use Rattle.linear_machine.proofs.Standing.{within_past}
@@ -46,7 +46,7 @@ use Rattle.rv_isa.specs.declared.instr.Instr.TheVariants.{Store}
 use Rattle.linear_machine.proofs.Writing.{within_changed}
 use Rattle.line_values.proofs.Bytes.{store_part_step}
 use Rattle.line_values.proofs.Loading.{chunk_width}
-use Rattle.emit_rules.specs.Instructions.{store}
+use Rattle.emit_rules.specs.Instructions.{store_piece}
 use Rattle.linear_machine.proofs.Following.{agrees_on, goes_follows}
 use Rattle.linear_machine.proofs.Reading.{reads_two}
 use Rattle.line_values.proofs.Landing.{within_at}
@@ -69,8 +69,8 @@ far_off at y near far = λ t. omega (arith, t, near, far)
 one_more : (u p k : ℕ) → u ≡ p + k → u + 1 ≡ p + (k + 1)
 one_more u p k e = omega (arith, e)
 
-module _ (s : Fixed) (n : Named) (laid : Laid) (m : Lin) (slots : m.slots ≡ laid.slots) (live : List Line → Type 0) (entry : ℕ → ℕ) (c : Below)
-    (place : Place) (named : NamedAt) (next : List Line) (v : View) (young : List Placed) (held file : Locations) (a : Around) (none : a.raised ≡ None)
+module _ (s : Fixed) (n : NameAddresses) (laid : Laid) (m : Lin) (slots : m.slots ≡ laid.slots) (live : List Line → Type 0) (entry : ℕ → ℕ) (c : Below)
+    (place : ActivationSetting) (named : NamedAt) (next : List Line) (v : View) (young : List Placed) (held file : Locations) (a : Around) (none : a.raised ≡ None)
     (within : Within s laid v young 0 held a c) (before : Type 0) (agrees : Agrees before held file) (k : ℕ) (behind : laid.part (length next) ≡ v.place + k)
     (passes : live next → before)
     (ch : Chunk) (offset : ℕ) (fits_64 : offset < 2 ^ 64) (p q : Spot) (at_p : IsLocation m p.loc) (at_q : IsLocation m q.loc) (reads_p : Reads before p.loc)
@@ -79,8 +79,8 @@ module _ (s : Fixed) (n : Named) (laid : Laid) (m : Lin) (slots : m.slots ≡ la
   -- the address and the value are in registers
   record Ready (r : ℕ) (from : Register) (x y : Value) (u : View) : Type 0 where
     pub stands : Within s laid u young 0 held a c
-    pub address : add_word (slice_index u.registers (suc r)) (imm_i (address_offset offset % 4096)) ≡ value_word s.image (all_of u young) (moved_by offset x)
-    pub value : StandsFor s (all_of u young) (reg u.registers (number from)) y
+    pub address : add_word (slice_index u.registers (suc r)) (imm_i (address_offset offset % 4096)) ≡ value_word s.image (blocks_by_serial u young) (moved_by offset x)
+    pub value : StandsFor s (blocks_by_serial u young) (reg u.registers (register_number from)) y
 
   stores : (x y : Value) (cell : Cell) → held p.loc ≡ Some x → held q.loc ≡ Some y → cell_at a.memory (width ch) (moved_by offset x) ≡ Some cell →
       FollowsStep k s laid live entry c v (on_act place m (record {
@@ -89,17 +89,17 @@ module _ (s : Fixed) (n : Named) (laid : Laid) (m : Lin) (slots : m.slots ≡ la
         results = [];
       }) next file a (stored_act ch a (Some cell) (moved_by offset x) y))
   stores x y cell hx hy there =
-      let one : List Piece = fetched (length a.tries) T1 p.loc in
+      let one : List Piece = fetch_pieces (length a.tries) T1 p.loc in
       let two : List Piece = address_words (register_of T1 p.loc) offset in
-      let three : List Piece = fetched (length a.tries) T2 q.loc in
-      let instr : Piece = store (store_width ch) (register_of T2 q.loc) (address_register (register_of T1 p.loc) offset) (address_offset offset) in
+      let three : List Piece = fetch_pieces (length a.tries) T2 q.loc in
+      let instr : Piece = store_piece (store_width ch) (register_of T2 q.loc) (address_register (register_of T1 p.loc) offset) (address_offset offset) in
       let turned : PartStands s n v.place (v.place + k) (one ++ (two ++ (three ++ instr ∷ []))) =
       subst (PartStands s n v.place (v.place + k)) (append_assoc (one ++ two) three (instr ∷ []) ∙ append_assoc one two (three ++ instr ∷ [])) part_is in
       let g1 = counts s n v.place k one (two ++ (three ++ instr ∷ [])) turned in
       let g2 = counts s n (v.place + g1.own) g1.others two (three ++ instr ∷ []) g1.second in
       let g3 = counts s n (v.place + g1.own + g2.own) g2.others three (instr ∷ []) g2.second in
       let l = last s n (v.place + g1.own + g2.own + g3.own) g3.others
-      (Store (store_width ch) (number (address_register (register_of T1 p.loc) offset)) (number (register_of T2 q.loc))
+      (Store (store_width ch) (register_number (address_register (register_of T1 p.loc) offset)) (register_number (register_of T2 q.loc))
       (address_offset offset % 4096)) g3.second in
       let f1 = fetches s n laid m slots v young held a c none within T1 5 refl (inl refl) v.place g1.own p.loc at_p g1.first in
       let ad = addresses s n laid young held a c (register_of T1 p.loc) f1.r f1.is f1.apart offset fits_64 (v.place + g1.own) g2.own g2.first in
@@ -109,54 +109,54 @@ module _ (s : Fixed) (n : Named) (laid : Laid) (m : Lin) (slots : m.slots ≡ la
       let e3 = g3.sum in
       let e4 = l.1 in
       let all : k ≡ g1.own + (g2.own + g3.own) + 1 = omega (arith, e1, e2, e3, e4) in
-      let ready : Comes s v (g1.own + (g2.own + g3.own)) (Ready ad.r (register_of T2 q.loc) x y) =
-      comes_then s v g1.own (g2.own + g3.own) (λ u. Within s laid u young 0 held a c × StandsFor s (all_of u young) (slice_index u.registers (suc f1.r)) x) _
+      let ready : LeadsFurther s v (g1.own + (g2.own + g3.own)) (Ready ad.r (register_of T2 q.loc) x y) =
+      comes_then s v g1.own (g2.own + g3.own) (λ u. Within s laid u young 0 held a c × StandsFor s (blocks_by_serial u young) (slice_index u.registers (suc f1.r)) x) _
       (changes_come s v g1.own f1.list v.memory _ _
       (λ u past st. (
         within_past s laid v u young 0 held a c g1.own f1.list past (λ o i. inl (f1.only o i)) within,
-        (let same : all_of u young ≡ all_of v young = ap (λ bs. all_of (record v { blocks = bs }) young) past.blocks in
+        (let same : blocks_by_serial u young ≡ blocks_by_serial v young = ap (λ bs. blocks_by_serial (record v { blocks = bs }) young) past.blocks in
             subst (λ b. StandsFor s b (slice_index u.registers (suc f1.r)) x) (sym same) st),
       ))
       ((f1.gets x hx).by v refl within))
       (λ u at both.
       comes_then s u g2.own g3.own
       (λ w. Within s laid w young 0 held a c
-      × (add_word (slice_index w.registers (suc ad.r)) (imm_i (address_offset offset % 4096)) ≡ value_word s.image (all_of w young) (moved_by offset x))) _
+      × (add_word (slice_index w.registers (suc ad.r)) (imm_i (address_offset offset % 4096)) ≡ value_word s.image (blocks_by_serial w young) (moved_by offset x))) _
       (changes_come s u g2.own ad.list u.memory _ _
       (λ w past e. (
         within_past s laid u w young 0 held a c g2.own ad.list past ad.scratch both.0,
-        (let same : all_of w young ≡ all_of u young = ap (λ bs. all_of (record u { blocks = bs }) young) past.blocks in
+        (let same : blocks_by_serial w young ≡ blocks_by_serial u young = ap (λ bs. blocks_by_serial (record u { blocks = bs }) young) past.blocks in
             e ∙ ap (λ b. value_word s.image b (moved_by offset x)) (sym same)),
       ))
       (ad.gets x (no_function a (width ch) offset x cell there) u at both.0 both.1))
       (λ w at' both'.
       changes_come s w g3.own snd.list w.memory _ _
       (λ o past st.
-      let same : all_of o young ≡ all_of w young = ap (λ bs. all_of (record w { blocks = bs }) young) past.blocks in
+      let same : blocks_by_serial o young ≡ blocks_by_serial w young = ap (λ bs. blocks_by_serial (record w { blocks = bs }) young) past.blocks in
       let kept : slice_index o.registers (suc ad.r) ≡ slice_index w.registers (suc ad.r) = past.others (suc ad.r) (λ i. ad.apart (snd.only (suc ad.r) i)) in
       record {
         stands = within_past s laid w o young 0 held a c g3.own snd.list past (λ z i. inr (snd.only z i)) both'.0;
         address = ap (λ z. add_word z (imm_i (address_offset offset % 4096))) kept ∙ both'.1
             ∙ ap (λ b. value_word s.image b (moved_by offset x)) (sym same);
-        value = subst (λ b. StandsFor s b (reg o.registers (number (register_of T2 q.loc))) y) (sym same) st;
+        value = subst (λ b. StandsFor s b (reg o.registers (register_number (register_of T2 q.loc))) y) (sym same) st;
       })
       (snd.gets y hy w (omega (arith, at, at')) both'.0))) in
       let u = ready.view in
       let at = ready.place in
       let w = ready.holds.stands in
-      let value : ℕ = reg u.registers (number (register_of T2 q.loc)) in
-      let reach = reached s (all_of u young) u.memory w.usable.regions a w.heap (width ch) (chunk_width ch) (moved_by offset x) cell there in
+      let value : ℕ = reg u.registers (register_number (register_of T2 q.loc)) in
+      let reach = reached s (blocks_by_serial u young) u.memory w.usable.regions a w.heap (width ch) (chunk_width ch) (moved_by offset x) cell there in
       let here : v.place + g1.own + g2.own + g3.own ≡ u.place = omega (arith, at) in
-      let code : IsCode s u.place (Store (store_width ch) (suc ad.r) (number (register_of T2 q.loc)) (address_offset offset % 4096)) =
-      subst (λ z. IsCode s z (Store (store_width ch) (suc ad.r) (number (register_of T2 q.loc)) (address_offset offset % 4096))) here
-      (subst (λ z. IsCode s (v.place + g1.own + g2.own + g3.own) (Store (store_width ch) z (number (register_of T2 q.loc)) (address_offset offset % 4096)))
+      let code : IsInstructionAt s u.place (Store (store_width ch) (suc ad.r) (register_number (register_of T2 q.loc)) (address_offset offset % 4096)) =
+      subst (λ z. IsInstructionAt s z (Store (store_width ch) (suc ad.r) (register_number (register_of T2 q.loc)) (address_offset offset % 4096))) here
+      (subst (λ z. IsInstructionAt s (v.place + g1.own + g2.own + g3.own) (Store (store_width ch) z (register_number (register_of T2 q.loc)) (address_offset offset % 4096)))
       ad.is l.0) in
       let step1 = store_part_step s u reach.at reach.byte reach.even reach.low reach.no_limit reach.held (width ch) (chunk_width ch) reach.inside reach.area
-      reach.aligned (store_width ch) (store_bytes ch) (suc ad.r) (number (register_of T2 q.loc)) (address_offset offset % 4096) code
+      reach.aligned (store_width ch) (store_bytes ch) (suc ad.r) (register_number (register_of T2 q.loc)) (address_offset offset % 4096) code
       (ready.holds.address ∙ reach.address) w.usable.regions in
-      let new : ℕ = replaced (held_word u.memory reach.at) reach.byte (width ch) (reg u.registers (number (register_of T2 q.loc))) in
-      store_goes s (all_of u young) u.memory w.usable.regions a w.heap ch (moved_by offset x) y value
-      (reg_below u.registers (number (register_of T2 q.loc)) w.own.are.words) ready.holds.value
+      let new : ℕ = replaced (held_word u.memory reach.at) reach.byte (width ch) (reg u.registers (register_number (register_of T2 q.loc))) in
+      store_goes s (blocks_by_serial u young) u.memory w.usable.regions a w.heap ch (moved_by offset x) y value
+      (reg_below u.registers (register_number (register_of T2 q.loc)) w.own.are.words) ready.holds.value
       (λ act. FollowsStep k s laid live entry c v (on_act place m (record {
         op = lin.Op (op.Access (access.Store ch offset));
         args = p ∷ q ∷ [];
@@ -165,7 +165,7 @@ module _ (s : Fixed) (n : Named) (laid : Laid) (m : Lin) (slots : m.slots ≡ la
       (λ memory unwritten heap.
       goes_follows s laid live entry c v next k young held file (record a { memory = memory; unwritten = unwritten }) behind
       (agrees_on before (live next) held file passes agrees)
-      (subst (λ z. Comes s v z (λ o. Within s laid o young 0 held (record a { memory = memory; unwritten = unwritten }) c)) (sym all)
+      (subst (λ z. LeadsFurther s v z (λ o. Within s laid o young 0 held (record a { memory = memory; unwritten = unwritten }) c)) (sym all)
       (record {
         view = record u { place = u.place + 1; memory = hold u.memory reach.at new };
         leads = then_leads s (g1.own + (g2.own + g3.own)) 1 v u (record u { place = u.place + 1; memory = hold u.memory reach.at new }) ready.leads step1;
@@ -174,7 +174,7 @@ module _ (s : Fixed) (n : Named) (laid : Laid) (m : Lin) (slots : m.slots ≡ la
             (u.place + 1)
             (within_changed s laid u young 0 held a c (hold u.memory reach.at new) memory unwritten
             (hold_regions (extents s.image s.heap s.base) u.memory reach.at new
-            (replaced-below (held_word u.memory reach.at) reach.byte (width ch) (reg u.registers (number (register_of T2 q.loc))) reach.inside
+            (replaced-below (held_word u.memory reach.at) reach.byte (width ch) (reg u.registers (register_number (register_of T2 q.loc))) reach.inside
             (held_below u.memory reach.at w.usable.regions.each)) w.usable.regions)
             (λ z far. word_hold u.memory reach.at z new reach.even (far_off reach.at z reach.below far)) heap w);
       })))

@@ -1,10 +1,10 @@
 -- The lines that compute, load, store, test and jump, and that the machine follows them.
 use Rattle.std.specs.Prelude.{◌≡◌, ℕ, true, List, ◌∷◌, length, Option, None}
-use Rattle.emit_rules.specs.Emitted.{part_of}
-use Rattle.emit_rules.specs.Entry.{Frame}
+use Rattle.emit_rules.specs.Emitted.{part_of_line}
+use Rattle.emit_rules.specs.Entry.{FrameLayout}
 use Rattle.emit_rules.specs.Units.{is_branch}
 use Rattle.layout_rules.specs.Forms.{total_words}
-use Rattle.layout_rules.specs.Words.{Named}
+use Rattle.layout_rules.specs.Words.{NameAddresses}
 use Rattle.lin_ir.specs.Meaning.{Locations, NamedAt, State, step}
 use Rattle.lin_ir.specs.declared.descr.Descr.{Descr}
 use Rattle.lin_ir.specs.declared.lin.Flow.TheVariants as flow
@@ -13,7 +13,7 @@ use Rattle.lin_ir.specs.declared.lin.Line.{Line}
 use Rattle.lin_ir.specs.declared.lin.LinOp.{LinOp}
 use Rattle.lin_ir.specs.declared.lin.LinOp.TheVariants as lin
 use Rattle.mach_ir.specs.Acts.{Around}
-use Rattle.mach_ir.specs.Runs.{Place, Step, Continues, IsStuck}
+use Rattle.mach_ir.specs.Runs.{ActivationSetting, Step, Continues, IsStuck}
 use Rattle.mach_ir.specs.declared.mach.Test.{Test}
 use Rattle.mach_ir.specs.declared.op.Access.TheVariants as access
 use Rattle.mach_ir.specs.declared.op.Leaving.TheVariants as leaving
@@ -40,21 +40,21 @@ pub data IsPlain : LinOp → Type 0 where
 
 -- From wherever the function is before the line, the machine does what the line does, in at
 -- most the words of its part.
-abbrev pub Followed : Fixed → Laid → Named → Lin → Place → NamedAt → (List Line → Type 0) →
-    (ℕ → ℕ) → Below → Frame → Option Descr → Line → List Line → Type 0
+abbrev pub Followed : Fixed → Laid → NameAddresses → Lin → ActivationSetting → NamedAt → (List Line → Type 0) →
+    (ℕ → ℕ) → Below → FrameLayout → Option Descr → Line → List Line → Type 0
 Followed s laid n m place named live entry c f d i next =
     (file : Locations) (a : Around) (v : View)
     (stands : LineStands s laid n m place.setting live a.tries f d i next) → a.raised ≡ None →
     IsAt s laid live c (record { rest = i ∷ next; file = file; around = a }) v →
-    FollowsStep (total_words (part_of (length a.tries) f d i) stands.part.forms) s laid live entry c
+    FollowsStep (total_words (part_of_line (length a.tries) f d i) stands.part.forms) s laid live entry c
     v (step place named m (record { rest = i ∷ next; file = file; around = a }))
 
 -- The law, of every function, line and machine, whatever is said to be the code in which t0 is
 -- live.
 abbrev pub PlainLinesAreFollowed : (List Line → Type 0) → Type 0
 PlainLinesAreFollowed live =
-    (s : Fixed) (laid : Laid) (n : Named) (m : Lin) (place : Place) (named : NamedAt)
-    (entry : ℕ → ℕ) (c : Below) (f : Frame) (d : Option Descr) (i : Line) (next : List Line) →
+    (s : Fixed) (laid : Laid) (n : NameAddresses) (m : Lin) (place : ActivationSetting) (named : NamedAt)
+    (entry : ℕ → ℕ) (c : Below) (f : FrameLayout) (d : Option Descr) (i : Line) (next : List Line) →
     IsPlain i.op → Followed s laid n m place named live entry c f d i next
 
 -- ---- branches
@@ -70,10 +70,10 @@ FollowsBranch n s laid live c v _ = ⊥
 -- So the machine follows every branch.
 abbrev pub BranchesAreFollowed : (List Line → Type 0) → Type 0
 BranchesAreFollowed live =
-    (s : Fixed) (laid : Laid) (n : Named) (m : Lin) (place : Place) (named : NamedAt) (c : Below)
-    (f : Frame) (d : Option Descr) (i : Line) (next : List Line) → is_branch i.op ≡ true →
+    (s : Fixed) (laid : Laid) (n : NameAddresses) (m : Lin) (place : ActivationSetting) (named : NamedAt) (c : Below)
+    (f : FrameLayout) (d : Option Descr) (i : Line) (next : List Line) → is_branch i.op ≡ true →
     (file : Locations) (a : Around) (v : View)
     (stands : LineStands s laid n m place.setting live a.tries f d i next) → a.raised ≡ None →
     IsAt s laid live c (record { rest = i ∷ next; file = file; around = a }) v →
-    FollowsBranch (total_words (part_of (length a.tries) f d i) stands.part.forms) s laid live c v
+    FollowsBranch (total_words (part_of_line (length a.tries) f d i) stands.part.forms) s laid live c v
     (step place named m (record { rest = i ∷ next; file = file; around = a }))

@@ -2,10 +2,10 @@
 use Rattle.std.proofs.Common.{ℕ, ◌+◌, ◌≤◌, ◌⊎◌, inl, inr, refl, ap, arith, ◌∙◌, ⊎_elim}
 use Rattle.rv_machine.specs.Services.{End, Machine, Over}
 use Rattle.guarded_machine.specs.Guarded.{guarded_after}
-use Rattle.linear_machine.specs.View.{Fixed, View, Leads, Ends}
-use Rattle.linear_machine.specs.Arrival.{Needs, IsShort, ArrivalIn, Gone, ArrivesIn, Arrives}
+use Rattle.linear_machine.specs.View.{Fixed, View, ReachesView, EndsRunAfter}
+use Rattle.linear_machine.specs.Arrival.{Needs, IsOutOfRoom, ArrivalIn, Gone, ArrivesIn, Arrives}
 
-pub leads_in : {q : Needs} (least most : ℕ) (s : Fixed) (n : ℕ) → least ≤ n → n ≤ most → (v w : View) (P : View → Type 0) → Leads s n v w → P w →
+pub leads_in : {q : Needs} (least most : ℕ) (s : Fixed) (n : ℕ) → least ≤ n → n ≤ most → (v w : View) (P : View → Type 0) → ReachesView s n v w → P w →
     ArrivesIn least most s q v P
 leads_in least most s n some few v w P l p = record {
   from = λ a st. let g = l.by a st in inl (record {
@@ -22,10 +22,10 @@ leads_in least most s n some few v w P l p = record {
   });
 }
 
-pub leads_arrives : {q : Needs} (s : Fixed) (n : ℕ) (v w : View) (P : View → Type 0) → Leads s n v w → P w → Arrives n s q v P
+pub leads_arrives : {q : Needs} (s : Fixed) (n : ℕ) (v w : View) (P : View → Type 0) → ReachesView s n v w → P w → Arrives n s q v P
 leads_arrives s n v w P l p = leads_in 0 n s n (omega arith) (omega arith) v w P l p
 
-pub ends_arrives : {most : ℕ} (s : Fixed) (q : Needs) (n : ℕ) (v : View) (P : View → Type 0) (end : End) → IsShort s q end → Ends s n v end →
+pub ends_arrives : {most : ℕ} (s : Fixed) (q : Needs) (n : ℕ) (v : View) (P : View → Type 0) (end : End) → IsOutOfRoom s q end → EndsRunAfter s n v end →
     Arrives most s q v P
 ends_arrives s q n v P end want e = record { from = λ a st. inr (record { count = n; end = end; want = want; by = e.by a st }) }
 

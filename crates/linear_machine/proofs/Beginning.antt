@@ -9,7 +9,7 @@ use Rattle.rv_machine.specs.Loading.{IsRoom}
 use Rattle.rv_machine.specs.Memory.{code_start}
 use Rattle.rv_machine.specs.Observation.{young_top}
 use Rattle.rv_machine.specs.Places.{domain_start, stack_bottom}
-use Rattle.rv_machine.specs.Relocation.{root_cells}
+use Rattle.rv_machine.specs.Relocation.{root_addresses}
 use Rattle.rv_machine.specs.Run.{Schedule}
 use Rattle.rv_machine.specs.Sound.{AllWords, IsSound}
 use Rattle.rv_machine.specs.Start.{padded, start, start_memory, start_registers}
@@ -79,7 +79,7 @@ module _ (image : Tables) (functions : HasFunctions image) (bytes : AllByRecursi
   at_27 : slice_index (start_registers args) 27 ≡ domain_start
   at_27 = behind_ten args 17 ∙ behind_arguments 16 args last_six 1
 
-  pub at_start : (lists : List StaticList) (roots : List ℕ) → StaticsStand image [] (start_memory image stack heap) (root_cells image)
+  pub at_start : (lists : List StaticList) (roots : List ℕ) → StaticsStand image [] (start_memory image stack heap) (root_addresses image)
       (statics_of (record { blocks = []; statics = lists; roots = roots })) → StaticsLie image (record { blocks = []; statics = lists; roots = roots }) →
       AtEntry start_fixed start_view [] place (map Word args) (record { blocks = []; statics = lists; roots = roots }) nothing_below
   at_start lists roots statics lie =

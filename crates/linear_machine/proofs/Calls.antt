@@ -8,16 +8,16 @@ use Rattle.bs_words.specs.declared.values.Value.{Value}
 use Rattle.image_form.specs.Tables.{Desc}
 use Rattle.lin_ir.specs.Meaning.{Locations, are_vals, poisoned}
 use Rattle.mach_ir.specs.Acts.{Around, is_complete}
-use Rattle.mach_ir.specs.Runs.{entered}
+use Rattle.mach_ir.specs.Runs.{entry_around}
 use Rattle.rv_machine.specs.Frames.{descriptor_at, names_register}
 use Rattle.rv_machine.specs.Hart.{Placed}
-use Rattle.rv_machine.specs.Memory.{Region, word, code_start}
+use Rattle.rv_machine.specs.Memory.{Region, memory_word, code_start}
 use Rattle.rv_machine.specs.Places.{stack_bottom}
 use Rattle.bs_words.specs.Fits.{data_start}
 use Rattle.machine_laws.proofs.Words.{with_registers}
 use Rattle.moving_laws.specs.Waiting.{Chain, IsBack, IsWaiting, TrapsFrom, traps_at}
 use Rattle.linear_machine.specs.Moments.{AtEntry, AtReturn, AtThrow, IsThrown}
-use Rattle.linear_machine.specs.Relation.{Below, IsDescribed, IsLocation, Laid, ReturnStands, StandsFor, Waits, Within, all_of, pushed, traps_of, waiting_of}
+use Rattle.linear_machine.specs.Relation.{Below, IsDescribed, IsLocationRegister, Laid, ReturnStands, StandsFor, Waits, Within, blocks_by_serial, pushed, waiting_trap_frames, waiting_of}
 use Rattle.linear_machine.specs.View.{Fixed, View}
 use Rattle.linear_machine.proofs.Frames.{heap_around, heap_whole, own_chain, own_waits}
 use Rattle.linear_machine.proofs.Standing.{own_past}
@@ -30,7 +30,7 @@ module _ (s : Fixed) (laid : Laid) (v : View) (young : List Placed) (held : Loca
   pub enters :
       (to back : ℕ) (arguments : List Value) → IsBack back → back ≢ code_start → descriptor_at s.image.descs back ≡ Some d → names_register d.entries ≡ false →
       is_complete a ≡ true →
-      ((k : ℕ) (x : Value) → slice_get arguments k ≡ Some x → (k < 16) × StandsFor s (all_of v young) (slice_index v.registers (10 + k)) x) →
+      ((k : ℕ) (x : Value) → slice_get arguments k ≡ Some x → (k < 16) × StandsFor s (blocks_by_serial v young) (slice_index v.registers (10 + k)) x) →
       AtEntry s (record v { place = to; registers = slice_set v.registers 1 back }) young to arguments a.memory (pushed laid (poisoned named held) a.tries c
       (slice_index v.registers 2) d back)
   enters to back arguments is_back n there registers whole args =
@@ -53,7 +53,7 @@ module _ (s : Fixed) (laid : Laid) (v : View) (young : List Placed) (held : Loca
         back = get_or-set_same v.registers 1 back 0 (omega (arith, cnt));
         arguments_in = λ k x h.
             let p = args k x h in
-            (p.0, subst (λ w. StandsFor s (all_of v young) w x) (sym (get_or-set_other v.registers 1 (10 + k) back 0 (λ q. omega (arith, q)))) p.1);
+            (p.0, subst (λ w. StandsFor s (blocks_by_serial v young) w x) (sym (get_or-set_other v.registers 1 (10 + k) back 0 (λ q. omega (arith, q)))) p.1);
         waits = record {
           low = within.low;
           high = omega (arith, f, hi);
@@ -65,8 +65,8 @@ module _ (s : Fixed) (laid : Laid) (v : View) (young : List Placed) (held : Loca
           bottom = within.waits.bottom;
         };
         traps = subst (λ q. TrapsFrom s.base v.memory q (traps_at (slice_index v.registers 2)
-            (map laid.handler a.tries) ++ traps_of c.waiting c.frames) stack_bottom) (sym e9) within.traps;
-        heap = heap_whole s (all_of v young) v.memory a whole within.heap;
+            (map laid.handler a.tries) ++ waiting_trap_frames c.waiting c.frames) stack_bottom) (sym e9) within.traps;
+        heap = heap_whole s (blocks_by_serial v young) v.memory a whole within.heap;
       }
 
 -- ---- what is known of the caller's frame while it waits
@@ -85,7 +85,7 @@ pub record IsFresh (value : Option Value) (slots held : Locations) : Type 0 wher
   pub register : (r : ℕ) (x : Value) → held (loc.Machine r) ≡ Some x → (r ≡ 10) × (value ≡ Some x)
   pub slot : (k : ℕ) (x : Value) → held (loc.Slot k) ≡ Some x → slots (loc.Slot k) ≡ Some x
 
-a0_location : (r : ℕ) → r ≡ 10 → IsLocation r
+a0_location : (r : ℕ) → r ≡ 10 → IsLocationRegister r
 a0_location r e = record {
   some = omega (arith, e);
   below = omega (arith, e);
@@ -99,24 +99,24 @@ a0_location r e = record {
 
 module _ (s : Fixed) (laid : Laid) (slots : Locations) (tries : List ℕ) (c : Below) (at : ℕ) (d : Desc) (back : ℕ)
     (caller : IsCaller laid slots d (length tries) c at) (w : View) (young : List Placed) where
-  return_word : word w.memory (at + (d.size - 8)) ≡ c.back → ReturnStands laid.saves w c
+  return_word : memory_word w.memory (at + (d.size - 8)) ≡ c.back → ReturnStands laid.saves w c
   return_word e =
       let top = caller.top in
       let z = caller.size in
       let room : 8 * laid.slots + 8 ≤ laid.frame = subst (λ b. 8 * laid.slots + cond b 8 0 ≤ laid.frame) caller.saves laid.room in
       let x : at + (d.size - 8) ≡ c.top - 8 = omega (arith, top, z, room) in
-      subst (λ b. ReturnStands b w c) (sym caller.saves) (subst (λ y. word w.memory y ≡ c.back) x e)
+      subst (λ b. ReturnStands b w c) (sym caller.saves) (subst (λ y. memory_word w.memory y ≡ c.back) x e)
 
   -- its slots, as the memory has them
   slot_of :
-      (m : List Region) (sp : ℕ) (own : IsWaiting s.image (all_of w young) m (waiting_of laid slots tries c) (record { at = at; desc = d })) (n : ℕ) →
+      (m : List Region) (sp : ℕ) (own : IsWaiting s.image (blocks_by_serial w young) m (waiting_of laid slots tries c) (record { at = at; desc = d })) (n : ℕ) →
       sp + 16 * n ≡ at + 16 * length tries →
-      (k : ℕ) (x : Value) → slots (loc.Slot k) ≡ Some x → (k < laid.slots) × StandsFor s (all_of w young) (word m (sp + (8 * k + 16 * n))) x
+      (k : ℕ) (x : Value) → slots (loc.Slot k) ≡ Some x → (k < laid.slots) × StandsFor s (blocks_by_serial w young) (memory_word m (sp + (8 * k + 16 * n))) x
   slot_of m sp own n e k x h =
       let i = caller.bound k x h in
       let t = length-map tries laid.handler in
       let there : at + (16 * length (map laid.handler tries) + 8 * k) ≡ sp + (8 * k + 16 * n) = omega (arith, e, t) in
-      (i, record { is = ap (word m) (sym there) ∙ own.slot k x i h; known = own.known k x i h })
+      (i, record { is = ap (memory_word m) (sym there) ∙ own.slot k x i h; known = own.known k x i h })
 
   pub comes_back : (value : Option Value) (memory : Memory) (held : Locations) → IsFresh value slots held →
       AtReturn s w young value memory (pushed laid slots tries c at d back) →
@@ -136,7 +136,7 @@ module _ (s : Fixed) (laid : Laid) (slots : Locations) (tries : List ℕ) (c : B
         low = omega (arith, sp, lo);
         carried = λ q x h. let f = fresh.register q x h in (
           a0_location q f.0,
-          subst (λ t. StandsFor s (all_of w young) (slice_index w.registers t) x)
+          subst (λ t. StandsFor s (blocks_by_serial w young) (slice_index w.registers t) x)
               (sym f.0) (r.value_in x f.1),
         );
         slots = λ k x h. slot_of w.memory (slice_index w.registers 2) own (length tries) (omega (arith, sp)) k x (fresh.slot k x h);
@@ -153,14 +153,14 @@ module _ (s : Fixed) (laid : Laid) (slots : Locations) (tries : List ℕ) (c : B
           bottom = r.waits.bottom;
         };
         traps = subst (λ q. TrapsFrom s.base w.memory (slice_index w.registers 9)
-            (traps_at q (map laid.handler tries) ++ traps_of c.waiting c.frames) stack_bottom) (sym sp) r.traps;
-        heap = heap_around s (all_of w young) w.memory (entered memory) tries None r.heap;
+            (traps_at q (map laid.handler tries) ++ waiting_trap_frames c.waiting c.frames) stack_bottom) (sym sp) r.traps;
+        heap = heap_around s (blocks_by_serial w young) w.memory (entry_around memory) tries None r.heap;
       }
 
   -- ---- a callee has raised
 
   module _ (x : Value) (memory : Memory) (r : AtThrow s w young x memory (pushed laid slots tries c at d back)) where
-    waits_below : Waits s (all_of w young) w.memory c
+    waits_below : Waits s (blocks_by_serial w young) w.memory c
     waits_below =
         let chain = r.waits.chain in
         let frame = chain.3 in
@@ -187,16 +187,16 @@ module _ (s : Fixed) (laid : Laid) (slots : Locations) (tries : List ℕ) (c : B
       value_in = r.value_in;
       waits = waits_below;
       thrown = subst (λ ts. IsThrown w.memory s.base w.place (slice_index w.registers 2) (slice_index w.registers 9)
-          (traps_at at (map laid.handler ts) ++ traps_of c.waiting c.frames)) e r.thrown;
+          (traps_at at (map laid.handler ts) ++ waiting_trap_frames c.waiting c.frames)) e r.thrown;
       heap = r.heap;
     }
 
     -- it has: its handler is entered, with the value in a0
     module _ (t : ℕ) (rest : List ℕ) (e : tries ≡ t ∷ rest) where
       thrown_here : IsThrown w.memory s.base w.place (slice_index w.registers 2) (slice_index w.registers 9)
-          (traps_at at (map laid.handler (t ∷ rest)) ++ traps_of c.waiting c.frames)
+          (traps_at at (map laid.handler (t ∷ rest)) ++ waiting_trap_frames c.waiting c.frames)
       thrown_here = subst (λ ts. IsThrown w.memory s.base w.place (slice_index w.registers 2) (slice_index w.registers 9)
-          (traps_at at (map laid.handler ts) ++ traps_of c.waiting c.frames)) e r.thrown
+          (traps_at at (map laid.handler ts) ++ waiting_trap_frames c.waiting c.frames)) e r.thrown
 
       pub catches_place : code_start + 4 * w.place ≡ laid.handler t
       catches_place = thrown_here.0
@@ -221,6 +221,6 @@ module _ (s : Fixed) (laid : Laid) (slots : Locations) (tries : List ℕ) (c : B
             back = return_word own.back;
             waits = waits_below;
             traps = subst (λ q. TrapsFrom s.base w.memory (slice_index w.registers 9)
-                (traps_at q (map laid.handler rest) ++ traps_of c.waiting c.frames) stack_bottom) (sym sp) th.2;
-            heap = heap_around s (all_of w young) w.memory (entered memory) rest (Some x) r.heap;
+                (traps_at q (map laid.handler rest) ++ waiting_trap_frames c.waiting c.frames) stack_bottom) (sym sp) th.2;
+            heap = heap_around s (blocks_by_serial w young) w.memory (entry_around memory) rest (Some x) r.heap;
           }

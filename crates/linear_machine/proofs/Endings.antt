@@ -6,8 +6,8 @@ use Rattle.bs_words.specs.declared.types.Loc.TheVariants as loc
 use Rattle.bs_words.specs.declared.types.Ty.TheVariants as ty
 use Rattle.bs_words.specs.declared.values.Value.{Value}
 use Rattle.cmm_meaning.specs.State.{Gave, Threw}
-use Rattle.mach_ir.specs.Acts.{Around, Ends, drop_tries, is_complete, only_if, raised_by}
-use Rattle.mach_ir.specs.Runs.{Place}
+use Rattle.mach_ir.specs.Acts.{Around, Ends, drop_tries, is_complete, stuck_unless, raised_by}
+use Rattle.mach_ir.specs.Runs.{ActivationSetting}
 use Rattle.mach_ir.specs.declared.op.Leaving.TheVariants as leaving
 use Rattle.mach_ir.specs.declared.op.Op.TheVariants as op
 use Rattle.rv_machine.specs.Hart.{Placed}
@@ -23,17 +23,17 @@ use Rattle.linear_machine.specs.Arrival.{ArrivesIn}
 use Rattle.linear_machine.specs.Follows.{Agrees, FollowsStep, IsAt, IsDone, needs_of}
 use Rattle.linear_machine.specs.Moments.{AtReturn, AtThrow}
 use Rattle.linear_machine.specs.Relation.{Below, Laid}
-use Rattle.linear_machine.specs.View.{Fixed, View, Leads}
+use Rattle.linear_machine.specs.View.{Fixed, View, ReachesView}
 use Rattle.linear_machine.proofs.Arriving.{leads_in}
 use Rattle.linear_machine.proofs.Pure.{reads_held}
 use Rattle.linear_machine.proofs.Reading.{reads_one}
 
-module _ (s : Fixed) (laid : Laid) (live : List Line → Type 0) (entry : ℕ → ℕ) (c : Below) (place : Place) (named : NamedAt) (code : Lin) (next : List Line)
+module _ (s : Fixed) (laid : Laid) (live : List Line → Type 0) (entry : ℕ → ℕ) (c : Below) (place : ActivationSetting) (named : NamedAt) (code : Lin) (next : List Line)
     (v : View) (young : List Placed) (held file : Locations) (a : Around) (before : Type 0) (agrees : Agrees before held file) where
   -- words that lead to where something holds
   pub record Leading (n : ℕ) (P : View → Type 0) : Type 0 where
     pub view : View
-    pub leads : Leads s n v view
+    pub leads : ReachesView s n v view
     pub holds : P view
 
   -- ---- returns: the value, if there is one, is in a0
@@ -55,7 +55,7 @@ module _ (s : Fixed) (laid : Laid) (live : List Line → Type 0) (entry : ℕ �
             op = lin.Op (op.Leaving leaving.Return);
             args = [];
             results = [];
-          }) next file a (only_if t (Ends (Gave None a.memory))))
+          }) next file a (stuck_unless t (Ends (Gave None a.memory))))
       by_test false e = tt
       by_test true e = let w = words e in leads_in 0 n s n (omega arith) (omega arith) v w.view (IsDone s c (Gave None a.memory)) w.leads (young, w.holds)
 
@@ -88,7 +88,7 @@ module _ (s : Fixed) (laid : Laid) (live : List Line → Type 0) (entry : ℕ �
             op = lin.Op (op.Leaving leaving.Return);
             args = p ∷ [];
             results = [];
-          }) next file a (only_if t (Ends (Gave (Some x) a.memory))))
+          }) next file a (stuck_unless t (Ends (Gave (Some x) a.memory))))
       by_test x false e h = tt
       by_test x true e h = let w = words x h e in leads_in 0 n s n (omega arith)
           (omega arith) v w.view (IsDone s c (Gave (Some x) a.memory)) w.leads (young, w.holds)
@@ -144,7 +144,7 @@ module _ (s : Fixed) (laid : Laid) (live : List Line → Type 0) (entry : ℕ �
             op = lin.Op (op.Leaving leaving.Raise);
             args = p ∷ [];
             results = [];
-          }) next file a (only_if t (raised_by x a a.tries)))
+          }) next file a (stuck_unless t (raised_by x a a.tries)))
       by_test x false e h = tt
       by_test x true e h = by_tries x a.tries refl (and_parts (is_complete a) (fits place.setting.end ty.Val x) e).0 h
 

@@ -6,7 +6,7 @@ use Rattle.bs_words.specs.Word.{add_word}
 use Rattle.bs_words.specs.declared.types.Comp.TheVariants as comp
 use Rattle.bs_words.specs.declared.types.Loc.TheVariants as loc
 use Rattle.bs_words.specs.declared.values.Value.{Value}
-use Rattle.mach_ir.specs.Runs.{Place, entered}
+use Rattle.mach_ir.specs.Runs.{ActivationSetting, entry_around}
 use Rattle.mach_ir.specs.declared.op.Leaving.TheVariants as leaving
 use Rattle.mach_ir.specs.declared.op.Pure.TheVariants as pure
 use Rattle.mach_ir.specs.declared.op.Op.TheVariants as op
@@ -15,7 +15,7 @@ use Rattle.rv_isa.specs.declared.instr.Instr.TheVariants.{Jalr, OpImm}
 use Rattle.rv_machine.specs.Arithmetic.{imm_i}
 use Rattle.rv_machine.specs.Hart.{Placed}
 use Rattle.rv_machine.specs.Memory.{code_start}
-use Rattle.lin_ir.specs.Meaning.{Locations, NamedAt, put, step}
+use Rattle.lin_ir.specs.Meaning.{Locations, NamedAt, assign_spot, step}
 use Rattle.lin_ir.specs.declared.lin.LinOp.TheVariants as lin
 use Rattle.lin_ir.specs.declared.lin.Lin.{Lin}
 use Rattle.lin_ir.specs.declared.lin.Line.{Line}
@@ -23,7 +23,7 @@ use Rattle.lin_ir.specs.declared.lin.Spot.{Spot}
 use Rattle.linear_machine.specs.Follows.{FollowsStep}
 use Rattle.linear_machine.specs.Moments.{AtEntry}
 use Rattle.linear_machine.specs.Relation.{Below, Laid, Within}
-use Rattle.linear_machine.specs.View.{Fixed, View, IsCode}
+use Rattle.linear_machine.specs.View.{Fixed, View, IsInstructionAt}
 use Rattle.linear_machine.proofs.Endings.{return_value}
 use Rattle.linear_machine.proofs.Formats.{sets_imm, sets_jalr}
 use Rattle.machine_laws.proofs.Immediates.{low_12, up}
@@ -46,8 +46,8 @@ makes = record { op = lin.Op (op.Pure (pure.Constant 42)); args = []; results = 
 abbrev returns : Line
 returns = record { op = lin.Op (op.Leaving leaving.Return); args = a0_int ∷ []; results = [] }
 
-module _ (s : Fixed) (entry : ℕ → ℕ) (place : Place) (named : NamedAt) (code : Lin) (at : ℕ) (first : IsCode s at (OpImm Addi 10 0 42))
-    (second : IsCode s (at + 1) (Jalr 0 1 0)) where
+module _ (s : Fixed) (entry : ℕ → ℕ) (place : ActivationSetting) (named : NamedAt) (code : Lin) (at : ℕ) (first : IsInstructionAt s at (OpImm Addi 10 0 42))
+    (second : IsInstructionAt s (at + 1) (Jalr 0 1 0)) where
   -- it has no frame
   abbrev laid : Laid
   laid = record {
@@ -66,7 +66,7 @@ module _ (s : Fixed) (entry : ℕ → ℕ) (place : Place) (named : NamedAt) (co
 
   -- where it is entered it begins
   pub begun : (v : View) (young : List Placed) (arguments : List Value) (memory : Memory) (c : Below) → AtEntry s v young at arguments memory c →
-      Within s laid v young 0 (λ l. None) (entered memory) c
+      Within s laid v young 0 (λ l. None) (entry_around memory) c
   begun v young arguments memory c e =
       let low = e.waits.low in
       let top = e.top in
@@ -76,24 +76,24 @@ module _ (s : Fixed) (entry : ℕ → ℕ) (place : Place) (named : NamedAt) (co
 
   -- the first line
   pub made :
-      (v : View) (young : List Placed) (held : Locations) (memory : Memory) (c : Below) → v.place ≡ at → Within s laid v young 0 held (entered memory) c →
-      FollowsStep 1 s laid live entry c v (step place named code (record { rest = makes ∷ returns ∷ []; file = held; around = entered memory }))
+      (v : View) (young : List Placed) (held : Locations) (memory : Memory) (c : Below) → v.place ≡ at → Within s laid v young 0 held (entry_around memory) c →
+      FollowsStep 1 s laid live entry c v (step place named code (record { rest = makes ∷ returns ∷ []; file = held; around = entry_around memory }))
   made v young held memory c p within =
       let sum : add_word 0 (imm_i 42) ≡ 42 = ap (add_word 0) (low_12 42 (omega arith)) ∙ up 0 42 42 refl (omega arith) in
-      constant_follows s laid live entry c place named code (returns ∷ []) v young held held (entered memory) refl within ⊥ (record {
+      constant_follows s laid live entry c place named code (returns ∷ []) v young held held (entry_around memory) refl within ⊥ (record {
         others = λ l n. refl;
         spare_too = λ b. absurd b;
       }) a0_int (λ b. absurd b)
       10 (dropped 10 held) (target_register held 10 a0_location) (10 ∷ []) (λ q i. ⊎_elim (λ e. inl e) (λ f. absurd f) i) 42 1 0 (omega (arith, p))
-      (λ z. keep_register s laid young (entered memory) c (dropped 10 held) (put a0_int z held)
+      (λ z. keep_register s laid young (entry_around memory) c (dropped 10 held) (assign_spot a0_int z held)
       (v.place + 1) 10 z refl a0_location (target_put a0_int 10 z held refl))
-      (set_changes s v (OpImm Addi 10 0 42) 9 42 (subst (λ q. IsCode s q (OpImm Addi 10 0 42)) (sym p) first) (inl (λ q. omega (arith, q)))
+      (set_changes s v (OpImm Addi 10 0 42) 9 42 (subst (λ q. IsInstructionAt s q (OpImm Addi 10 0 42)) (sym p) first) (inl (λ q. omega (arith, q)))
       (sets_as s v (OpImm Addi 10 0 42) 10 _ 42 sum (sets_imm s v Addi 10 0 42)) within.own.are (omega arith) (omega arith))
 
   -- the second
   pub given_back :
-      (v : View) (young : List Placed) (held : Locations) (memory : Memory) (c : Below) → v.place ≡ at + 1 → Within s laid v young 0 held (entered memory) c →
-      FollowsStep 1 s laid live entry c v (step place named code (record { rest = returns ∷ []; file = held; around = entered memory }))
+      (v : View) (young : List Placed) (held : Locations) (memory : Memory) (c : Below) → v.place ≡ at + 1 → Within s laid v young 0 held (entry_around memory) c →
+      FollowsStep 1 s laid live entry c v (step place named code (record { rest = returns ∷ []; file = held; around = entry_around memory }))
   given_back v young held memory c p within =
       let is = within.waits.back in
       let bh = is.high in
@@ -102,15 +102,15 @@ module _ (s : Fixed) (entry : ℕ → ℕ) (place : Place) (named : NamedAt) (co
       let target : add_word (slice_index v.registers 1) (imm_i 0) ≡ code_start + 4 * to =
       ap (add_word (slice_index v.registers 1)) (low_12 0 (omega arith)) ∙ up (slice_index v.registers 1) 0 c.back (omega (arith, back)) (omega (arith, bh))
       ∙ sym (back_place c.back is) in
-      return_value s laid live entry c place named code [] v young held held (entered memory) ⊥ (record {
+      return_value s laid live entry c place named code [] v young held held (entry_around memory) ⊥ (record {
         others = λ l n. refl;
         spare_too = λ b. absurd b;
       }) a0_int 1 refl
       (λ x h whole. record {
         view = at_place to v;
-        leads = set_to_step s v (Jalr 0 1 0) 0 (code_start + 4 * (v.place + 1)) to (subst (λ q. IsCode s q (Jalr 0 1 0)) (sym p) second)
+        leads = set_to_step s v (Jalr 0 1 0) 0 (code_start + 4 * (v.place + 1)) to (subst (λ q. IsInstructionAt s q (Jalr 0 1 0)) (sym p) second)
             (inl (λ q. omega (arith, q))) (sets_jalr s v 0 1 0 to target);
-        holds = leaves s laid v (at_place to v) young held (entered memory) c within (record {
+        holds = leaves s laid v (at_place to v) young held (entry_around memory) c within (record {
           are = within.own.are;
           others = λ q n. refl;
           memory = refl;

@@ -1,8 +1,8 @@
 -- Labels, jumps, exits, branches and switches.
 use Rattle.std.proofs.Common.{◌≡◌, ℕ, zero, suc, ◌≤◌, Bool, cond, List, [], ◌∷◌, length, slice_get, Option, Some, None, Result, Ok, Err, refl, arith, sym}
 use Rattle.bs_words.specs.declared.values.Kind.{Kind}
-use Rattle.mach_ir.specs.Acts.{Around, At, On, branches, goes_to_case}
-use Rattle.mach_ir.specs.Runs.{Place}
+use Rattle.mach_ir.specs.Acts.{Around, At, On, goes_by_test, goes_to_case}
+use Rattle.mach_ir.specs.Runs.{ActivationSetting}
 use Rattle.mach_ir.specs.declared.mach.Test.{Test}
 use Rattle.rv_machine.specs.Hart.{Placed}
 use Rattle.lin_ir.specs.Meaning.{Locations, NamedAt, after_label, code_at, on_act, step}
@@ -13,12 +13,12 @@ use Rattle.lin_ir.specs.declared.lin.Line.{Line}
 use Rattle.lin_ir.specs.declared.lin.Spot.{Spot}
 use Rattle.linear_machine.specs.Follows.{Agrees, FollowsStep, IsAt}
 use Rattle.linear_machine.specs.Relation.{Below, Laid, Within}
-use Rattle.linear_machine.specs.View.{Fixed, View, Leads}
+use Rattle.linear_machine.specs.View.{Fixed, View, ReachesView}
 use Rattle.linear_machine.proofs.Arriving.{leads_in}
 use Rattle.linear_machine.proofs.Following.{agrees_on, lands_follows}
 use Rattle.linear_machine.proofs.Steps.{stays}
 
-module _ (s : Fixed) (laid : Laid) (live : List Line → Type 0) (entry : ℕ → ℕ) (c : Below) (place : Place) (named : NamedAt) (code : Lin) (next : List Line)
+module _ (s : Fixed) (laid : Laid) (live : List Line → Type 0) (entry : ℕ → ℕ) (c : Below) (place : ActivationSetting) (named : NamedAt) (code : Lin) (next : List Line)
     (v : View) (young : List Placed) (held file : Locations) (a : Around) (within : Within s laid v young 0 held a c) (before : Type 0)
     (agrees : Agrees before held file) where
   -- a label has no words
@@ -34,7 +34,7 @@ module _ (s : Fixed) (laid : Laid) (live : List Line → Type 0) (entry : ℕ �
   -- where words lead to the place of a label
   pub record Lands (n : ℕ) (to : List Line) : Type 0 where
     pub view : View
-    pub leads : Leads s n v view
+    pub leads : ReachesView s n v view
     pub there : view.place ≡ laid.part (length to)
     pub stands : Within s laid view young 0 held a c
     pub passes : live to → before
@@ -66,7 +66,7 @@ module _ (s : Fixed) (laid : Laid) (live : List Line → Type 0) (entry : ℕ �
         op = lin.Flow (flow.Branch t l);
         args = args;
         results = [];
-      }) next file a (branches a (At l) On o))
+      }) next file a (goes_by_test a (At l) On o))
   branch_act t l n args None lands = tt
   branch_act t l n args (Some b) lands =
       let g = lands b refl in

@@ -8,14 +8,14 @@ use Rattle.bs_words.specs.declared.values.Value.{Value}
 use Rattle.mach_ir.specs.Acts.{Around}
 use Rattle.rv_machine.specs.Hart.{Placed}
 use Rattle.lin_ir.specs.Formed.{spare}
-use Rattle.lin_ir.specs.Meaning.{Locations, same_loc, put, put_if, put_all, wrote}
+use Rattle.lin_ir.specs.Meaning.{Locations, same_loc, assign_spot, put_if, put_all, wrote}
 use Rattle.lin_ir.specs.declared.lin.Line.{Line}
 use Rattle.lin_ir.specs.declared.lin.Spot.{Spot}
 use Rattle.linear_machine.specs.Files.{IsPut}
 use Rattle.linear_machine.specs.Follows.{Agrees, FollowsStep, IsAt}
 use Rattle.linear_machine.specs.Relation.{Below, Laid, Within}
-use Rattle.linear_machine.specs.Straight.{Comes}
-use Rattle.linear_machine.specs.View.{Fixed, View, Leads}
+use Rattle.linear_machine.specs.Straight.{LeadsFurther}
+use Rattle.linear_machine.specs.View.{Fixed, View, ReachesView}
 use Rattle.linear_machine.proofs.Arriving.{leads_in}
 
 -- ---- files
@@ -41,7 +41,7 @@ same_loc-slot k = eq-eqb k k refl
 abbrev pub IsPlace : Loc → Type 0
 IsPlace l = same_loc l l ≡ true
 
-pub put_is : (r : Spot) (x : Value) (f : Locations) → IsPlace r.loc → IsPut r.loc x f (put r x f)
+pub put_is : (r : Spot) (x : Value) (f : Locations) → IsPlace r.loc → IsPut r.loc x f (assign_spot r x f)
 put_is r x f is = record { each = λ k y h. by_test k y (same_loc r.loc k) refl h }
   where
     by_test : (k : Loc) (y : Value) (t : Bool) → same_loc r.loc k ≡ t → cond t (Some x) (f k) ≡ Some y → ((k ≡ r.loc) × (y ≡ x))
@@ -56,7 +56,7 @@ abbrev pub PassesSpare : Type 0 → Type 0 → Loc → Type 0
 PassesSpare before behind l = behind → (l ≡ spare) ⊎ before
 
 pub agrees_put : (before behind : Type 0) (r : Spot) (x : Value) (held file : Locations) → PassesSpare before behind r.loc → Agrees before held file →
-    Agrees behind (put r x held) (put r x file)
+    Agrees behind (assign_spot r x held) (assign_spot r x file)
 agrees_put before behind r x held file passes agrees = record {
   others = λ l n. ap (cond (same_loc r.loc l) (Some x)) (agrees.others l n);
   spare_too = λ live. ⊎_elim (λ e. written e) (λ b. ap (cond (same_loc r.loc spare) (Some x)) (agrees.spare_too b)) (passes live);
@@ -74,7 +74,7 @@ agrees_on before behind held file passes agrees = record { others = agrees.other
 module _ (s : Fixed) (laid : Laid) (live : List Line → Type 0) (entry : ℕ → ℕ) (c : Below) (v : View) (rest : List Line) where
   pub goes_follows :
       (n : ℕ) (young : List Placed) (held file : Locations) (a : Around) → laid.part (length rest) ≡ v.place + n → Agrees (live rest) held file →
-      Comes s v n (λ w. Within s laid w young 0 held a c) →
+      LeadsFurther s v n (λ w. Within s laid w young 0 held a c) →
       FollowsStep n s laid live entry c v (wrote rest a (Some file))
   goes_follows n young held file a place agrees first =
       leads_in 0 n s n (omega arith) (omega arith) v first.view (IsAt s laid live c (record { rest = rest; file = file; around = a })) first.leads
@@ -85,18 +85,18 @@ module _ (s : Fixed) (laid : Laid) (live : List Line → Type 0) (entry : ℕ �
       (before : Type 0) (n : ℕ) (end : ℕ) (spot : Spot) (x : Value) (young : List Placed) (held file : Locations) (a : Around) →
       laid.part (length rest) ≡ v.place + n →
       Agrees before held file → PassesSpare before (live rest) spot.loc →
-      (fits end (type_of_comp spot.comp) x ≡ true → Comes s v n (λ w. Within s laid w young 0 (put spot x held) a c)) →
+      (fits end (type_of_comp spot.comp) x ≡ true → LeadsFurther s v n (λ w. Within s laid w young 0 (assign_spot spot x held) a c)) →
       FollowsStep n s laid live entry c v (wrote rest a (put_all end (spot ∷ []) (x ∷ []) file))
   result_follows before n end spot x young held file a place agrees passes first = by_test (fits end (type_of_comp spot.comp) x) refl
     where
       by_test : (t : Bool) → fits end (type_of_comp spot.comp) x ≡ t → FollowsStep n s laid live entry c v (wrote rest a (put_if t spot x (Some file)))
       by_test true e =
-          goes_follows n young (put spot x held) (put spot x file) a place (agrees_put before (live rest) spot x held file passes agrees) (first e)
+          goes_follows n young (assign_spot spot x held) (assign_spot spot x file) a place (agrees_put before (live rest) spot x held file passes agrees) (first e)
       by_test false e = tt
 
   -- where it lands, a label's place or the next line's
   pub lands_follows :
-      (n : ℕ) (w : View) (young : List Placed) (held file : Locations) (a : Around) → Leads s n v w → w.place ≡ laid.part (length rest) →
+      (n : ℕ) (w : View) (young : List Placed) (held file : Locations) (a : Around) → ReachesView s n v w → w.place ≡ laid.part (length rest) →
       Agrees (live rest) held file →
       Within s laid w young 0 held a c → FollowsStep n s laid live entry c v (wrote rest a (Some file))
   lands_follows n w young held file a leads place agrees within =

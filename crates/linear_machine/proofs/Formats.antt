@@ -11,16 +11,16 @@ use Rattle.rv_isa.specs.declared.instr.Condition.{Condition}
 use Rattle.rv_isa.specs.declared.instr.Instr.TheVariants.{Lui, Auipc, Jal, Jalr, Branch, Load, Store, OpImm, Shift, Op, Addiw}
 use Rattle.rv_isa.specs.declared.instr.LoadWidth.TheVariants.{Ld}
 use Rattle.rv_isa.specs.declared.instr.StoreWidth.TheVariants.{Sd}
-use Rattle.rv_machine.specs.Arithmetic.{alu, alu_imm, shift, extended, is_taken, imm_i, imm_b, imm_j, imm_u}
-use Rattle.rv_machine.specs.Hart.{register, sets, goes_to, jumps, loads, stores, readable, executed}
-use Rattle.rv_machine.specs.Memory.{is_inside, loaded, stored, word, write, code_region, code_start}
+use Rattle.rv_machine.specs.Arithmetic.{alu, alu_imm, shift, sign_extended, is_taken, imm_i, imm_b, imm_j, imm_u}
+use Rattle.rv_machine.specs.Hart.{register, sets, goes_to, jumps_if_aligned, loads, stores, readable, executed}
+use Rattle.rv_machine.specs.Memory.{is_inside, loaded_number, stored_number, memory_word, write, code_region, code_start}
 use Rattle.rv_machine.specs.Services.{Machine}
 use Rattle.rv_machine.specs.Sound.{IsRegion, extents}
 use Rattle.machine_laws.proofs.Memory.{has_write, other_word}
 use Rattle.moving_laws.specs.Words.{IsReadable}
 use Rattle.moving_laws.proofs.Words.{readable_even, stored_is}
 use Rattle.moving_laws.proofs.Young.{read_is}
-use Rattle.linear_machine.specs.View.{Fixed, View, Stands, Leads, IsCode}
+use Rattle.linear_machine.specs.View.{Fixed, View, HasView, ReachesView, IsInstructionAt}
 use Rattle.linear_machine.proofs.Likes.{known_same, like_readable, like_write}
 use Rattle.linear_machine.proofs.Steps.{with_hart, ready, ready_stands, one_step, unserved_step, reg, register_reg, SetsTo, SetsRegister, GoesTo}
 
@@ -40,8 +40,8 @@ module _ (s : Fixed) (v : View) where
   pub sets_lui : (rd imm : ℕ) → SetsRegister s v (Lui rd imm) rd (imm_u imm)
   sets_lui rd imm = record { effect = λ a st. refl }
 
-  pub sets_addiw : (rd ra imm : ℕ) → SetsRegister s v (Addiw rd ra imm) rd (extended (add_word (reg v.registers ra) (imm_i imm)))
-  sets_addiw rd ra imm = record { effect = λ a st. ap (λ x. sets rd (extended (add_word x (imm_i imm))) (a.hart.pc + 4) a.hart) (register_reg s a v ra st) }
+  pub sets_addiw : (rd ra imm : ℕ) → SetsRegister s v (Addiw rd ra imm) rd (sign_extended (add_word (reg v.registers ra) (imm_i imm)))
+  sets_addiw rd ra imm = record { effect = λ a st. ap (λ x. sets rd (sign_extended (add_word x (imm_i imm))) (a.hart.pc + 4) a.hart) (register_reg s a v ra st) }
 
   pub sets_auipc : (rd imm : ℕ) → SetsRegister s v (Auipc rd imm) rd (add_word (code_start + 4 * v.place) (imm_u imm))
   sets_auipc rd imm = record { effect = λ a st. ap (λ pc. sets rd (add_word pc (imm_u imm)) (a.hart.pc + 4) a.hart) st.pc }
@@ -51,23 +51,23 @@ module _ (s : Fixed) (v : View) where
   not_in_code : (code : List ℕ) (x : ℕ) → code_start + 4 * length code ≤ x → is_inside (code_region code) x 8 ≡ false
   not_in_code code x l = and_right _ _ (lt-leb (x + 8) (code_start + 4 * length code) (omega (arith, l)))
 
-  loaded_there : (a : Machine) (x : ℕ) → Stands s a v → x ≢ 0x20000000 → 0x10000000 ≤ x → IsReadable v.memory x →
-      loaded (readable a.hart) x 8 ≡ Some (word v.memory x)
+  loaded_there : (a : Machine) (x : ℕ) → HasView s a v → x ≢ 0x20000000 → 0x10000000 ≤ x → IsReadable v.memory x →
+      loaded_number (readable a.hart) x 8 ≡ Some (memory_word v.memory x)
   loaded_there a x st n low r =
       let c = s.functions.tables.code.short in
       let r' = like_readable v.memory a.hart.memory x st.memory r in
-      ap (λ (image : Tables). loaded (code_region image.code ∷ a.hart.memory) x 8) st.image
+      ap (λ (image : Tables). loaded_number (code_region image.code ∷ a.hart.memory) x 8) st.image
       ∙ cond-true (x % 8 == 0) _ _ (eq-eqb (x % 8) 0 (readable_even a.hart.memory x r'))
       ∙ cond-false (is_inside (code_region s.image.code) x 8) _ _ (not_in_code s.image.code x (omega (arith, c, low)))
       ∙ read_is a.hart.memory x r'
       ∙ ap Some (st.memory.words x n)
 
   pub sets_load : (rd ra imm x : ℕ) → add_word (reg v.registers ra) (imm_i imm) ≡ x → x ≢ 0x20000000 → 0x10000000 ≤ x → IsReadable v.memory x →
-      SetsRegister s v (Load Ld rd ra imm) rd (word v.memory x)
+      SetsRegister s v (Load Ld rd ra imm) rd (memory_word v.memory x)
   sets_load rd ra imm x e n low r = record {
     effect = λ a st.
-        ap (λ y. loads (loaded (readable a.hart) (add_word y (imm_i imm)) 8) Ld rd a.hart) (register_reg s a v ra st)
-        ∙ ap (λ y. loads (loaded (readable a.hart) y 8) Ld rd a.hart) e
+        ap (λ y. loads (loaded_number (readable a.hart) (add_word y (imm_i imm)) 8) Ld rd a.hart) (register_reg s a v ra st)
+        ∙ ap (λ y. loads (loaded_number (readable a.hart) y 8) Ld rd a.hart) e
         ∙ ap (λ o. loads o Ld rd a.hart) (loaded_there a x st n low r);
   }
 
@@ -75,9 +75,9 @@ module _ (s : Fixed) (v : View) where
   abbrev pub stored_in : ℕ → ℕ → View
   stored_in x value = record v { place = v.place + 1; memory = write v.memory x value }
 
-  pub store_step : (ra rb imm x : ℕ) → IsCode s v.place (Store Sd ra rb imm) → add_word (reg v.registers ra) (imm_i imm) ≡ x →
+  pub store_step : (ra rb imm x : ℕ) → IsInstructionAt s v.place (Store Sd ra rb imm) → add_word (reg v.registers ra) (imm_i imm) ≡ x →
       x ≢ 0x20000000 → AllByRecursion IsRegion v.memory → IsReadable v.memory x →
-      reg v.registers rb < 2 ^ 64 → Leads s 1 v (stored_in x (reg v.registers rb))
+      reg v.registers rb < 2 ^ 64 → ReachesView s 1 v (stored_in x (reg v.registers rb))
   store_step ra rb imm x c e off f r small = record {
     answers = refl;
     calls = refl;
@@ -106,10 +106,10 @@ module _ (s : Fixed) (v : View) where
               (unserved_step s a v (Store Sd ra rb imm) (stores (Some (write a.hart.memory x value)) a.hart) st c (effect a st) refl) (effect b ok),
         );
   } where
-    effect : (b : Machine) → Stands s b v → executed (Store Sd ra rb imm) b.hart ≡ stores (Some (write b.hart.memory x (reg v.registers rb))) b.hart
+    effect : (b : Machine) → HasView s b v → executed (Store Sd ra rb imm) b.hart ≡ stores (Some (write b.hart.memory x (reg v.registers rb))) b.hart
     effect b ok =
-        ap₂ (λ y z. stores (stored b.hart.memory (add_word y (imm_i imm)) 8 z) b.hart) (register_reg s b v ra ok) (register_reg s b v rb ok)
-        ∙ ap (λ y. stores (stored b.hart.memory y 8 (reg v.registers rb)) b.hart) e
+        ap₂ (λ y z. stores (stored_number b.hart.memory (add_word y (imm_i imm)) 8 z) b.hart) (register_reg s b v ra ok) (register_reg s b v rb ok)
+        ∙ ap (λ y. stores (stored_number b.hart.memory y 8 (reg v.registers rb)) b.hart) e
         ∙ ap (λ o. stores o b.hart) (stored_is b.hart.memory x (reg v.registers rb) (like_readable v.memory b.hart.memory x ok.memory r))
 
     next : (pc : ℕ) → pc ≡ code_start + 4 * v.place → pc + 4 ≡ code_start + 4 * (v.place + 1)
@@ -121,7 +121,7 @@ module _ (s : Fixed) (v : View) where
   goes_jal offset place e = record {
     effect = λ a st.
         let t : add_word a.hart.pc (imm_j offset) ≡ code_start + 4 * place = ap (λ pc. add_word pc (imm_j offset)) st.pc ∙ e in
-        ap (λ x. jumps x (sets 0 (a.hart.pc + 4) x a.hart)) t
+        ap (λ x. jumps_if_aligned x (sets 0 (a.hart.pc + 4) x a.hart)) t
         ∙ cond-true ((code_start + 4 * place) % 4 == 0) _ _ (eq-eqb ((code_start + 4 * place) % 4) 0 (omega arith));
   }
 
@@ -132,8 +132,8 @@ module _ (s : Fixed) (v : View) where
         let sum : add_word (register a.hart ra) (imm_i imm) ≡ code_start + 4 * place = ap (λ x. add_word x (imm_i imm)) (register_reg s a v ra st) ∙ e in
         let even : code_start + 4 * place - (code_start + 4 * place) % 2 ≡ code_start + 4 * place = omega arith in
         let back : a.hart.pc + 4 ≡ code_start + 4 * (v.place + 1) = let p = st.pc in omega (arith, p) in
-        ap (λ x. jumps (x - x % 2) (sets rd (a.hart.pc + 4) (x - x % 2) a.hart)) sum
-        ∙ ap (λ x. jumps x (sets rd (a.hart.pc + 4) x a.hart)) even
+        ap (λ x. jumps_if_aligned (x - x % 2) (sets rd (a.hart.pc + 4) (x - x % 2) a.hart)) sum
+        ∙ ap (λ x. jumps_if_aligned x (sets rd (a.hart.pc + 4) x a.hart)) even
         ∙ cond-true ((code_start + 4 * place) % 4 == 0) _ _ (eq-eqb ((code_start + 4 * place) % 4) 0 (omega arith))
         ∙ ap (λ x. sets rd x (code_start + 4 * place) a.hart) back;
   }
@@ -145,7 +145,7 @@ module _ (s : Fixed) (v : View) where
         let t : add_word a.hart.pc (imm_b offset) ≡ code_start + 4 * place = ap (λ pc. add_word pc (imm_b offset)) st.pc ∙ e in
         cond-true (is_taken condition (register a.hart ra) (register a.hart rb)) _ _ (ap₂ (is_taken condition) (register_reg s a v ra st)
         (register_reg s a v rb st) ∙ holds)
-        ∙ ap (λ x. jumps x (goes_to x a.hart)) t
+        ∙ ap (λ x. jumps_if_aligned x (goes_to x a.hart)) t
         ∙ cond-true ((code_start + 4 * place) % 4 == 0) _ _ (eq-eqb ((code_start + 4 * place) % 4) 0 (omega arith));
   }
 

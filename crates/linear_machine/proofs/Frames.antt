@@ -10,17 +10,17 @@ use Rattle.bs_words.specs.declared.types.Ty.TheVariants as ty
 use Rattle.bs_words.specs.declared.values.Value.{Value}
 use Rattle.bs_words.specs.declared.values.Value.TheVariants.{Word, Block, Function}
 use Rattle.image_form.specs.Tables.{Desc}
-use Rattle.lin_ir.specs.Meaning.{Locations, are_vals, is_named, is_val, poisoned, same_loc, unless_pointer}
+use Rattle.lin_ir.specs.Meaning.{Locations, are_vals, is_named_location, holds_val, poisoned, same_loc, unless_pointer}
 use Rattle.mach_ir.specs.Acts.{Around, is_complete}
-use Rattle.mach_ir.specs.Runs.{entered}
+use Rattle.mach_ir.specs.Runs.{entry_around}
 use Rattle.rv_machine.specs.Frames.{descriptor_at, names_register}
 use Rattle.rv_machine.specs.Hart.{Placed}
-use Rattle.rv_machine.specs.Memory.{Region, word, code_start}
-use Rattle.moving_laws.specs.Stands.{Among}
+use Rattle.rv_machine.specs.Memory.{Region, memory_word, code_start}
+use Rattle.moving_laws.specs.Stands.{AmongNumbers}
 use Rattle.moving_laws.specs.Values.{IsStill}
 use Rattle.moving_laws.specs.Waiting.{Chain, IsFrameAt, IsWaiting}
 use Rattle.moving_laws.proofs.Fitting.{val_fits}
-use Rattle.linear_machine.specs.Relation.{Below, HeapStands, IsDescribed, Laid, ReturnStands, Within, all_of, waiting_of}
+use Rattle.linear_machine.specs.Relation.{Below, HeapStands, IsDescribed, Laid, ReturnStands, Within, blocks_by_serial, waiting_of}
 use Rattle.linear_machine.specs.View.{Fixed, View}
 use Rattle.linear_machine.proofs.Following.{same_loc-true}
 
@@ -35,23 +35,23 @@ kept_by false (Some (Function f)) x e = (e, inl (let h : Function f ≡ x = cc i
 
 -- what is held after poison was held before, and is no pointer or is named
 pub poisoned_some : (named : List Loc) (f : Locations) (l : Loc) (x : Value) → poisoned named f l ≡ Some x → (f l ≡ Some x)
-    × (IsStill x ⊎ (is_named l named ≡ true))
-poisoned_some named f l x e = kept_by (is_named l named) (f l) x e
+    × (IsStill x ⊎ (is_named_location l named ≡ true))
+poisoned_some named f l x e = kept_by (is_named_location l named) (f l) x e
 
-pub poisoned_named : (named : List Loc) (f : Locations) (l : Loc) → is_named l named ≡ true → poisoned named f l ≡ f l
+pub poisoned_named : (named : List Loc) (f : Locations) (l : Loc) → is_named_location l named ≡ true → poisoned named f l ≡ f l
 poisoned_named named f l e = ap (λ b. cond b (f l) (unless_pointer (f l))) e
 
 -- what is named holds a value that fits val
-pub named_val : (end : ℕ) (named : List Loc) (f : Locations) (l : Loc) → are_vals end named f ≡ true → is_named l named ≡ true → is_val end (f l) ≡ true
+pub named_val : (end : ℕ) (named : List Loc) (f : Locations) (l : Loc) → are_vals end named f ≡ true → is_named_location l named ≡ true → holds_val end (f l) ≡ true
 named_val end [] f l all n = absurd (cc)
 named_val end (k ∷ ks) f l all n =
-    let p = and_parts (is_val end (f k)) (are_vals end ks f) all in
+    let p = and_parts (holds_val end (f k)) (are_vals end ks f) all in
     ⊎_elim
-    (λ e. subst (λ z. is_val end (f z) ≡ true) (sym (same_loc-true k l e)) p.0)
+    (λ e. subst (λ z. holds_val end (f z) ≡ true) (sym (same_loc-true k l e)) p.0)
     (λ r. named_val end ks f l p.1 r)
-    (or_cases (same_loc k l) (is_named l ks) n)
+    (or_cases (same_loc k l) (is_named_location l ks) n)
 
-pub val_held : (end : ℕ) (o : Option Value) → is_val end o ≡ true → (x : Value) × (o ≡ Some x) × (fits end ty.Val x ≡ true)
+pub val_held : (end : ℕ) (o : Option Value) → holds_val end o ≡ true → (x : Value) × (o ≡ Some x) × (fits end ty.Val x ≡ true)
 val_held end None e = absurd (cc)
 val_held end (Some x) e = (x, refl, e)
 
@@ -69,7 +69,7 @@ none_left [] e = refl
 none_left (x ∷ xs) e = let n = eqb-true (length (x ∷ xs)) 0 e in absurd (omega (arith, n))
 
 pub heap_whole : (s : Fixed) (placed : List Placed) (m : List Region) (a : Around) → is_complete a ≡ true → HeapStands s placed m a →
-    HeapStands s placed m (entered a.memory)
+    HeapStands s placed m (entry_around a.memory)
 heap_whole s placed m a whole h = heap_as s placed m a [] [] None (none_left a.unwritten whole) h
 
 -- with other tries, or a raise
@@ -84,7 +84,7 @@ module _ (s : Fixed) (laid : Laid) (v : View) (young : List Placed) (taken : ℕ
     (named : List Loc) (d : Desc) (is : IsDescribed laid (length a.tries) named d) (saves : laid.saves ≡ true)
     (fit : are_vals (data_start + length s.image.bytes) named held ≡ true) where
   abbrev placed : List Placed
-  placed = all_of v young
+  placed = blocks_by_serial v young
 
   abbrev sp : ℕ
   sp = slice_index v.registers 2
@@ -98,14 +98,14 @@ module _ (s : Fixed) (laid : Laid) (v : View) (young : List Placed) (taken : ℕ
   size_low : 16 ≤ d.size
   size_low = let fe = laid.even in let b = room in let e = is.size in omega (arith, fe, b, e)
 
-  back_word : word v.memory (slice_index v.registers 2 + (d.size - 8)) ≡ c.back
+  back_word : memory_word v.memory (slice_index v.registers 2 + (d.size - 8)) ≡ c.back
   back_word =
       let f = frame_size in
       let b = size_low in
       let e : slice_index v.registers 2 + (d.size - 8) ≡ c.top - 8 = omega (arith, f, b) in
-      ap (word v.memory) e ∙ subst (λ b. ReturnStands b v c) saves within.back
+      ap (memory_word v.memory) e ∙ subst (λ b. ReturnStands b v c) saves within.back
 
-  pub own_waits : IsWaiting s.image (all_of v young) v.memory (waiting_of laid (poisoned named held) a.tries c)
+  pub own_waits : IsWaiting s.image (blocks_by_serial v young) v.memory (waiting_of laid (poisoned named held) a.tries c)
       (record { at = slice_index v.registers 2; desc = d })
   own_waits =
       let n = length-map a.tries laid.handler in
@@ -116,11 +116,11 @@ module _ (s : Fixed) (laid : Laid) (v : View) (young : List Placed) (taken : ℕ
             let o = poisoned_some named held (loc.Slot k) x h in
             let e : slice_index v.registers 2 + (16 * length (map laid.handler a.tries) + 8 * k) ≡ slice_index v.registers 2 +
             (8 * k + 16 * length a.tries) = omega (arith, n) in
-            ap (word v.memory) e ∙ (within.slots k x o.0).1.is;
+            ap (memory_word v.memory) e ∙ (within.slots k x o.0).1.is;
         known = λ k x i h. let o = poisoned_some named held (loc.Slot k) x h in (within.slots k x o.0).1.known;
         value = λ k x i h.
             let o = poisoned_some named held (loc.Slot k) x h in
-            ⊎_elim (λ t. inl t) (λ t. inr (subst (λ z. Among z d.entries)
+            ⊎_elim (λ t. inl t) (λ t. inr (subst (λ z. AmongNumbers z d.entries)
             (let q : 8 * k + 16 * length a.tries ≡ 16 * length (map laid.handler a.tries) + 8 * k = omega (arith, n) in q) (is.slot k t))) o.1;
         named = λ e i ev.
             let f = is.from_slot e i ev in

@@ -10,8 +10,8 @@ use Rattle.rv_machine.specs.Frames.{Frame}
 use Rattle.rv_machine.specs.Hart.{Placed}
 use Rattle.rv_machine.specs.Memory.{Region}
 use Rattle.moving_laws.specs.Heap.{AllApart, AreApart, AreBlocks, IsInHeap}
-use Rattle.moving_laws.specs.Values.{FitsCell, IsKnown, IsVal, start_of, value_word, words_of}
-use Rattle.moving_laws.specs.Waiting.{AllWait, IsWaiting, Activation}
+use Rattle.moving_laws.specs.Values.{FitsCell, IsKnown, IsVal, start_of, value_word, cells_of_block}
+use Rattle.moving_laws.specs.Waiting.{AllWait, IsWaiting, WaitingActivation}
 use Rattle.moving_laws.proofs.Fitting.{known_more}
 use Rattle.linear_machine.specs.Relation.{StandsFor}
 use Rattle.linear_machine.specs.View.{Fixed}
@@ -23,7 +23,7 @@ start_before [] b k l = absurd (omega (arith, l))
 start_before (x ∷ bs) b zero l = refl
 start_before (x ∷ bs) b (suc k) l = start_before bs b k (omega (arith, l))
 
-pub words_before : (bs : List Placed) (b : Placed) (k : ℕ) → k < length bs → words_of (bs ++ b ∷ []) k ≡ words_of bs k
+pub words_before : (bs : List Placed) (b : Placed) (k : ℕ) → k < length bs → cells_of_block (bs ++ b ∷ []) k ≡ cells_of_block bs k
 words_before [] b k l = absurd (omega (arith, l))
 words_before (x ∷ bs) b zero l = refl
 words_before (x ∷ bs) b (suc k) l = words_before bs b k (omega (arith, l))
@@ -32,7 +32,7 @@ pub start_last : (bs : List Placed) (b : Placed) → start_of (bs ++ b ∷ []) (
 start_last [] b = refl
 start_last (x ∷ bs) b = start_last bs b
 
-pub words_last : (bs : List Placed) (b : Placed) → words_of (bs ++ b ∷ []) (length bs) ≡ b.words
+pub words_last : (bs : List Placed) (b : Placed) → cells_of_block (bs ++ b ∷ []) (length bs) ≡ b.words
 words_last [] b = refl
 words_last (x ∷ bs) b = words_last bs b
 
@@ -65,7 +65,7 @@ module _ (image : Tables) (bs : List Placed) (b : Placed) where
 
   -- ---- the frames that wait
 
-  waits_one : (m : List Region) (x : Activation) (f : Frame) → IsWaiting image bs m x f → IsWaiting image (bs ++ b ∷ []) m x f
+  waits_one : (m : List Region) (x : WaitingActivation) (f : Frame) → IsWaiting image bs m x f → IsWaiting image (bs ++ b ∷ []) m x f
   waits_one m x f w = record {
     room = w.room;
     back = w.back;
@@ -75,7 +75,7 @@ module _ (image : Tables) (bs : List Placed) (b : Placed) where
     named = λ e i ev. let n = w.named e i ev in (n.0, n.1, n.2, n.3, n.4, val_before n.1 n.5);
   }
 
-  pub waits_more : (m : List Region) (xs : List Activation) (fs : List Frame) → AllWait image bs m xs fs → AllWait image (bs ++ b ∷ []) m xs fs
+  pub waits_more : (m : List Region) (xs : List WaitingActivation) (fs : List Frame) → AllWait image bs m xs fs → AllWait image (bs ++ b ∷ []) m xs fs
   waits_more m [] [] w = w
   waits_more m [] (f ∷ fs) w = w
   waits_more m (x ∷ xs) [] w = w

@@ -7,16 +7,16 @@ use Rattle.std.proofs.lemmas.Option.{slice_get_within}
 use Rattle.bs_words.specs.Memory.{Cell, HeapBlock, InBlock, InHeader}
 use Rattle.bs_words.specs.declared.values.Value.{Value}
 use Rattle.bs_words.specs.declared.values.Value.TheVariants.{Word}
-use Rattle.mach_ir.specs.Acts.{Around, cells_from, fresh_block, is_among, same_cell, with_block}
+use Rattle.mach_ir.specs.Acts.{Around, cells_from, fresh_block, is_among_cells, same_cell, with_block}
 use Rattle.mach_ir.specs.declared.blocks.NewBlock.{NewBlock}
 use Rattle.rv_machine.specs.Hart.{Placed}
-use Rattle.rv_machine.specs.Memory.{Region, word}
+use Rattle.rv_machine.specs.Memory.{Region, memory_word}
 use Rattle.rv_machine.specs.Moving.{is_scanned}
-use Rattle.rv_machine.specs.Observation.{cells_of}
-use Rattle.rv_machine.specs.Relocation.{root_cells}
+use Rattle.rv_machine.specs.Observation.{cells_of_header}
+use Rattle.rv_machine.specs.Relocation.{root_addresses}
 use Rattle.moving_laws.specs.Heap.{AreApart, IsInHeap}
 use Rattle.moving_laws.specs.Stands.{StaticsStand}
-use Rattle.moving_laws.specs.Values.{start_of, words_of}
+use Rattle.moving_laws.specs.Values.{start_of, cells_of_block}
 use Rattle.moving_laws.specs.Words.{IsReadable}
 use Rattle.moving_laws.proofs.Words.{same_or_not}
 use Rattle.linear_machine.specs.Contents.{blocks_of, cell_in, header_in, size_in, statics_of}
@@ -28,32 +28,32 @@ use Rattle.linear_machine.proofs.Storing.{statics_stay}
 
 -- ---- cells that are to be written
 
-among_second : (c : Cell) (xs ys : List Cell) → is_among c (xs ++ ys) ≡ false → is_among c ys ≡ false
+among_second : (c : Cell) (xs ys : List Cell) → is_among_cells c (xs ++ ys) ≡ false → is_among_cells c ys ≡ false
 among_second c [] ys e = e
 among_second c (x ∷ xs) ys e = by_test (same_cell c x) e (among_second c xs ys)
   where
-    by_test : (t : Bool) → (t || is_among c (xs ++ ys)) ≡ false → (is_among c (xs ++ ys) ≡ false → is_among c ys ≡ false) → is_among c ys ≡ false
+    by_test : (t : Bool) → (t || is_among_cells c (xs ++ ys)) ≡ false → (is_among_cells c (xs ++ ys) ≡ false → is_among_cells c ys ≡ false) → is_among_cells c ys ≡ false
     by_test true e later = absurd (cc)
     by_test false e later = later e
 
-among_first : (c : Cell) (xs ys : List Cell) → is_among c xs ≡ true → is_among c (xs ++ ys) ≡ true
+among_first : (c : Cell) (xs ys : List Cell) → is_among_cells c xs ≡ true → is_among_cells c (xs ++ ys) ≡ true
 among_first c [] ys e = absurd (cc)
 among_first c (x ∷ xs) ys e = by_test (same_cell c x) e (among_first c xs ys)
   where
-    by_test : (t : Bool) → (t || is_among c xs) ≡ true → (is_among c xs ≡ true → is_among c (xs ++ ys) ≡ true) → (t || is_among c (xs ++ ys)) ≡ true
+    by_test : (t : Bool) → (t || is_among_cells c xs) ≡ true → (is_among_cells c xs ≡ true → is_among_cells c (xs ++ ys) ≡ true) → (t || is_among_cells c (xs ++ ys)) ≡ true
     by_test true e later = refl
     by_test false e later = later e
 
 same_block : (s j : ℕ) → same_cell (InBlock s j) (InBlock s j) ≡ true
 same_block s j = and_from (nat_eq s s) (nat_eq j j) (eq-eqb s s refl) (eq-eqb j j refl)
 
-among_cells : (s i n j : ℕ) → i ≤ j → j < i + n → is_among (InBlock s j) (cells_from s i n) ≡ true
+among_cells : (s i n j : ℕ) → i ≤ j → j < i + n → is_among_cells (InBlock s j) (cells_from s i n) ≡ true
 among_cells s i zero j l h = absurd (omega (arith, l, h))
 among_cells s i (suc n) j l h =
     ⊎_elim
-    (λ (e : i ≡ j). or_left (same_cell (InBlock s j) (InBlock s i)) (is_among (InBlock s j) (cells_from s (suc i) n))
+    (λ (e : i ≡ j). or_left (same_cell (InBlock s j) (InBlock s i)) (is_among_cells (InBlock s j) (cells_from s (suc i) n))
     (subst (λ z. same_cell (InBlock s j) (InBlock s z) ≡ true) (sym e) (same_block s j)))
-    (λ d. or_right (same_cell (InBlock s j) (InBlock s i)) (is_among (InBlock s j) (cells_from s (suc i) n))
+    (λ d. or_right (same_cell (InBlock s j) (InBlock s i)) (is_among_cells (InBlock s j) (cells_from s (suc i) n))
     (among_cells s (suc i) n j (after l d) (omega (arith, h))))
     (same_or_not i j)
   where
@@ -77,7 +77,7 @@ past_replicate (suc n) (suc j) v l = past_replicate n j v (omega (arith, l))
 -- ---- the heap
 
 module _ (s : Fixed) (bs : List Placed) (m : List Region) (a : Around) (h : HeapStands s bs m a) (b : NewBlock) (nb : Placed) (words : nb.words ≡ b.cells)
-    (head : cells_of b.header ≡ b.cells)
+    (head : cells_of_header b.header ≡ b.cells)
     (is : IsInHeap nb) (apart : AllByRecursion (λ x. AreApart x nb) bs)
     (readable : (x : ℕ) → x % 8 ≡ 0 → nb.start - 8 ≤ x → x < nb.start + 8 * nb.words → IsReadable m x) where
   count_is : length a.memory.blocks ≡ length bs
@@ -106,13 +106,13 @@ module _ (s : Fixed) (bs : List Placed) (m : List Region) (a : Around) (h : Heap
   size_new = length-replicate {A = Value} b.cells (Word 0)
 
   -- what was not to be written before
-  left_before : (c : Cell) → is_among c (with_block b a).unwritten ≡ false → is_among c a.unwritten ≡ false
+  left_before : (c : Cell) → is_among_cells c (with_block b a).unwritten ≡ false → is_among_cells c a.unwritten ≡ false
   left_before c e = among_second c (InHeader (length a.memory.blocks) ∷ cells_from (length a.memory.blocks) 0 b.cells) a.unwritten e
 
   -- nothing of the new block has been written
   no_header : (w : ℕ) → (blocks_of (with_block b a)).header (length a.memory.blocks) ≡ Some w → ⊥
   no_header w e =
-      let t : is_among (InHeader (length a.memory.blocks)) (with_block b a).unwritten ≡ true =
+      let t : is_among_cells (InHeader (length a.memory.blocks)) (with_block b a).unwritten ≡ true =
       or_left (same_cell (InHeader (length a.memory.blocks)) (InHeader (length a.memory.blocks))) _ (eq-eqb (length a.memory.blocks)
       (length a.memory.blocks) refl) in
       let none : (blocks_of (with_block b a)).header (length a.memory.blocks) ≡ None = ap (λ q. cond q None (header_in (slice_get
@@ -123,9 +123,9 @@ module _ (s : Fixed) (bs : List Placed) (m : List Region) (a : Around) (h : Heap
   no_cell j v e =
       ⊎_elim
       (λ l.
-      let t : is_among (InBlock (length a.memory.blocks) j) (with_block b a).unwritten ≡ true =
+      let t : is_among_cells (InBlock (length a.memory.blocks) j) (with_block b a).unwritten ≡ true =
       or_right (same_cell (InBlock (length a.memory.blocks) j) (InHeader (length a.memory.blocks)))
-      (is_among (InBlock (length a.memory.blocks) j) (cells_from (length a.memory.blocks) 0 b.cells ++ a.unwritten))
+      (is_among_cells (InBlock (length a.memory.blocks) j) (cells_from (length a.memory.blocks) 0 b.cells ++ a.unwritten))
       (among_first (InBlock (length a.memory.blocks) j)
       (cells_from (length a.memory.blocks) 0 b.cells) a.unwritten (among_cells (length a.memory.blocks) 0 b.cells j (omega arith) (omega (arith, l)))) in
       let none : (blocks_of (with_block b a)).cell (length a.memory.blocks) j ≡ None = ap (λ q. cond q None (cell_in (slice_get (with_block b a).memory.blocks
@@ -134,7 +134,7 @@ module _ (s : Fixed) (bs : List Placed) (m : List Region) (a : Around) (h : Heap
       (λ l.
       let p : cell_in (slice_get (with_block b a).memory.blocks (length a.memory.blocks)) j ≡ None = ap (λ o. cell_in o j) get_new
       ∙ past_replicate b.cells j (Word 0) l in
-      none_by (is_among (InBlock (length a.memory.blocks) j) (with_block b a).unwritten)
+      none_by (is_among_cells (InBlock (length a.memory.blocks) j) (with_block b a).unwritten)
       (cell_in (slice_get (with_block b a).memory.blocks (length a.memory.blocks)) j) p e)
       (cases_lt j b.cells)
     where
@@ -144,17 +144,17 @@ module _ (s : Fixed) (bs : List Placed) (m : List Region) (a : Around) (h : Heap
 
   -- what the others hold they held
   header_before : (k w : ℕ) → k < length bs → (blocks_of (with_block b a)).header k ≡ Some w → (blocks_of a).header k ≡ Some w
-  header_before k w l e = by_test (is_among (InHeader k) (with_block b a).unwritten) refl e
+  header_before k w l e = by_test (is_among_cells (InHeader k) (with_block b a).unwritten) refl e
     where
-      by_test : (t : Bool) → is_among (InHeader k) (with_block b a).unwritten ≡ t →
+      by_test : (t : Bool) → is_among_cells (InHeader k) (with_block b a).unwritten ≡ t →
           cond t None (header_in (slice_get (with_block b a).memory.blocks k)) ≡ Some w → (blocks_of a).header k ≡ Some w
       by_test true f e = absurd (cc)
       by_test false f e = ap (λ q. cond q None (header_in (slice_get a.memory.blocks k))) (left_before (InHeader k) f) ∙ sym (ap header_in (get_before k l)) ∙ e
 
   cell_before : (k j : ℕ) (v : Value) → k < length bs → (blocks_of (with_block b a)).cell k j ≡ Some v → (blocks_of a).cell k j ≡ Some v
-  cell_before k j v l e = by_test (is_among (InBlock k j) (with_block b a).unwritten) refl e
+  cell_before k j v l e = by_test (is_among_cells (InBlock k j) (with_block b a).unwritten) refl e
     where
-      by_test : (t : Bool) → is_among (InBlock k j) (with_block b a).unwritten ≡ t →
+      by_test : (t : Bool) → is_among_cells (InBlock k j) (with_block b a).unwritten ≡ t →
           cond t None (cell_in (slice_get (with_block b a).memory.blocks k) j) ≡ Some v → (blocks_of a).cell k j ≡ Some v
       by_test true f e = absurd (cc)
       by_test false f e = ap (λ q. cond q None (cell_in (slice_get a.memory.blocks k) j)) (left_before (InBlock k j) f)
@@ -170,7 +170,7 @@ module _ (s : Fixed) (bs : List Placed) (m : List Region) (a : Around) (h : Heap
           (λ (i : k ≡ length a.memory.blocks).
           let t : k ≡ length bs = i ∙ count_is in
           let p : start_of (bs ++ nb ∷ []) k ≡ nb.start = ap (start_of (bs ++ nb ∷ [])) t ∙ start_last bs nb in
-          let q : words_of (bs ++ nb ∷ []) k ≡ nb.words = ap (words_of (bs ++ nb ∷ [])) t ∙ words_last bs nb in
+          let q : cells_of_block (bs ++ nb ∷ []) k ≡ nb.words = ap (cells_of_block (bs ++ nb ∷ [])) t ∙ words_last bs nb in
           readable x e (omega (arith, lo, p)) (omega (arith, hi, p, q)))
           (which k l);
     };
@@ -178,18 +178,18 @@ module _ (s : Fixed) (bs : List Placed) (m : List Region) (a : Around) (h : Heap
       count = let n = length-append a.memory.blocks (fresh_block b ∷ []) in let c = count_is in let p = length_more in omega (arith, n, c, p);
       sizes = λ k l. ⊎_elim
           (λ i. words_before bs nb k i ∙ h.stand.sizes k i ∙ sym (ap size_in (get_before k i)))
-          (λ (i : k ≡ length a.memory.blocks). ap (words_of (bs ++ nb ∷ [])) (i ∙ count_is) ∙ words_last bs nb ∙ words ∙ sym size_new
+          (λ (i : k ≡ length a.memory.blocks). ap (cells_of_block (bs ++ nb ∷ [])) (i ∙ count_is) ∙ words_last bs nb ∙ words ∙ sym size_new
           ∙ sym (ap size_in (ap (slice_get (with_block b a).memory.blocks) i ∙ get_new)))
           (which k l);
       header = λ k w l e. ⊎_elim
-          (λ i. ap (λ q. word m (q - 8)) (start_before bs nb k i) ∙ h.stand.header k w i (header_before k w i e))
+          (λ i. ap (λ q. memory_word m (q - 8)) (start_before bs nb k i) ∙ h.stand.header k w i (header_before k w i e))
           (λ (i : k ≡ length a.memory.blocks). absurd (no_header w (subst (λ z. (blocks_of (with_block b a)).header z ≡ Some w) i e)))
           (which k l);
       cell = λ k j v l n e. ⊎_elim
           (λ i.
           let f = cell_before k j v i e in
           let size = words_before bs nb k i in
-          ap (λ q. word m (q + 8 * j)) (start_before bs nb k i) ∙ h.stand.cell k j v i (omega (arith, n, size)) f
+          ap (λ q. memory_word m (q + 8 * j)) (start_before bs nb k i) ∙ h.stand.cell k j v i (omega (arith, n, size)) f
           ∙ sym (word_before s.image bs nb v (h.stand.known k j v i f)))
           (λ (i : k ≡ length a.memory.blocks). absurd (no_cell j v (subst (λ z. (blocks_of (with_block b a)).cell z j ≡ Some v) i e)))
           (which k l);
@@ -202,7 +202,7 @@ module _ (s : Fixed) (bs : List Placed) (m : List Region) (a : Around) (h : Heap
         (λ i. h.heads k y (sym (get_before k i) ∙ e))
         (λ (i : k ≡ length a.memory.blocks).
         let same : fresh_block b ≡ y = one_of (ap (slice_get (with_block b a).memory.blocks) i ∙ get_new) e in
-        subst (λ z. cells_of z.header ≡ length z.cells) same (head ∙ sym size_new))
+        subst (λ z. cells_of_header z.header ≡ length z.cells) same (head ∙ sym size_new))
         (which k (there k y e));
     fits = λ k j y v e f. ⊎_elim
         (λ i. fits_before s.image bs nb (is_scanned y.header) v (h.fits k j y v (sym (get_before k i) ∙ e) (cell_before k j v i f)))
@@ -223,8 +223,8 @@ module _ (s : Fixed) (bs : List Placed) (m : List Region) (a : Around) (h : Heap
           let p = length_more in
           omega (arith, w, n, c, p)
 
-      statics_more : StaticsStand s.image bs m (root_cells s.image) (statics_of (with_block b a).memory) →
-          StaticsStand s.image (bs ++ nb ∷ []) m (root_cells s.image) (statics_of (with_block b a).memory)
+      statics_more : StaticsStand s.image bs m (root_addresses s.image) (statics_of (with_block b a).memory) →
+          StaticsStand s.image (bs ++ nb ∷ []) m (root_addresses s.image) (statics_of (with_block b a).memory)
       statics_more st = record {
         cell = λ x v e. st.cell x v e ∙ sym (word_before s.image bs nb v (st.known x v e));
         kind = λ x v e. ⊎_elim (λ k. inl (val_before s.image bs nb v k.0, k.1)) (λ k. inr k) (st.kind x v e);

@@ -5,7 +5,7 @@ use Rattle.rv_isa.specs.declared.instr.AluImmOp.TheVariants.{Addi}
 use Rattle.rv_isa.specs.declared.instr.Instr.TheVariants.{Jalr, Load, OpImm}
 use Rattle.rv_isa.specs.declared.instr.LoadWidth.TheVariants.{Ld}
 use Rattle.rv_machine.specs.Arithmetic.{imm_i}
-use Rattle.rv_machine.specs.Memory.{Region, word, code_start}
+use Rattle.rv_machine.specs.Memory.{Region, memory_word, code_start}
 use Rattle.rv_machine.specs.Places.{stack_end}
 use Rattle.rv_machine.specs.Services.{StackOut}
 use Rattle.rv_machine.specs.Sound.{AreRegisters}
@@ -13,7 +13,7 @@ use Rattle.machine_laws.proofs.Memory.{word_below}
 use Rattle.moving_laws.specs.Waiting.{IsBack}
 use Rattle.moving_laws.specs.Words.{IsReadable}
 use Rattle.linear_machine.specs.Straight.{Changes, Differs, IsPast}
-use Rattle.linear_machine.specs.View.{Fixed, View, Ends, HasCode, IsCode, Leads}
+use Rattle.linear_machine.specs.View.{Fixed, View, EndsRunAfter, HasCode, IsInstructionAt, ReachesView}
 use Rattle.linear_machine.proofs.Formats.{sets_imm, sets_jalr}
 use Rattle.machine_laws.proofs.Immediates.{high_12, low_12, up}
 use Rattle.linear_machine.proofs.Sequences.{code_past, load_there, set_changes, set_more, sets_as, widened}
@@ -34,9 +34,9 @@ pub past_differs : (n : ℕ) (rs : List ℕ) (m : List Region) (v w : View) (to 
 past_differs n rs m v w to p = record { are = p.are; others = p.others; memory = p.memory; blocks = p.blocks }
 
 pub jalr_then :
-    (s : Fixed) (v : View) (n : ℕ) (rs : List ℕ) (m : List Region) (P : View → Type 0) (first : Changes s v n rs m P) (r to : ℕ) → IsCode s (v.place + n)
+    (s : Fixed) (v : View) (n : ℕ) (rs : List ℕ) (m : List Region) (P : View → Type 0) (first : Changes s v n rs m P) (r to : ℕ) → IsInstructionAt s (v.place + n)
     (Jalr 0 r 0) →
-    reg first.view.registers r ≡ code_start + 4 * to → to < 2 ^ 26 → Leads s (n + 1) v (at_place to first.view)
+    reg first.view.registers r ≡ code_start + 4 * to → to < 2 ^ 26 → ReachesView s (n + 1) v (at_place to first.view)
 jalr_then s v n rs m P first r to code e near =
     let u = first.view in
     let target : add_word (reg u.registers r) (imm_i 0) ≡ code_start + 4 * to =
@@ -64,7 +64,7 @@ less_near a n some small low high =
 -- ---- sp is lowered, or the run is out of stack
 
 module _ (s : Fixed) (v : View) (are : AreRegisters v.registers) (n : ℕ) (some : 1 ≤ n) (small : n ≤ 2048) (above : s.base ≤ slice_index v.registers 2)
-    (code : IsCode s v.place (OpImm Addi 2 2 (4096 - n % 4096))) where
+    (code : IsInstructionAt s v.place (OpImm Addi 2 2 (4096 - n % 4096))) where
   high_enough : n ≤ slice_index v.registers 2
   high_enough = let b = s.stack.low in omega (arith, b, above, small)
 
@@ -72,7 +72,7 @@ module _ (s : Fixed) (v : View) (are : AreRegisters v.registers) (n : ℕ) (some
   lowers_sp = sets_as s v (OpImm Addi 2 2 (4096 - n % 4096)) 2 _ _ (less_near (slice_index v.registers 2) n some small high_enough (are.words 2))
       (sets_imm s v Addi 2 2 (4096 - n % 4096))
 
-  pub lower_out : slice_index v.registers 2 < s.base + n → Ends s 1 v StackOut
+  pub lower_out : slice_index v.registers 2 < s.base + n → EndsRunAfter s 1 v StackOut
   lower_out l = out_step s v (OpImm Addi 2 2 (4096 - n % 4096)) (slice_index v.registers 2 - n) code (let h = high_enough in omega (arith, l, h)) lowers_sp
 
   pub lower_changes : s.base + n ≤ slice_index v.registers 2 → Changes s v 1 (2 ∷ []) v.memory (λ w. slice_index w.registers 2 ≡ slice_index v.registers 2 - n)
@@ -85,7 +85,7 @@ module _ (s : Fixed) (v : View) (are : AreRegisters v.registers) (n : ℕ) (some
 
 module _ (s : Fixed) (v : View) (are : AreRegisters v.registers) (frame top back : ℕ) (some : 8 ≤ frame) (small : frame < 2048)
     (e : slice_index v.registers 2 + frame ≡ top) (low : s.base ≤ slice_index v.registers 2)
-    (high : top ≤ stack_end) (there : word v.memory (top - 8) ≡ back) (is : IsBack back) (can : IsReadable v.memory (top - 8))
+    (high : top ≤ stack_end) (there : memory_word v.memory (top - 8) ≡ back) (is : IsBack back) (can : IsReadable v.memory (top - 8))
     (code : HasCode s v.place (Load Ld 1 2 ((frame - 8) % 4096) ∷ OpImm Addi 2 2 (frame % 4096) ∷ Jalr 0 1 0 ∷ [])) where
   word_at : slice_index v.registers 2 + (frame - 8) ≡ top - 8
   word_at = omega (arith, e, some)
@@ -101,8 +101,8 @@ module _ (s : Fixed) (v : View) (are : AreRegisters v.registers) (frame top back
   ra_loaded =
       widened s v 1 (1 ∷ []) (1 ∷ 2 ∷ 6 ∷ 7 ∷ []) v.memory (λ w. (slice_index w.registers 1 ≡ back) × (slice_index w.registers 2 ≡ slice_index v.registers 2)) _
       (λ q i. ⊎_elim (λ x. inl x) (λ f. absurd f) i) (λ w p x. x)
-      (widened s v 1 (1 ∷ []) (1 ∷ []) v.memory (λ w. slice_index w.registers 1 ≡ word v.memory (slice_index v.registers 2 + (frame - 8))) _ (λ q i. i)
-      (λ w p x. (x ∙ ap (word v.memory) word_at ∙ there, p.others 2 (λ i. ⊎_elim (λ q. omega (arith, q)) (λ f. f) i)))
+      (widened s v 1 (1 ∷ []) (1 ∷ []) v.memory (λ w. slice_index w.registers 1 ≡ memory_word v.memory (slice_index v.registers 2 + (frame - 8))) _ (λ q i. i)
+      (λ w p x. (x ∙ ap (memory_word v.memory) word_at ∙ there, p.others 2 (λ i. ⊎_elim (λ q. omega (arith, q)) (λ f. f) i)))
       (load_near s v are (frame - 8) return_word 0 (omega arith) (λ q. omega (arith, q)) (omega (arith, small)) (code.0, tt)))
 
   pub sp_raised : Changes s v 2 (1 ∷ 2 ∷ 6 ∷ 7 ∷ []) v.memory (λ w. (slice_index w.registers 2 ≡ top)
@@ -119,11 +119,11 @@ module _ (s : Fixed) (v : View) (are : AreRegisters v.registers) (frame top back
   abbrev pub returned : View
   returned = at_place ((back - 0x10000) / 4) sp_raised.view
 
-  pub return_leads : Leads s 3 v returned
+  pub return_leads : ReachesView s 3 v returned
   return_leads =
       let ra : slice_index sp_raised.view.registers 1 ≡ back = sp_raised.holds.1 1 (λ q. omega (arith, q)) ∙ ra_loaded.holds.0 in
       let place : v.place + 1 + 1 ≡ v.place + 2 = omega arith in
-      jalr_then s v 2 (1 ∷ 2 ∷ 6 ∷ 7 ∷ []) v.memory _ sp_raised 1 ((back - 0x10000) / 4) (subst (λ q. IsCode s q (Jalr 0 1 0)) place code.1.1.0)
+      jalr_then s v 2 (1 ∷ 2 ∷ 6 ∷ 7 ∷ []) v.memory _ sp_raised 1 ((back - 0x10000) / 4) (subst (λ q. IsInstructionAt s q (Jalr 0 1 0)) place code.1.1.0)
       (ra ∙ sym (back_place back is)) (back_near back is)
 
   pub return_differs : Differs (1 ∷ 2 ∷ 6 ∷ 7 ∷ []) v.memory v returned
@@ -134,7 +134,7 @@ module _ (s : Fixed) (v : View) (are : AreRegisters v.registers) (frame top back
 
 -- ---- a raise: addi sp, s1, 0; ld t1, 0(sp); ld s1, 8(sp); addi sp, sp, 16; jalr zero, t1, 0
 
-module _ (s : Fixed) (v : View) (are : AreRegisters v.registers) (is : IsBack (word v.memory (slice_index v.registers 9)))
+module _ (s : Fixed) (v : View) (are : AreRegisters v.registers) (is : IsBack (memory_word v.memory (slice_index v.registers 9)))
     (low : s.base ≤ slice_index v.registers 9) (high : slice_index v.registers 9 + 16 ≤ stack_end)
     (can0 : IsReadable v.memory (slice_index v.registers 9)) (can8 : IsReadable v.memory (slice_index v.registers 9 + 8))
     (code : HasCode s v.place (OpImm Addi 2 9 0 ∷ Load Ld 6 2 0 ∷ Load Ld 9 2 8 ∷ OpImm Addi 2 2 16 ∷ Jalr 0 6 0 ∷ [])) where
@@ -156,30 +156,30 @@ module _ (s : Fixed) (v : View) (are : AreRegisters v.registers) (is : IsBack (w
       (set_changes s v (OpImm Addi 2 9 0) 1 (slice_index v.registers 9) code.0 (inr low)
       (sets_as s v (OpImm Addi 2 9 0) 2 _ _ sum (sets_imm s v Addi 2 9 0)) are (omega arith) (omega (arith, high)))
 
-  pub second : Changes s v 2 (2 ∷ 6 ∷ 7 ∷ 9 ∷ []) v.memory (λ w. (slice_index w.registers 6 ≡ word v.memory (slice_index v.registers 9))
+  pub second : Changes s v 2 (2 ∷ 6 ∷ 7 ∷ 9 ∷ []) v.memory (λ w. (slice_index w.registers 6 ≡ memory_word v.memory (slice_index v.registers 9))
       × ((q : ℕ) → q ≢ 6 → slice_index w.registers q ≡ slice_index first.view.registers q))
   second =
       let far = far_enough in
       let e = first.holds in
-      set_more s v 1 (2 ∷ 6 ∷ 7 ∷ 9 ∷ []) v.memory _ (Load Ld 6 2 0) 5 (word v.memory (slice_index v.registers 9)) first (inr (inl refl))
+      set_more s v 1 (2 ∷ 6 ∷ 7 ∷ 9 ∷ []) v.memory _ (Load Ld 6 2 0) 5 (memory_word v.memory (slice_index v.registers 9)) first (inr (inl refl))
       (load_there s v 1 (2 ∷ 6 ∷ 7 ∷ 9 ∷ []) v.memory _ first 6 2 0 (slice_index v.registers 9)
       (ap (add_word (slice_index first.view.registers 2)) (low_12 0 (omega arith)) ∙ up (slice_index first.view.registers 2) 0 (slice_index v.registers 9)
       (omega (arith, e)) (omega (arith, high)))
       (λ q. omega (arith, q, far)) (omega (arith, far)) can0)
       code.1.0 (inl (λ q. omega (arith, q))) (omega arith) (word_below v.memory (slice_index v.registers 9))
 
-  pub third : Changes s v 3 (2 ∷ 6 ∷ 7 ∷ 9 ∷ []) v.memory (λ w. (slice_index w.registers 9 ≡ word v.memory (slice_index v.registers 9 + 8))
+  pub third : Changes s v 3 (2 ∷ 6 ∷ 7 ∷ 9 ∷ []) v.memory (λ w. (slice_index w.registers 9 ≡ memory_word v.memory (slice_index v.registers 9 + 8))
       × ((q : ℕ) → q ≢ 9 → slice_index w.registers q ≡ slice_index second.view.registers q))
   third =
       let far = far_enough in
       let e : slice_index second.view.registers 2 ≡ slice_index v.registers 9 = second.holds.1 2 (λ q. omega (arith, q)) ∙ first.holds in
       let place : v.place + 1 + 1 ≡ v.place + 2 = omega arith in
-      set_more s v 2 (2 ∷ 6 ∷ 7 ∷ 9 ∷ []) v.memory _ (Load Ld 9 2 8) 8 (word v.memory (slice_index v.registers 9 + 8)) second (inr (inr (inr (inl refl))))
+      set_more s v 2 (2 ∷ 6 ∷ 7 ∷ 9 ∷ []) v.memory _ (Load Ld 9 2 8) 8 (memory_word v.memory (slice_index v.registers 9 + 8)) second (inr (inr (inr (inl refl))))
       (load_there s v 2 (2 ∷ 6 ∷ 7 ∷ 9 ∷ []) v.memory _ second 9 2 8 (slice_index v.registers 9 + 8)
       (ap (add_word (slice_index second.view.registers 2)) (low_12 8 (omega arith))
       ∙ up (slice_index second.view.registers 2) 8 (slice_index v.registers 9 + 8) (omega (arith, e)) (omega (arith, high)))
       (λ q. omega (arith, q, far)) (omega (arith, far)) can8)
-      (subst (λ q. IsCode s q (Load Ld 9 2 8)) place code.1.1.0) (inl (λ q. omega (arith, q))) (omega arith)
+      (subst (λ q. IsInstructionAt s q (Load Ld 9 2 8)) place code.1.1.0) (inl (λ q. omega (arith, q))) (omega arith)
       (word_below v.memory (slice_index v.registers 9 + 8))
 
   pub fourth : Changes s v 4 (2 ∷ 6 ∷ 7 ∷ 9 ∷ []) v.memory (λ w. (slice_index w.registers 2 ≡ slice_index v.registers 9 + 16)
@@ -193,32 +193,32 @@ module _ (s : Fixed) (v : View) (are : AreRegisters v.registers) (is : IsBack (w
       (ap (add_word (slice_index third.view.registers 2)) (low_12 16 (omega arith))
       ∙ up (slice_index third.view.registers 2) 16 (slice_index v.registers 9 + 16) (omega (arith, e)) (omega (arith, high)))
       (sets_imm s third.view Addi 2 2 16))
-      (subst (λ q. IsCode s q (OpImm Addi 2 2 16)) place code.1.1.1.0) (inr (omega (arith, low))) (omega arith) (omega (arith, high))
+      (subst (λ q. IsInstructionAt s q (OpImm Addi 2 2 16)) place code.1.1.1.0) (inr (omega (arith, low))) (omega arith) (omega (arith, high))
 
   abbrev pub raised_at : View
-  raised_at = at_place ((word v.memory (slice_index v.registers 9) - 0x10000) / 4) fourth.view
+  raised_at = at_place ((memory_word v.memory (slice_index v.registers 9) - 0x10000) / 4) fourth.view
 
-  pub raise_leads : Leads s 5 v raised_at
+  pub raise_leads : ReachesView s 5 v raised_at
   raise_leads =
-      let t : slice_index fourth.view.registers 6 ≡ word v.memory (slice_index v.registers 9) = fourth.holds.1 6 (λ q. omega (arith, q))
+      let t : slice_index fourth.view.registers 6 ≡ memory_word v.memory (slice_index v.registers 9) = fourth.holds.1 6 (λ q. omega (arith, q))
       ∙ third.holds.1 6 (λ q. omega (arith, q)) ∙ second.holds.0 in
       let place : v.place + 1 + 1 + 1 + 1 ≡ v.place + 4 = omega arith in
-      jalr_then s v 4 (2 ∷ 6 ∷ 7 ∷ 9 ∷ []) v.memory _ fourth 6 ((word v.memory (slice_index v.registers 9) - 0x10000) / 4)
-      (subst (λ q. IsCode s q (Jalr 0 6 0)) place code.1.1.1.1.0)
-      (t ∙ sym (back_place (word v.memory (slice_index v.registers 9)) is)) (back_near (word v.memory (slice_index v.registers 9)) is)
+      jalr_then s v 4 (2 ∷ 6 ∷ 7 ∷ 9 ∷ []) v.memory _ fourth 6 ((memory_word v.memory (slice_index v.registers 9) - 0x10000) / 4)
+      (subst (λ q. IsInstructionAt s q (Jalr 0 6 0)) place code.1.1.1.1.0)
+      (t ∙ sym (back_place (memory_word v.memory (slice_index v.registers 9)) is)) (back_near (memory_word v.memory (slice_index v.registers 9)) is)
 
   pub raise_differs : Differs (2 ∷ 6 ∷ 7 ∷ 9 ∷ []) v.memory v raised_at
-  raise_differs = past_differs 4 (2 ∷ 6 ∷ 7 ∷ 9 ∷ []) v.memory v fourth.view ((word v.memory (slice_index v.registers 9) - 0x10000) / 4) fourth.past
+  raise_differs = past_differs 4 (2 ∷ 6 ∷ 7 ∷ 9 ∷ []) v.memory v fourth.view ((memory_word v.memory (slice_index v.registers 9) - 0x10000) / 4) fourth.past
 
   pub raise_high : slice_index raised_at.registers 2 ≡ slice_index v.registers 9 + 16
   raise_high = fourth.holds.0
 
-  pub raise_points : slice_index raised_at.registers 9 ≡ word v.memory (slice_index v.registers 9 + 8)
+  pub raise_points : slice_index raised_at.registers 9 ≡ memory_word v.memory (slice_index v.registers 9 + 8)
   raise_points = fourth.holds.1 9 (λ q. omega (arith, q)) ∙ third.holds.0
 
   pub raise_value : slice_index raised_at.registers 10 ≡ slice_index v.registers 10
   raise_value = raise_differs.others 10 (λ i. ⊎_elim (λ q. omega (arith, q))
       (λ j. ⊎_elim (λ q. omega (arith, q)) (λ k. ⊎_elim (λ q. omega (arith, q)) (λ l. ⊎_elim (λ q. omega (arith, q)) (λ f. f) l) k) j) i)
 
-  pub raise_place : code_start + 4 * raised_at.place ≡ word v.memory (slice_index v.registers 9)
-  raise_place = back_place (word v.memory (slice_index v.registers 9)) is
+  pub raise_place : code_start + 4 * raised_at.place ≡ memory_word v.memory (slice_index v.registers 9)
+  raise_place = back_place (memory_word v.memory (slice_index v.registers 9)) is

@@ -2,7 +2,7 @@
 use Rattle.std.proofs.Common.{◌≡◌, ℕ, ◌%◌, ◌^◌, ◌<◌, ◌⊎◌, inl, inr, Bool, true, false, List, map, refl, ap, ◌∙◌, sym, subst, ⊎_elim}
 use Rattle.std.specs.List.{AllByRecursion}
 use Rattle.rv_machine.specs.Hart.{Hart}
-use Rattle.rv_machine.specs.Memory.{Region, word, write}
+use Rattle.rv_machine.specs.Memory.{Region, memory_word, write}
 use Rattle.rv_machine.specs.Places.{domain_start, limit_asked}
 use Rattle.rv_machine.specs.Run.{asked}
 use Rattle.rv_machine.specs.Sound.{Extent, HasRegions, IsRegion, extent}
@@ -21,12 +21,12 @@ known_either true m e = inr e
 known_either false m e = e
 
 -- where the mover has asked it is known
-pub known_asked : (asks : Bool) (m : List Region) → word m domain_start ≡ limit_asked → KnownLimit asks m
+pub known_asked : (asks : Bool) (m : List Region) → memory_word m domain_start ≡ limit_asked → KnownLimit asks m
 known_asked true m e = e
 known_asked false m e = inr e
 
 -- where the word stays, so does what is known
-pub known_same : (asks : Bool) (m m' : List Region) → word m' domain_start ≡ word m domain_start → KnownLimit asks m → KnownLimit asks m'
+pub known_same : (asks : Bool) (m m' : List Region) → memory_word m' domain_start ≡ memory_word m domain_start → KnownLimit asks m → KnownLimit asks m'
 known_same true m m' same e = same ∙ e
 known_same false m m' same e = ⊎_elim (λ q. inl (same ∙ q)) (λ q. inr (same ∙ q)) e
 
@@ -68,7 +68,7 @@ like_write m m' x v f r small l =
     let formed' : IsFormed m' = record { each = l.each } in
     record {
       words = λ y n. ⊎_elim
-          (λ (e : x ≡ y). subst (λ z. word (write m' x v) z ≡ word (write m x v) z) e
+          (λ (e : x ≡ y). subst (λ z. memory_word (write m' x v) z ≡ memory_word (write m x v) z) e
           (word_same m' x v formed' (like_readable m m' x l r) small ∙ sym (word_same m x v formed r small)))
           (λ ne. other_word m' x y v ne ∙ l.words y n ∙ sym (other_word m x y v ne))
           (same_or_not x y);
@@ -85,7 +85,7 @@ like_write m m' x v f r small l =
 pub like_hold : (m m' : List Region) (x z : ℕ) → AllByRecursion IsRegion m → (IsReadable m x → AllShare x 8 m) → (IsReadable m' x → AllShare x 8 m') →
     x % 8 ≡ 0 → IsHeld m x → IsHeld m' x → z < 2 ^ 64 → IsLike m m' → IsLike (hold m x z) (hold m' x z)
 like_hold m m' x z f whole whole' even held held' small l = record {
-  words = λ y n. ⊎_elim (λ (e : x ≡ y). subst (λ q. word (hold m' x z) q ≡ word (hold m x z) q) e (here (readable_or_not m x)))
+  words = λ y n. ⊎_elim (λ (e : x ≡ y). subst (λ q. memory_word (hold m' x z) q ≡ memory_word (hold m x z) q) e (here (readable_or_not m x)))
       (λ ne. word_hold m' x y z even ne ∙ l.words y n ∙ sym (word_hold m x y z even ne)) (same_or_not x y);
   held = λ y e n. ⊎_elim
       (λ (q : x ≡ y). subst (λ k. held_word (hold m' x z) k ≡ held_word (hold m x z) k) q (hold_same m' x z l.each held' ∙ sym (hold_same m x z f held)))
@@ -95,11 +95,11 @@ like_hold m m' x z f whole whole' even held held' small l = record {
 }
   where
     -- the word of 8 bytes there, if there is one
-    here : IsReadable m x ⊎ (IsReadable m x → ⊥) → word (hold m' x z) x ≡ word (hold m x z) x
+    here : IsReadable m x ⊎ (IsReadable m x → ⊥) → memory_word (hold m' x z) x ≡ memory_word (hold m x z) x
     here (inl r) =
         let r' = like_readable m m' x l r in
-        ap (λ k. word k x) (sym (write_hold m' x z l.each (whole' r') r' small)) ∙ word_same m' x z (record { each = l.each }) r' small
-        ∙ sym (word_same m x z (record { each = f }) r small) ∙ ap (λ k. word k x) (write_hold m x z f (whole r) r small)
+        ap (λ k. memory_word k x) (sym (write_hold m' x z l.each (whole' r') r' small)) ∙ word_same m' x z (record { each = l.each }) r' small
+        ∙ sym (word_same m x z (record { each = f }) r small) ∙ ap (λ k. memory_word k x) (write_hold m x z f (whole r) r small)
     here (inr none) =
         word_none (hold m' x z) x (λ r. none (same_readable m' m x (sym l.lie) (same_readable (hold m' x z) m' x (sym (hold_lie m' x z)) r)))
         ∙ sym (word_none (hold m x z) x (λ r. none (same_readable (hold m x z) m x (sym (hold_lie m x z)) r)))

@@ -8,12 +8,12 @@ use Rattle.bs_words.specs.Word.{add_word}
 use Rattle.bs_words.specs.declared.values.Value.{Value}
 use Rattle.bs_words.specs.declared.values.Value.TheVariants.{Word, Block, Function}
 use Rattle.bs_words.proofs.Lists.{got}
-use Rattle.mach_ir.specs.Acts.{Around, is_among, moved_by}
+use Rattle.mach_ir.specs.Acts.{Around, is_among_cells, moved_by}
 use Rattle.rv_machine.specs.Hart.{Placed}
-use Rattle.rv_machine.specs.Memory.{Region, word}
+use Rattle.rv_machine.specs.Memory.{Region, memory_word}
 use Rattle.rv_machine.specs.Sound.{HasRegions, extents}
 use Rattle.moving_laws.specs.Heap.{IsInHeap}
-use Rattle.moving_laws.specs.Values.{start_of, value_word, words_of}
+use Rattle.moving_laws.specs.Values.{start_of, value_word, cells_of_block}
 use Rattle.moving_laws.specs.Words.{IsReadable}
 use Rattle.moving_laws.proofs.Rewriting.{start_inside}
 use Rattle.moving_laws.proofs.Usable.{data_readable}
@@ -54,7 +54,7 @@ unfolding add_word
 block_address start o low high most = omega (arith, low, high, most)
 
 -- a block ends below the young area's top
-pub words_end : (bs : List Placed) (k : ℕ) → AllByRecursion IsInHeap bs → k < length bs → start_of bs k + 8 * words_of bs k ≤ 0x38010000
+pub words_end : (bs : List Placed) (k : ℕ) → AllByRecursion IsInHeap bs → k < length bs → start_of bs k + 8 * cells_of_block bs k ≤ 0x38010000
 words_end [] k all l = absurd (omega (arith, l))
 words_end (b ∷ bs) zero all l = all.0.high
 words_end (b ∷ bs) (suc k) all l = words_end bs k all.1 (omega (arith, l))
@@ -63,7 +63,7 @@ words_end (b ∷ bs) (suc k) all l = words_end bs k all.1 (omega (arith, l))
 
 -- A word that can be accessed at an address, and what it stands for.
 pub record IsCellAt (s : Fixed) (placed : List Placed) (m : List Region) (at : ℕ) (v : Value) : Type 0 where
-  pub stands : StandsFor s placed (word m at) v
+  pub stands : StandsFor s placed (memory_word m at) v
   pub readable : IsReadable m at
   pub low : 0x10000000 ≤ at
   pub no_limit : at ≢ 0x20000000
@@ -85,11 +85,11 @@ module _ (s : Fixed) (placed : List Placed) (m : List Region) (regions : HasRegi
   -- where the bytes of a block lie
   pub in_block_at : (k from : ℕ) (b : HeapBlock) (at : ℕ) → slice_get a.memory.blocks k ≡ Some b → from % 8 ≡ 0 → from + 8 ≤ 8 * (length b.cells + 1) →
       at + 8 ≡ start_of placed k + from →
-      is_among (cell_of_block k (from / 8)) a.unwritten ≡ false → IsCellAt s placed m at (value_in a.memory (cell_of_block k (from / 8)))
+      is_among_cells (cell_of_block k (from / 8)) a.unwritten ≡ false → IsCellAt s placed m at (value_in a.memory (cell_of_block k (from / 8)))
   in_block_at k from b at there even inside e written =
       let i : k < length placed = let w = slice_get_within a.memory.blocks k b there in let n = blocks_count in omega (arith, w, n) in
       let near = start_inside placed k h.old.inside i in
-      let size : words_of placed k ≡ length b.cells = h.stand.sizes k i ∙ ap size_in there in
+      let size : cells_of_block placed k ≡ length b.cells = h.stand.sizes k i ∙ ap size_in there in
       let low : 0x30000000 ≤ at = omega (arith, e, near) in
       record {
         stands = by_place (from / 8) refl i near written;
@@ -100,30 +100,30 @@ module _ (s : Fixed) (placed : List Placed) (m : List Region) (regions : HasRegi
     where
       by_place : (n : ℕ) → from / 8 ≡ n → k < length placed → (start_of placed k % 8 ≡ 0) × (0x30000008 ≤ start_of placed k)
           × (start_of placed k ≤ 0x38010000) →
-          is_among (cell_of_block k n) a.unwritten ≡ false → StandsFor s placed (word m at) (value_in a.memory (cell_of_block k n))
+          is_among_cells (cell_of_block k n) a.unwritten ≡ false → StandsFor s placed (memory_word m at) (value_in a.memory (cell_of_block k n))
       by_place zero q i near written =
           let here : at ≡ start_of placed k - 8 = omega (arith, e, q, even, near) in
-          let head = h.stand.header k b.header i (unheaded_by (is_among (InHeader k) a.unwritten)
+          let head = h.stand.header k b.header i (unheaded_by (is_among_cells (InHeader k) a.unwritten)
           (header_in (slice_get a.memory.blocks k)) b.header written (ap header_in there)) in
           record {
-            is = ap (word m) here ∙ head ∙ sym (ap (λ (c : HeapBlock). c.header) (get_or_from_slice_get a.memory.blocks k b (record { header = 0; cells = [] }) there));
+            is = ap (memory_word m) here ∙ head ∙ sym (ap (λ (c : HeapBlock). c.header) (get_or_from_slice_get a.memory.blocks k b (record { header = 0; cells = [] }) there));
             known = tt;
           }
       by_place (suc j) q i near written =
           let here : at ≡ start_of placed k + 8 * j = omega (arith, e, q, even) in
           let within : j < length b.cells = omega (arith, inside, q) in
           let v = got b.cells j within in
-          let held : (blocks_of a).cell k j ≡ Some v.0 = unwritten_by (is_among (InBlock k j) a.unwritten)
+          let held : (blocks_of a).cell k j ≡ Some v.0 = unwritten_by (is_among_cells (InBlock k j) a.unwritten)
           (cell_in (slice_get a.memory.blocks k) j) v.0 written (ap (λ o. cell_in o j) there ∙ v.1) in
-          let size : words_of placed k ≡ length b.cells = h.stand.sizes k i ∙ ap size_in there in
+          let size : cells_of_block placed k ≡ length b.cells = h.stand.sizes k i ∙ ap size_in there in
           let value : value_in a.memory (InBlock k j) ≡ v.0 =
           ap (λ (c : HeapBlock). slice_index_or c.cells j (Word 0)) (get_or_from_slice_get a.memory.blocks k b (record { header = 0; cells = [] }) there)
           ∙ get_or_from_slice_get b.cells j v.0 (Word 0) v.1 in
-          subst (StandsFor s placed (word m at)) (sym value)
-          (record { is = ap (word m) here ∙ h.stand.cell k j v.0 i (omega (arith, within, size)) held; known = h.stand.known k j v.0 i held })
+          subst (StandsFor s placed (memory_word m at)) (sym value)
+          (record { is = ap (memory_word m) here ∙ h.stand.cell k j v.0 i (omega (arith, within, size)) held; known = h.stand.known k j v.0 i held })
 
   -- the address of a value, and the cell that is there
-  pub cell_there : (x : Value) (cell : Cell) → cell_at a.memory 8 x ≡ Some cell → is_among cell a.unwritten ≡ false →
+  pub cell_there : (x : Value) (cell : Cell) → cell_at a.memory 8 x ≡ Some cell → is_among_cells cell a.unwritten ≡ false →
       IsCellAt s placed m (value_word s.image placed x) (value_in a.memory cell)
   cell_there (Word w) cell e written =
       let t = static_whole s.image a.memory w cell h.lie e in
@@ -159,12 +159,12 @@ module _ (s : Fixed) (placed : List Placed) (m : List Region) (regions : HasRegi
               let i : k < length placed = let w = slice_get_within a.memory.blocks k b.0 b.1 in let c = blocks_count in omega (arith, w, c) in
               let near = start_inside placed k h.old.inside i in
               let ends = words_end placed k h.old.inside i in
-              let count : words_of placed k ≡ n = h.stand.sizes k i ∙ ap size_in b.1 ∙ size in
+              let count : cells_of_block placed k ≡ n = h.stand.sizes k i ∙ ap size_in b.1 ∙ size in
               let most : (o + 8) % 2 ^ 64 ≤ 2 ^ 32 = omega (arith, room, ends, count) in
               subst (λ q. IsCellAt s placed m (value_word s.image placed (Block k o)) (value_in a.memory q)) same
               (in_block_at k ((o + 8) % 2 ^ 64) b.0 (value_word s.image placed (Block k o)) b.1 (omega (arith, even)) (omega (arith, room, size))
               (block_address (start_of placed k) o near.1 near.2 most)
-              (subst (λ q. is_among q a.unwritten ≡ false) (sym same) written))
+              (subst (λ q. is_among_cells q a.unwritten ≡ false) (sym same) written))
             where
               some_is : {p q : Cell} → Some p ≡ Some q → p ≡ q
               some_is e = cc

@@ -10,27 +10,27 @@ use Rattle.bs_words.specs.declared.types.Ty.{Ty}
 use Rattle.bs_words.specs.declared.values.Kind.{Kind}
 use Rattle.bs_words.specs.declared.values.Value.{Value}
 use Rattle.bs_words.specs.declared.values.Value.TheVariants.{Function}
-use Rattle.mach_ir.specs.Acts.{Around, Stuck, is_among, loaded_act, moved_by, one_result}
-use Rattle.mach_ir.specs.Runs.{Place}
+use Rattle.mach_ir.specs.Acts.{Around, Stuck, is_among_cells, loaded_act, moved_by, one_result}
+use Rattle.mach_ir.specs.Runs.{ActivationSetting}
 use Rattle.mach_ir.specs.declared.op.Access.TheVariants as access
 use Rattle.mach_ir.specs.declared.op.Op.TheVariants as op
 use Rattle.rv_isa.specs.declared.instr.Instr.TheVariants.{Load}
 use Rattle.rv_isa.specs.declared.instr.LoadWidth.TheVariants.{Ld}
 use Rattle.rv_machine.specs.Arithmetic.{imm_i}
 use Rattle.rv_machine.specs.Hart.{Placed}
-use Rattle.rv_machine.specs.Memory.{word}
+use Rattle.rv_machine.specs.Memory.{memory_word}
 use Rattle.machine_laws.proofs.Memory.{word_below}
-use Rattle.lin_ir.specs.Meaning.{Locations, NamedAt, on_act, on_values, put, step}
+use Rattle.lin_ir.specs.Meaning.{Locations, NamedAt, on_act, on_values, assign_spot, step}
 use Rattle.lin_ir.specs.declared.lin.LinOp.TheVariants as lin
 use Rattle.lin_ir.specs.declared.lin.Lin.{Lin}
 use Rattle.lin_ir.specs.declared.lin.Line.{Line}
 use Rattle.lin_ir.specs.declared.lin.Spot.{Spot}
-use Rattle.moving_laws.specs.Stands.{Among}
+use Rattle.moving_laws.specs.Stands.{AmongNumbers}
 use Rattle.moving_laws.specs.Values.{value_word}
 use Rattle.linear_machine.specs.Follows.{Agrees, FollowsStep}
-use Rattle.linear_machine.specs.Relation.{Below, Laid, StandsFor, Within, all_of}
+use Rattle.linear_machine.specs.Relation.{Below, Laid, StandsFor, Within, blocks_by_serial}
 use Rattle.linear_machine.specs.Straight.{Changes}
-use Rattle.linear_machine.specs.View.{Fixed, View, IsCode}
+use Rattle.linear_machine.specs.View.{Fixed, View, IsInstructionAt}
 use Rattle.linear_machine.proofs.Following.{PassesSpare, result_follows}
 use Rattle.linear_machine.proofs.Formats.{sets_load}
 use Rattle.linear_machine.proofs.Loading.{cell_there, moved_word}
@@ -63,21 +63,21 @@ pub loaded_value : {k : Chunk} → IsWhole k → (a : Around) (cell : Cell) (off
 loaded_value whole_int a cell offset z e = fit_is (end_of_data a.memory) (type_of_chunk chunk.Int) (value_in a.memory cell) z e
 loaded_value whole_val a cell offset z e = fit_is (end_of_data a.memory) (type_of_chunk chunk.Val) (value_in a.memory cell) z e
 
-module _ (s : Fixed) (laid : Laid) (live : List Line → Type 0) (entry : ℕ → ℕ) (c : Below) (place : Place) (named : NamedAt) (code : Lin) (next : List Line)
+module _ (s : Fixed) (laid : Laid) (live : List Line → Type 0) (entry : ℕ → ℕ) (c : Below) (place : ActivationSetting) (named : NamedAt) (code : Lin) (next : List Line)
     (v : View) (young : List Placed) (held file : Locations) (a : Around) (none : a.raised ≡ None) (within : Within s laid v young 0 held a c)
     (before : Type 0) (agrees : Agrees before held file) (r : Spot) (passes : PassesSpare before (live next) r.loc)
-    (t : ℕ) (rest : Locations) (target : IsTarget held rest t) (rs : List ℕ) (only : (q : ℕ) → Among q rs → (q ≡ t) ⊎ IsScratch q) where
+    (t : ℕ) (rest : Locations) (target : IsTarget held rest t) (rs : List ℕ) (only : (q : ℕ) → AmongNumbers q rs → (q ≡ t) ⊎ IsScratch q) where
   -- The address is in a register, and the words bring what lies so many bytes further into the
   -- target.
   pub load_follows :
       (k : Chunk) → IsWhole k → (offset : ℕ) (p : Spot) (n1 n m ra : ℕ) (scratch : List ℕ) → laid.part (length next) ≡ v.place + (n1 + (n + m)) →
       Reads before p.loc →
       ((x : Value) → held p.loc ≡ Some x → Fetches s laid young a c held v.place n1 scratch ra x) →
-      ((z : Value) → Keeps s laid young a c rest (put r z held) (v.place + n1 + n) m t z) →
-      ((x z : Value) (cell : Cell) (u : View) → cell_at a.memory 8 (moved_by offset x) ≡ Some cell → is_among cell a.unwritten ≡ false →
+      ((z : Value) → Keeps s laid young a c rest (assign_spot r z held) (v.place + n1 + n) m t z) →
+      ((x z : Value) (cell : Cell) (u : View) → cell_at a.memory 8 (moved_by offset x) ≡ Some cell → is_among_cells cell a.unwritten ≡ false →
       value_in a.memory cell ≡ z →
-      u.place ≡ v.place + n1 → Within s laid u young 0 held a c → StandsFor s (all_of u young) (slice_index u.registers ra) x →
-      Changes s u n rs u.memory (λ w. StandsFor s (all_of u young) (slice_index w.registers t) z)) →
+      u.place ≡ v.place + n1 → Within s laid u young 0 held a c → StandsFor s (blocks_by_serial u young) (slice_index u.registers ra) x →
+      Changes s u n rs u.memory (λ w. StandsFor s (blocks_by_serial u young) (slice_index w.registers t) z)) →
       FollowsStep (n1 + (n + m)) s laid live entry c v
       (step place named code (record {
         rest = record { op = lin.Op (op.Access (access.Load k offset)); args = p ∷ []; results = r ∷ [] } ∷ next;
@@ -93,7 +93,7 @@ module _ (s : Fixed) (laid : Laid) (live : List Line → Type 0) (entry : ℕ �
       line = record { op = lin.Op (op.Access (access.Load k offset)); args = p ∷ []; results = r ∷ [] }
 
       by_result : (x : Value) (cell : Cell) (o : Result Value Kind) → cell_at a.memory (width k) (moved_by offset x) ≡ Some cell →
-          is_among cell a.unwritten ≡ false → memory.loaded k a.memory (moved_by offset x) ≡ o →
+          is_among_cells cell a.unwritten ≡ false → memory.loaded k a.memory (moved_by offset x) ≡ o →
           file p.loc ≡ Some x → FollowsStep (n1 + (n + m)) s laid live entry c v
           (on_act place code (record { op = lin.Op (op.Access (access.Load k offset)); args = p ∷ []; results = r ∷ [] }) next file a (one_result a o))
       by_result x cell (Err kind) e w f h = tt
@@ -104,11 +104,11 @@ module _ (s : Fixed) (laid : Laid) (live : List Line → Type 0) (entry : ℕ �
           let there : cell_at a.memory 8 (moved_by offset x) ≡ Some cell = subst (λ b. cell_at a.memory b (moved_by offset x) ≡ Some cell)
           (whole_width whole) e in
           result_follows s laid live entry c v next before (n1 + (n + m)) place.setting.end r z young held file a laid_next agrees passes
-          (λ fit. unary s laid young a c none held rest (put r z held) v.place n1 n m ra t scratch rs x z
+          (λ fit. unary s laid young a c none held rest (assign_spot r z held) v.place n1 n m ra t scratch rs x z
           (first x (reads_held before held file p.loc agrees reads_p ∙ h)) target only (keeps z)
           (λ u pl i sx. work x z cell u there w same pl i sx) v refl within)
 
-      by_written : (x : Value) (cell : Cell) (b : Bool) → is_among cell a.unwritten ≡ b → cell_at a.memory (width k) (moved_by offset x) ≡ Some cell →
+      by_written : (x : Value) (cell : Cell) (b : Bool) → is_among_cells cell a.unwritten ≡ b → cell_at a.memory (width k) (moved_by offset x) ≡ Some cell →
           file p.loc ≡ Some x →
           FollowsStep (n1 + (n + m)) s laid live entry c v
           (on_act place code (record {
@@ -127,27 +127,27 @@ module _ (s : Fixed) (laid : Laid) (live : List Line → Type 0) (entry : ℕ �
             results = r ∷ [];
           }) next file a (loaded_act a o (memory.loaded k a.memory (moved_by offset x))))
       by_cell x None e h = tt
-      by_cell x (Some cell) e h = by_written x cell (is_among cell a.unwritten) refl e h
+      by_cell x (Some cell) e h = by_written x cell (is_among_cells cell a.unwritten) refl e h
 
 -- one instruction loads what lies at a number of bytes from an address, where its immediate says so
 -- many
 pub load_works :
     (s : Fixed) (laid : Laid) (u : View) (young : List Placed) (held : Locations) (a : Around) (c : Below) → Within s laid u young 0 held a c →
     (t ra offset imm : ℕ) → suc t < 32 → suc t ≢ 2 → offset < 2 ^ 64 →
-    (x z : Value) (cell : Cell) → cell_at a.memory 8 (moved_by offset x) ≡ Some cell → is_among cell a.unwritten ≡ false → value_in a.memory cell ≡ z →
+    (x z : Value) (cell : Cell) → cell_at a.memory 8 (moved_by offset x) ≡ Some cell → is_among_cells cell a.unwritten ≡ false → value_in a.memory cell ≡ z →
     imm_i imm ≡ offset →
-    StandsFor s (all_of u young) (slice_index u.registers (suc ra)) x → IsCode s u.place (Load Ld (suc t) (suc ra) imm) →
-    Changes s u 1 (suc t ∷ []) u.memory (λ w. StandsFor s (all_of u young) (slice_index w.registers (suc t)) z)
+    StandsFor s (blocks_by_serial u young) (slice_index u.registers (suc ra)) x → IsInstructionAt s u.place (Load Ld (suc t) (suc ra) imm) →
+    Changes s u 1 (suc t ∷ []) u.memory (λ w. StandsFor s (blocks_by_serial u young) (slice_index w.registers (suc t)) z)
 load_works s laid u young held a c within t ra offset imm fits other small x z cell there written same e sx code =
-    let at : ℕ = value_word s.image (all_of u young) (moved_by offset x) in
-    let sum : add_word (slice_index u.registers (suc ra)) (imm_i imm) ≡ value_word s.image (all_of u young) (moved_by offset x) =
+    let at : ℕ = value_word s.image (blocks_by_serial u young) (moved_by offset x) in
+    let sum : add_word (slice_index u.registers (suc ra)) (imm_i imm) ≡ value_word s.image (blocks_by_serial u young) (moved_by offset x) =
     ap (add_word (slice_index u.registers (suc ra))) e
-    ∙ moved_word s (all_of u young) offset (slice_index u.registers (suc ra)) x small (within.own.are.words (suc ra)) (no_function x there) sx.is in
-    let is = cell_there s (all_of u young) u.memory within.usable.regions a within.heap (moved_by offset x) cell there written in
-    widened s u 1 (suc t ∷ []) (suc t ∷ []) u.memory (λ w. slice_index w.registers (suc t) ≡ word u.memory (value_word s.image (all_of u young)
+    ∙ moved_word s (blocks_by_serial u young) offset (slice_index u.registers (suc ra)) x small (within.own.are.words (suc ra)) (no_function x there) sx.is in
+    let is = cell_there s (blocks_by_serial u young) u.memory within.usable.regions a within.heap (moved_by offset x) cell there written in
+    widened s u 1 (suc t ∷ []) (suc t ∷ []) u.memory (λ w. slice_index w.registers (suc t) ≡ memory_word u.memory (value_word s.image (blocks_by_serial u young)
     (moved_by offset x))) _ (λ q i. i)
-    (λ w p h. subst (λ k. StandsFor s (all_of u young) k z) (sym h) (subst (StandsFor s (all_of u young) (word u.memory at)) same is.stands))
-    (set_changes s u (Load Ld (suc t) (suc ra) imm) t (word u.memory at) code (inl other)
+    (λ w p h. subst (λ k. StandsFor s (blocks_by_serial u young) k z) (sym h) (subst (StandsFor s (blocks_by_serial u young) (memory_word u.memory at)) same is.stands))
+    (set_changes s u (Load Ld (suc t) (suc ra) imm) t (memory_word u.memory at) code (inl other)
     (sets_load s u (suc t) (suc ra) imm at sum is.no_limit is.low is.readable) within.own.are fits (word_below u.memory at))
   where
     moved_function : (o f : ℕ) → moved_by o (Function f) ≡ Function f

@@ -12,10 +12,10 @@ use Rattle.rv_isa.specs.declared.instr.StoreWidth.TheVariants.{Sd}
 use Rattle.rv_machine.specs.Hart.{Placed}
 use Rattle.rv_machine.specs.Memory.{Region, write}
 use Rattle.rv_machine.specs.Sound.{IsRegion}
-use Rattle.moving_laws.specs.Stands.{Among}
+use Rattle.moving_laws.specs.Stands.{AmongNumbers}
 use Rattle.moving_laws.specs.Words.{IsReadable}
 use Rattle.linear_machine.specs.Files.{IsPut}
-use Rattle.linear_machine.specs.Relation.{AreCarried, Below, IsLocation, Laid, StandsFor, Within, all_of}
+use Rattle.linear_machine.specs.Relation.{AreCarried, Below, IsLocationRegister, Laid, StandsFor, Within, blocks_by_serial}
 use Rattle.linear_machine.specs.Straight.{Changes, IsPast}
 use Rattle.linear_machine.specs.View.{Fixed, View, HasCode}
 use Rattle.linear_machine.proofs.Sequences.{then_here, widened}
@@ -26,7 +26,7 @@ use Rattle.linear_machine.proofs.Standing.{AreScratch}
 module _ (s : Fixed) (laid : Laid) (v : View) (young : List Placed) (taken : ℕ) (file : Loc → Option Value) (a : Around) (c : Below)
     (within : Within s laid v young taken file a c) where
   abbrev placed : List Placed
-  placed = all_of v young
+  placed = blocks_by_serial v young
 
   -- where slot k lies, from sp on
   abbrev offset : ℕ → ℕ
@@ -34,7 +34,7 @@ module _ (s : Fixed) (laid : Laid) (v : View) (young : List Placed) (taken : ℕ
 
   -- ---- reads
 
-  pub read_register : (r : ℕ) (x : Value) → a.raised ≡ None → file (loc.Machine r) ≡ Some x → IsLocation r × StandsFor s (all_of v young)
+  pub read_register : (r : ℕ) (x : Value) → a.raised ≡ None → file (loc.Machine r) ≡ Some x → IsLocationRegister r × StandsFor s (blocks_by_serial v young)
       (slice_index v.registers r) x
   read_register r x none h = (subst (λ o. AreCarried s placed v.registers file o) none within.carried) r x h
 
@@ -49,7 +49,7 @@ module _ (s : Fixed) (laid : Laid) (v : View) (young : List Placed) (taken : ℕ
 
   module _ (k : ℕ) (x : Value) (h : file (loc.Slot k) ≡ Some x) (r : ℕ) (fits : suc r < 32) (other : suc r ≢ 2) where
     pub read_near : 8 * k + 16 * length a.tries < 2048 → HasCode s v.place (Load Ld (suc r) 2 ((8 * k + 16 * length a.tries) % 4096) ∷ []) →
-        Changes s v 1 (suc r ∷ []) v.memory (λ w. StandsFor s (all_of v young) (slice_index w.registers (suc r)) x)
+        Changes s v 1 (suc r ∷ []) v.memory (λ w. StandsFor s (blocks_by_serial v young) (slice_index w.registers (suc r)) x)
     read_near small code =
         let held = within.slots k x h in
         widened s v 1 (suc r ∷ []) (suc r ∷ []) v.memory _ _ (λ q i. i)
@@ -61,7 +61,7 @@ module _ (s : Fixed) (laid : Laid) (v : View) (young : List Placed) (taken : ℕ
         HasCode s v.place
         (Lui (suc y) (above_12 (8 * k + 16 * length a.tries) % 2 ^ 20) ∷ Op Add (suc y) (suc y) 2 ∷ Load Ld (suc r) (suc y)
         ((8 * k + 16 * length a.tries) % 4096) ∷ []) →
-        Changes s v 3 (suc r ∷ suc y ∷ []) v.memory (λ w. StandsFor s (all_of v young) (slice_index w.registers (suc r)) x)
+        Changes s v 3 (suc r ∷ suc y ∷ []) v.memory (λ w. StandsFor s (blocks_by_serial v young) (slice_index w.registers (suc r)) x)
     read_far y y_fits no_sp small code =
         let held = within.slots k x h in
         widened s v 3 (suc r ∷ suc y ∷ []) (suc r ∷ suc y ∷ []) v.memory _ _ (λ q i. i)
@@ -72,7 +72,7 @@ module _ (s : Fixed) (laid : Laid) (v : View) (young : List Placed) (taken : ℕ
 
   module _ (n : ℕ) (rs : List ℕ) (x : Value) (file' : Loc → Option Value) where
     module _ (r k : ℕ) (r_kept : suc r ≢ 7) (i : k < laid.slots) (scratch : AreScratch rs) (put : IsPut (loc.Slot k) x file file')
-        (first : Changes s v n rs v.memory (λ w. StandsFor s (all_of v young) (slice_index w.registers (suc r)) x)) where
+        (first : Changes s v n rs v.memory (λ w. StandsFor s (blocks_by_serial v young) (slice_index w.registers (suc r)) x)) where
       at : ℕ
       at = slice_index v.registers 2 + offset k
 
@@ -132,7 +132,7 @@ module _ (s : Fixed) (laid : Laid) (v : View) (young : List Placed) (taken : ℕ
           (then_here s v n 1 rs v.memory kept_memory (λ w. StandsFor s placed (slice_index w.registers (suc r)) x) (λ w. Unit {0}) first second)
 
       -- through t2
-      pub put_far : Among 7 rs → 8 * k + 16 * length a.tries < 2 ^ 30 →
+      pub put_far : AmongNumbers 7 rs → 8 * k + 16 * length a.tries < 2 ^ 30 →
           HasCode s (v.place + n)
           (Lui 7 (above_12 (8 * k + 16 * length a.tries) % 2 ^ 20) ∷ Op Add 7 7 2 ∷ Store Sd 7 (suc r) ((8 * k + 16 * length a.tries) % 4096) ∷ []) →
           Changes s v (n + 3) rs (write v.memory (slice_index v.registers 2 + (8 * k + 16 * length a.tries)) (slice_index first.view.registers (suc r)))
@@ -142,7 +142,7 @@ module _ (s : Fixed) (laid : Laid) (v : View) (young : List Placed) (taken : ℕ
           let second : Changes s u 3 rs kept_memory (λ w. Unit {0}) =
           subst (λ m. Changes s u 3 rs m (λ w. Unit {0})) (memory_past u (slice_index u.registers (suc r)) first.past)
           (widened s u 3 (7 ∷ []) rs (write u.memory (slice_index u.registers 2 + offset k) (slice_index u.registers (suc r))) (λ w. Unit {0}) (λ w. Unit {0})
-          (λ q i. ⊎_elim (λ e. subst (λ z. Among z rs) (sym e) among) (λ f. absurd f) i) (λ w p e. tt)
+          (λ q i. ⊎_elim (λ e. subst (λ z. AmongNumbers z rs) (sym e) among) (λ f. absurd f) i) (λ w p e. tt)
           (store_far s u first.past.are (offset k) (word_past u first.past) 6 (omega arith)
           (λ e. omega (arith, e)) small (suc r) r_kept (regions_past u first.past)
           (subst (λ p. HasCode s p (Lui 7 (above_12 (offset k) % 2 ^ 20) ∷ Op Add 7 7 2 ∷ Store Sd 7 (suc r) (offset k % 4096) ∷ []))

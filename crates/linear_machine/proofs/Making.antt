@@ -7,9 +7,9 @@ use Rattle.lin_ir.specs.Meaning.{Locations}
 use Rattle.mach_ir.specs.Acts.{Around, with_block}
 use Rattle.mach_ir.specs.declared.blocks.NewBlock.{NewBlock}
 use Rattle.rv_machine.specs.Hart.{Placed}
-use Rattle.rv_machine.specs.Observation.{cells_of, young_start}
-use Rattle.rv_machine.specs.Placement.{end_of}
-use Rattle.rv_machine.specs.Space.{IsKept}
+use Rattle.rv_machine.specs.Observation.{cells_of_header, young_start}
+use Rattle.rv_machine.specs.Placement.{block_end}
+use Rattle.rv_machine.specs.Space.{IsHeapBlock}
 use Rattle.machine_laws.proofs.Apart.{all-append, all-reverse, all_of}
 use Rattle.machine_laws.proofs.InHeap.{ends_below}
 use Rattle.moving_laws.specs.Heap.{AreApart, IsInHeap}
@@ -29,11 +29,11 @@ young_above : (at : ℕ) (bs : List Placed) → Rises at bs → AllByRecursion (
 young_above at [] r = tt
 young_above at (b ∷ bs) r =
     let e = r.0 in
-    (omega (arith, e), all_of (λ c. end_of b + 8 ≤ c.start) (λ c. at + 8 ≤ c.start) (λ c l. omega (arith, l, e)) bs (young_above (end_of b) bs r.3))
+    (omega (arith, e), all_of (λ c. block_end b + 8 ≤ c.start) (λ c. at + 8 ≤ c.start) (λ c l. omega (arith, l, e)) bs (young_above (block_end b) bs r.3))
 
 module _ (s : Fixed) (laid : Laid) (v : View) (young : List Placed) (taken left : ℕ) (held : Locations) (a : Around) (c : Below)
     (within : Within s laid v young taken held a c)
-    (b : NewBlock) (some : 1 ≤ b.cells) (most : b.cells ≤ 256) (head : cells_of b.header ≡ b.cells) (bytes : taken ≡ left + 8 * (b.cells + 1))
+    (b : NewBlock) (some : 1 ≤ b.cells) (most : b.cells ≤ 256) (head : cells_of_header b.header ≡ b.cells) (bytes : taken ≡ left + 8 * (b.cells + 1))
     (room : young_start ≤ slice_index v.registers 26 + left) where
   -- it lies right below the young blocks
   abbrev pub made : Placed
@@ -42,7 +42,7 @@ module _ (s : Fixed) (laid : Laid) (v : View) (young : List Placed) (taken left 
   abbrev old : List Placed
   old = v.blocks ++ reverse young
 
-  ends : end_of made ≡ slice_index v.registers 26 + taken
+  ends : block_end made ≡ slice_index v.registers 26 + taken
   ends = omega (arith, bytes)
 
   top : slice_index v.registers 26 + taken ≤ 0x38010000
@@ -58,13 +58,13 @@ module _ (s : Fixed) (laid : Laid) (v : View) (young : List Placed) (taken left 
   apart =
       let e = ends in
       all-append (λ x. AreApart x made) v.blocks (reverse young)
-      (all_of (IsKept s.heap) (λ x. AreApart x made)
+      (all_of (IsHeapBlock s.heap) (λ x. AreApart x made)
       (λ x k. let below = ends_below s.heap x within.usable.heap.most k.inside in inl (omega (arith, below, room))) v.blocks within.usable.heap.each)
       (all-reverse (λ x. AreApart x made) young
       (all_of (λ x. slice_index v.registers 26 + taken + 8 ≤ x.start) (λ x. AreApart x made) (λ x l. inr (omega (arith, l, e))) young
       (young_above (slice_index v.registers 26 + taken) young within.own.rises)))
 
-  more_is : relation.all_of v (made ∷ young) ≡ (v.blocks ++ reverse young) ++ made ∷ []
+  more_is : relation.blocks_by_serial v (made ∷ young) ≡ (v.blocks ++ reverse young) ++ made ∷ []
   more_is = placed_more v.blocks young made
 
   carried : (o : Option Value) → AreCarried s (v.blocks ++ reverse young) v.registers held o →
@@ -114,7 +114,7 @@ module _ (s : Fixed) (laid : Laid) (v : View) (young : List Placed) (taken left 
       }
 
   -- its address stands for the pointer to it
-  pub made_stands : (w : ℕ) → w ≡ slice_index v.registers 26 + left + 8 → StandsFor s (relation.all_of v (made ∷ young)) w (Block (length a.memory.blocks) 0)
+  pub made_stands : (w : ℕ) → w ≡ slice_index v.registers 26 + left + 8 → StandsFor s (relation.blocks_by_serial v (made ∷ young)) w (Block (length a.memory.blocks) 0)
   made_stands w is =
       let n = within.heap.stand.count in
       let t = top in

@@ -8,24 +8,24 @@ use Rattle.bs_words.specs.declared.values.Value.{Value}
 use Rattle.bs_words.proofs.Lists.{got}
 use Rattle.image_form.specs.Tables.{Desc}
 use Rattle.lin_ir.specs.Meaning.{Locations, are_vals, poisoned}
-use Rattle.mach_ir.specs.Acts.{Around, is_among, is_complete}
+use Rattle.mach_ir.specs.Acts.{Around, is_among_cells, is_complete}
 use Rattle.rv_machine.specs.Frames.{Frame, descriptor_at, registers_named}
 use Rattle.rv_machine.specs.Hart.{Hart, Placed}
-use Rattle.rv_machine.specs.Memory.{Region, word, code_start}
+use Rattle.rv_machine.specs.Memory.{Region, memory_word, code_start}
 use Rattle.rv_machine.specs.Moving.{is_scanned}
-use Rattle.rv_machine.specs.Observation.{cells_of}
-use Rattle.rv_machine.specs.Placement.{end_of}
+use Rattle.rv_machine.specs.Observation.{cells_of_header}
+use Rattle.rv_machine.specs.Placement.{block_end}
 use Rattle.rv_machine.specs.Places.{stack_bottom}
 use Rattle.bs_words.specs.Fits.{data_start}
 use Rattle.rv_machine.specs.Sound.{extents}
-use Rattle.moving_laws.specs.Service.{Contents, IsReady, IsRestored, Knows}
-use Rattle.moving_laws.specs.Stands.{Among}
-use Rattle.moving_laws.specs.Values.{FitsCell, start_of, words_of}
+use Rattle.moving_laws.specs.Service.{Contents, IsServiceReady, IsRestored, Knows}
+use Rattle.moving_laws.specs.Stands.{AmongNumbers}
+use Rattle.moving_laws.specs.Values.{FitsCell, start_of, cells_of_block}
 use Rattle.moving_laws.specs.Waiting.{Chain, TrapsFrom, traps_at}
 use Rattle.moving_laws.specs.Young.{HaveHeads, Rises}
 use Rattle.moving_laws.proofs.Fitting.{val_fits}
 use Rattle.linear_machine.specs.Contents.{blocks_of, header_in, size_in, statics_of}
-use Rattle.linear_machine.specs.Relation.{AreCarried, Below, HeapStands, IsDescribed, IsLocation, Laid, RegistersHold, ReturnStands, StandsFor, Waits, Within, all_of, traps_of, waiting_of}
+use Rattle.linear_machine.specs.Relation.{AreCarried, Below, HeapStands, IsDescribed, IsLocationRegister, Laid, RegistersHold, ReturnStands, StandsFor, Waits, Within, blocks_by_serial, waiting_trap_frames, waiting_of}
 use Rattle.linear_machine.specs.View.{Fixed, IsLike, View}
 use Rattle.linear_machine.proofs.Frames.{named_val, own_chain, own_waits, poisoned_named, poisoned_some, val_held, none_left}
 use Rattle.linear_machine.proofs.Keeping.{heap_kept, traps_at_all, traps_kept, waits_kept}
@@ -55,15 +55,15 @@ within_like s laid v young taken held a c m' like w =
       slots = λ k x h.
           let p = w.slots k x h in
           let same = like.words (slice_index v.registers 2 + (8 * k + 16 * length a.tries)) (λ q. omega (arith, q, lo, high)) in
-          (p.0, subst (λ z. StandsFor s (all_of v young) z x) (sym same) p.1);
+          (p.0, subst (λ z. StandsFor s (blocks_by_serial v young) z x) (sym same) p.1);
       back = return_like laid.saves refl high w.back;
-      waits = waits_kept s (all_of v young) v.memory m' c (λ y l h. like.words y (λ q. omega (arith, q, l, wl, high))) w.waits;
-      traps = traps_kept s (all_of v young) v.memory m' (slice_index v.registers 9) (traps_at (slice_index v.registers 2) (map laid.handler a.tries)) c
+      waits = waits_kept s (blocks_by_serial v young) v.memory m' c (λ y l h. like.words y (λ q. omega (arith, q, l, wl, high))) w.waits;
+      traps = traps_kept s (blocks_by_serial v young) v.memory m' (slice_index v.registers 9) (traps_at (slice_index v.registers 2) (map laid.handler a.tries)) c
           (λ y l h. like.words y (λ q. omega (arith, q, l, wl, high)))
           (traps_at_all _ (slice_index v.registers 2) (map laid.handler a.tries)
           (λ y q h. (like.words y (λ t. omega (arith, t, q, lo, high)), like.words (y + 8) (λ t. omega (arith, t, q, lo, high)))))
           w.waits w.traps;
-      heap = heap_kept s (all_of v young) v.memory m' a (λ y q ne. like.words y ne) (λ y e q. like.held y e (λ t. omega (arith, t, q))) (λ y r. like_readable v.memory m' y like r) w.heap;
+      heap = heap_kept s (blocks_by_serial v young) v.memory m' a (λ y q ne. like.words y ne) (λ y e q. like.held y e (λ t. omega (arith, t, q))) (λ y r. like_readable v.memory m' y like r) w.heap;
     }
   where
     return_like : (b : Bool) → b ≡ laid.saves → 0x38010008 ≤ s.base → ReturnStands b v c → ReturnStands b (record v { memory = m' }) c
@@ -103,7 +103,7 @@ heads_reverse : (m : List Region) (bs : List Placed) → HaveHeads m bs → Have
 heads_reverse m [] h = tt
 heads_reverse m (b ∷ bs) h = subst (HaveHeads m) (sym (reverse-append (b ∷ []) bs)) (heads_append m (reverse bs) (b ∷ []) (heads_reverse m bs h.1) (h.0, tt))
 
-heads_by : (m : List Region) (bs : List Placed) → ((k : ℕ) → k < length bs → cells_of (word m (start_of bs k - 8)) ≡ words_of bs k) → HaveHeads m bs
+heads_by : (m : List Region) (bs : List Placed) → ((k : ℕ) → k < length bs → cells_of_header (memory_word m (start_of bs k - 8)) ≡ cells_of_block bs k) → HaveHeads m bs
 heads_by m [] h = tt
 heads_by m (b ∷ bs) h = (h 0 (omega arith), heads_by m bs (λ k l. h (suc k) (omega (arith, l))))
 
@@ -112,12 +112,12 @@ heads_young m blocks young h = subst (HaveHeads m) (reverse-reverse young) (head
 
 pub rises_top : (a : ℕ) (bs : List Placed) → Rises a bs → a ≤ 0x38010000
 rises_top a [] r = omega (arith, r)
-rises_top a (b ∷ bs) r = let q = rises_top (end_of b) bs r.3 in let e = r.0 in omega (arith, q, e)
+rises_top a (b ∷ bs) r = let q = rises_top (block_end b) bs r.3 in let e = r.0 in omega (arith, q, e)
 
 -- ---- a memory in which every block is whole
 
 header_whole : (a : Around) (k : ℕ) (b : HeapBlock) → is_complete a ≡ true → slice_get a.memory.blocks k ≡ Some b → (blocks_of a).header k ≡ Some b.header
-header_whole a k b whole there = ap (λ u. cond (is_among (InHeader k) u) None (header_in (slice_get a.memory.blocks k))) (none_left a.unwritten whole)
+header_whole a k b whole there = ap (λ u. cond (is_among_cells (InHeader k) u) None (header_in (slice_get a.memory.blocks k))) (none_left a.unwritten whole)
     ∙ ap header_in there
 
 header_one : (b : Bool) (o : Option HeapBlock) (w : ℕ) → cond b None (header_in o) ≡ Some w → (x : HeapBlock) × (o ≡ Some x) × (x.header ≡ w)
@@ -132,7 +132,7 @@ heads_of s v young m a whole h =
     heads_young m v.blocks young (heads_by m (v.blocks ++ reverse young)
     (λ k l. let n = h.stand.count in
     let b = got a.memory.blocks k (omega (arith, l, n)) in
-    ap cells_of (h.stand.header k b.0.header l (header_whole a k b.0 whole b.1)) ∙ h.heads k b.0 b.1 ∙ sym (h.stand.sizes k l ∙ ap size_in b.1)))
+    ap cells_of_header (h.stand.header k b.0.header l (header_whole a k b.0 whole b.1)) ∙ h.heads k b.0 b.1 ∙ sym (h.stand.sizes k l ∙ ap size_in b.1)))
 
 -- ---- before the service
 
@@ -148,25 +148,25 @@ module _ (s : Fixed) (laid : Laid) (v : View) (young : List Placed) (taken : ℕ
   contents = record {
     registers = λ r. poisoned named held (loc.Machine r);
     waiting = waiting_of laid (poisoned named held) a.tries c ∷ c.waiting;
-    traps = traps_at (slice_index v.registers 2) (map laid.handler a.tries) ++ traps_of c.waiting c.frames;
+    traps = traps_at (slice_index v.registers 2) (map laid.handler a.tries) ++ waiting_trap_frames c.waiting c.frames;
     last = stack_bottom;
     blocks = blocks_of a;
     static = statics_of a.memory;
   }
 
-  registers_hold : RegistersHold s (all_of v young) v.registers held
-  registers_hold = subst (λ o. AreCarried s (all_of v young) v.registers held o) none within.carried
+  registers_hold : RegistersHold s (blocks_by_serial v young) v.registers held
+  registers_hold = subst (λ o. AreCarried s (blocks_by_serial v young) v.registers held o) none within.carried
 
-  named_location : (r : ℕ) → Among r (registers_named d.entries) → IsLocation r
+  named_location : (r : ℕ) → AmongNumbers r (registers_named d.entries) → IsLocationRegister r
   named_location r i =
       let h = val_held (data_start + length s.image.bytes) (held (loc.Machine r))
       (named_val (data_start + length s.image.bytes) named held (loc.Machine r) fit (is.from_register r i)) in
       (registers_hold r h.0 h.1).0
 
-  count_is : length a.memory.blocks ≡ length (all_of v young)
+  count_is : length a.memory.blocks ≡ length (blocks_by_serial v young)
   count_is = within.heap.stand.count
 
-  header_there : (k : ℕ) → k < length (all_of v young) → (b : HeapBlock) × (slice_get a.memory.blocks k ≡ Some b)
+  header_there : (k : ℕ) → k < length (blocks_by_serial v young) → (b : HeapBlock) × (slice_get a.memory.blocks k ≡ Some b)
   header_there k l = let n = count_is in got a.memory.blocks k (omega (arith, l, n))
 
   pub knows_of : (h : Hart) → Knows (v.blocks ++ reverse young) (hart_of s v h) (own_frame_of ∷ c.frames) contents (code_start + 4 * v.place + 4)
@@ -197,13 +197,13 @@ module _ (s : Fixed) (laid : Laid) (v : View) (young : List Placed) (taken : ℕ
         settled = record {
           header = λ k l. let b = header_there k l in (b.0.header, header_whole a k b.0 whole b.1);
           cell = λ k j w x l e f.
-              let b = header_one (is_among (InHeader k) a.unwritten) (slice_get a.memory.blocks k) w e in
-              subst (λ q. FitsCell s.image (length (all_of v young)) (is_scanned q) x) b.2 (within.heap.fits k j b.0 x b.1 f);
+              let b = header_one (is_among_cells (InHeader k) a.unwritten) (slice_get a.memory.blocks k) w e in
+              subst (λ q. FitsCell s.image (length (blocks_by_serial v young)) (is_scanned q) x) b.2 (within.heap.fits k j b.0 x b.1 f);
         };
         statics = within.heap.statics;
       }
 
-  pub ready_of : (h : Hart) (from : ℕ) → from ≡ slice_index v.registers 26 + taken → IsReady (hart_of s v h) from young own_frame_of contents.registers
+  pub ready_of : (h : Hart) (from : ℕ) → from ≡ slice_index v.registers 26 + taken → IsServiceReady (hart_of s v h) from young own_frame_of contents.registers
   ready_of h from e =
       let low = within.own.from_low in
       record {
@@ -218,7 +218,7 @@ module _ (s : Fixed) (laid : Laid) (v : View) (young : List Placed) (taken : ℕ
               let n = is.from_register r i in
               let h = val_held (data_start + length s.image.bytes) (held (loc.Machine r))
               (named_val (data_start + length s.image.bytes) named held (loc.Machine r) fit n) in
-              (h.0, poisoned_named named held (loc.Machine r) n ∙ h.1, val_fits s.image (length (all_of v young)) h.0 h.2 (registers_hold r h.0 h.1).1.known);
+              (h.0, poisoned_named named held (loc.Machine r) n ∙ h.1, val_fits s.image (length (blocks_by_serial v young)) h.0 h.2 (registers_hold r h.0 h.1).1.known);
         };
         plain = λ r i. let p = named_location r i in (p.some, p.below, p.no_trap, p.no_young, p.no_domain);
         no_s10 = none_at (poisoned named held (loc.Machine 26)) refl;
@@ -268,7 +268,7 @@ module _ (s : Fixed) (laid : Laid) (v : View) (young : List Placed) (taken : ℕ
         let lo = within.low in
         let return_at : slice_index v.registers 2 + (d.size - 8) ≡ c.top - 8 = omega (arith, f, size, room) in
         let full : slice_index v.registers 2 + d.size ≡ c.top = omega (arith, f, size) in
-        let count : length (all_of v young) ≡ length new.blocks = sym count_is ∙ k.stand.count in
+        let count : length (blocks_by_serial v young) ≡ length new.blocks = sym count_is ∙ k.stand.count in
         record {
           own = record {
             are = k.sound.registers;
@@ -292,10 +292,10 @@ module _ (s : Fixed) (laid : Laid) (v : View) (young : List Placed) (taken : ℕ
               let at : slice_index new.registers 2 + (8 * q + 16 * length a.tries) ≡ slice_index v.registers 2 + (16 * length
               (map laid.handler a.tries) + 8 * q) = omega (arith, e2, n) in (
                 i,
-                subst (λ b. StandsFor s b (word new.memory (slice_index new.registers 2 + (8 * q + 16 * length a.tries))) x) (sym empty)
-                    (record { is = ap (word new.memory) at ∙ own.slot q x i e; known = own.known q x i e }),
+                subst (λ b. StandsFor s b (memory_word new.memory (slice_index new.registers 2 + (8 * q + 16 * length a.tries))) x) (sym empty)
+                    (record { is = ap (memory_word new.memory) at ∙ own.slot q x i e; known = own.known q x i e }),
               );
-          back = subst (λ b. ReturnStands b view_after c) (sym saves) (ap (word new.memory) (sym return_at) ∙ own.back);
+          back = subst (λ b. ReturnStands b view_after c) (sym saves) (ap (memory_word new.memory) (sym return_at) ∙ own.back);
           waits = subst (λ b. Waits s b new.memory c) (sym empty) (record {
             low = within.waits.low;
             high = within.waits.high;
@@ -308,7 +308,7 @@ module _ (s : Fixed) (laid : Laid) (v : View) (young : List Placed) (taken : ℕ
             bottom = again.stays 0x3FFFFFF0 s.stack.high (omega arith) refl (inl (let b = within.waits.bottom in omega (arith, b))) ∙ within.waits.bottom;
           });
           traps = subst (λ q. TrapsFrom s.base new.memory (slice_index new.registers 9)
-              (traps_at q (map laid.handler a.tries) ++ traps_of c.waiting c.frames) stack_bottom) (sym e2) k.traps;
+              (traps_at q (map laid.handler a.tries) ++ waiting_trap_frames c.waiting c.frames) stack_bottom) (sym e2) k.traps;
           heap = subst (λ b. HeapStands s b new.memory a) (sym empty) (record {
             old = k.old;
             readable = again.blocks_readable;

@@ -5,12 +5,12 @@ use Rattle.bs_words.specs.declared.types.Loc.TheVariants as loc
 use Rattle.bs_words.specs.declared.values.Value.{Value}
 use Rattle.mach_ir.specs.Acts.{Around}
 use Rattle.rv_machine.specs.Hart.{Placed}
-use Rattle.lin_ir.specs.Meaning.{Locations, put, same_loc}
+use Rattle.lin_ir.specs.Meaning.{Locations, assign_spot, same_loc}
 use Rattle.lin_ir.specs.declared.lin.Spot.{Spot}
-use Rattle.moving_laws.specs.Stands.{Among}
+use Rattle.moving_laws.specs.Stands.{AmongNumbers}
 use Rattle.linear_machine.specs.Files.{HoldsLess, IsPut}
-use Rattle.linear_machine.specs.Relation.{AreCarried, Below, IsLocation, Laid, StandsFor, Within, all_of}
-use Rattle.linear_machine.specs.Straight.{Changes, Comes}
+use Rattle.linear_machine.specs.Relation.{AreCarried, Below, IsLocationRegister, Laid, StandsFor, Within, blocks_by_serial}
+use Rattle.linear_machine.specs.Straight.{Changes, LeadsFurther}
 use Rattle.linear_machine.specs.View.{Fixed, View}
 use Rattle.linear_machine.proofs.Following.{put_is, same_loc-machine, same_loc-true}
 use Rattle.linear_machine.proofs.Parts.{Fetches, Keeps, changes_come, comes_then}
@@ -35,7 +35,7 @@ pub record IsTarget (held rest : Locations) (r : ℕ) : Type 0 where
   pub free : IsFree r
   pub off : (x : Value) → rest (loc.Machine r) ≡ Some x → ⊥
 
-pub target_register : (held : Locations) (r : ℕ) → IsLocation r → IsTarget held (dropped r held) r
+pub target_register : (held : Locations) (r : ℕ) → IsLocationRegister r → IsTarget held (dropped r held) r
 target_register held r is = record {
   less = record { each = λ l x h. (dropped_some r held l x h).1 };
   free = location_free r is;
@@ -43,7 +43,7 @@ target_register held r is = record {
 }
 
 -- and is written there
-pub target_put : (spot : Spot) (r : ℕ) (x : Value) (held : Locations) → spot.loc ≡ loc.Machine r → IsPut (loc.Machine r) x (dropped r held) (put spot x held)
+pub target_put : (spot : Spot) (r : ℕ) (x : Value) (held : Locations) → spot.loc ≡ loc.Machine r → IsPut (loc.Machine r) x (dropped r held) (assign_spot spot x held)
 target_put spot r x held e =
     let p = put_is spot x held (subst (λ l. same_loc l l ≡ true) (sym e) (same_loc-machine r)) in
     record {
@@ -65,7 +65,7 @@ module _ (s : Fixed) (laid : Laid) (v : View) (young : List Placed) (held : Loca
     (within : Within s laid v young 0 held a c) where
   pub scratch_off : (q : ℕ) (x : Value) → IsScratch q → held (loc.Machine q) ≡ Some x → ⊥
   scratch_off q x scratch h =
-      let is : IsLocation q = ((subst (λ o. AreCarried s (all_of v young) v.registers held o) none within.carried) q x h).0 in
+      let is : IsLocationRegister q = ((subst (λ o. AreCarried s (blocks_by_serial v young) v.registers held o) none within.carried) q x h).0 in
       ⊎_elim (λ e. is.no_scratch.0 e) (λ e. is.no_scratch.1 e) scratch
 
   pub target_slot : (q : ℕ) → IsScratch q → IsTarget held held q
@@ -75,17 +75,17 @@ module _ (s : Fixed) (laid : Laid) (v : View) (young : List Placed) (held : Loca
 
 module _ (s : Fixed) (laid : Laid) (young : List Placed) (a : Around) (c : Below) (none : a.raised ≡ None) (held rest held' : Locations) where
   -- work in registers that leaves a value in one
-  module _ (place n t : ℕ) (rs : List ℕ) (z : Value) (target : IsTarget held rest t) (only : (q : ℕ) → Among q rs → (q ≡ t) ⊎ IsScratch q) (m : ℕ)
+  module _ (place n t : ℕ) (rs : List ℕ) (z : Value) (target : IsTarget held rest t) (only : (q : ℕ) → AmongNumbers q rs → (q ≡ t) ⊎ IsScratch q) (m : ℕ)
       (keeps : Keeps s laid young a c rest held' (place + n) m t z) where
     pub worked : (v : View) → v.place ≡ place → Within s laid v young 0 held a c →
-        Changes s v n rs v.memory (λ w. StandsFor s (all_of v young) (slice_index w.registers t) z) →
-        Comes s v (n + m) (λ w. Within s laid w young 0 held' a c)
+        Changes s v n rs v.memory (λ w. StandsFor s (blocks_by_serial v young) (slice_index w.registers t) z) →
+        LeadsFurther s v (n + m) (λ w. Within s laid w young 0 held' a c)
     worked v p within work =
-        comes_then s v n m (λ w. Within s laid w young 0 rest a c × StandsFor s (all_of w young) (slice_index w.registers t) z)
+        comes_then s v n m (λ w. Within s laid w young 0 rest a c × StandsFor s (blocks_by_serial w young) (slice_index w.registers t) z)
         (λ w. Within s laid w young 0 held' a c)
         (changes_come s v n rs v.memory _ _ (λ w past stands.
-        let free : (q : ℕ) → Among q rs → IsFree q = λ q i. ⊎_elim (λ e. subst IsFree (sym e) target.free) (λ e. scratch_free q e) (only q i) in
-        let off : a.raised ≡ None → (q : ℕ) (x : Value) → Among q rs → rest (loc.Machine q) ≡ Some x → ⊥ = λ e q x i h.
+        let free : (q : ℕ) → AmongNumbers q rs → IsFree q = λ q i. ⊎_elim (λ e. subst IsFree (sym e) target.free) (λ e. scratch_free q e) (only q i) in
+        let off : a.raised ≡ None → (q : ℕ) (x : Value) → AmongNumbers q rs → rest (loc.Machine q) ≡ Some x → ⊥ = λ e q x i h.
         ⊎_elim (λ f. target.off x (subst (λ k. rest (loc.Machine k) ≡ Some x) f h))
         (λ f. scratch_off s laid v young held a c none within q x f (target.less.each (loc.Machine q) x h)) (only q i) in (
           within_changed s laid v w young 0 held rest a c n rs past free target.less off (inl none) within,
@@ -97,16 +97,16 @@ module _ (s : Fixed) (laid : Laid) (young : List Placed) (a : Around) (c : Below
 
   -- one operand
   module _ (place n1 n m ra t : ℕ) (scratch rs : List ℕ) (x z : Value) (first : Fetches s laid young a c held place n1 scratch ra x)
-      (target : IsTarget held rest t) (only : (q : ℕ) → Among q rs → (q ≡ t) ⊎ IsScratch q) (keeps : Keeps s laid young a c rest held' (place + n1 + n) m t z)
-      (work : (v : View) → v.place ≡ place + n1 → Within s laid v young 0 held a c → StandsFor s (all_of v young) (slice_index v.registers ra) x →
-      Changes s v n rs v.memory (λ w. StandsFor s (all_of v young) (slice_index w.registers t) z)) where
-    pub unary : (v : View) → v.place ≡ place → Within s laid v young 0 held a c → Comes s v (n1 + (n + m)) (λ w. Within s laid w young 0 held' a c)
+      (target : IsTarget held rest t) (only : (q : ℕ) → AmongNumbers q rs → (q ≡ t) ⊎ IsScratch q) (keeps : Keeps s laid young a c rest held' (place + n1 + n) m t z)
+      (work : (v : View) → v.place ≡ place + n1 → Within s laid v young 0 held a c → StandsFor s (blocks_by_serial v young) (slice_index v.registers ra) x →
+      Changes s v n rs v.memory (λ w. StandsFor s (blocks_by_serial v young) (slice_index w.registers t) z)) where
+    pub unary : (v : View) → v.place ≡ place → Within s laid v young 0 held a c → LeadsFurther s v (n1 + (n + m)) (λ w. Within s laid w young 0 held' a c)
     unary v p within =
-        comes_then s v n1 (n + m) (λ w. Within s laid w young 0 held a c × StandsFor s (all_of w young) (slice_index w.registers ra) x)
+        comes_then s v n1 (n + m) (λ w. Within s laid w young 0 held a c × StandsFor s (blocks_by_serial w young) (slice_index w.registers ra) x)
         (λ w. Within s laid w young 0 held' a c)
         (changes_come s v n1 scratch v.memory _ _ (λ w past stands. (
           within_past s laid v w young 0 held a c n1 scratch past first.are within,
-          (let same : all_of w young ≡ all_of v young = ap (λ bs. all_of (record v { blocks = bs }) young) past.blocks in subst (λ b. StandsFor s b
+          (let same : blocks_by_serial w young ≡ blocks_by_serial v young = ap (λ bs. blocks_by_serial (record v { blocks = bs }) young) past.blocks in subst (λ b. StandsFor s b
               (slice_index w.registers ra) x) (sym same) stands),
         ))
         (first.by v p within))
@@ -114,32 +114,32 @@ module _ (s : Fixed) (laid : Laid) (young : List Placed) (a : Around) (c : Below
 
   -- two operands
   module _ (place n1 n2 n m ra rb t : ℕ) (scratch1 scratch2 rs : List ℕ) (x y z : Value) (first : Fetches s laid young a c held place n1 scratch1 ra x)
-      (second : Fetches s laid young a c held (place + n1) n2 scratch2 rb y) (apart : Among ra scratch2 → ⊥)
-      (target : IsTarget held rest t) (only : (q : ℕ) → Among q rs → (q ≡ t) ⊎ IsScratch q)
+      (second : Fetches s laid young a c held (place + n1) n2 scratch2 rb y) (apart : AmongNumbers ra scratch2 → ⊥)
+      (target : IsTarget held rest t) (only : (q : ℕ) → AmongNumbers q rs → (q ≡ t) ⊎ IsScratch q)
       (keeps : Keeps s laid young a c rest held' (place + n1 + n2 + n) m t z)
-      (work : (v : View) → v.place ≡ place + n1 + n2 → Within s laid v young 0 held a c → StandsFor s (all_of v young) (slice_index v.registers ra) x →
-      StandsFor s (all_of v young) (slice_index v.registers rb) y →
-      Changes s v n rs v.memory (λ w. StandsFor s (all_of v young) (slice_index w.registers t) z)) where
-    pub binary : (v : View) → v.place ≡ place → Within s laid v young 0 held a c → Comes s v (n1 + (n2 + (n + m))) (λ w. Within s laid w young 0 held' a c)
+      (work : (v : View) → v.place ≡ place + n1 + n2 → Within s laid v young 0 held a c → StandsFor s (blocks_by_serial v young) (slice_index v.registers ra) x →
+      StandsFor s (blocks_by_serial v young) (slice_index v.registers rb) y →
+      Changes s v n rs v.memory (λ w. StandsFor s (blocks_by_serial v young) (slice_index w.registers t) z)) where
+    pub binary : (v : View) → v.place ≡ place → Within s laid v young 0 held a c → LeadsFurther s v (n1 + (n2 + (n + m))) (λ w. Within s laid w young 0 held' a c)
     binary v p within =
-        comes_then s v n1 (n2 + (n + m)) (λ w. Within s laid w young 0 held a c × StandsFor s (all_of w young) (slice_index w.registers ra) x)
+        comes_then s v n1 (n2 + (n + m)) (λ w. Within s laid w young 0 held a c × StandsFor s (blocks_by_serial w young) (slice_index w.registers ra) x)
         (λ w. Within s laid w young 0 held' a c)
         (changes_come s v n1 scratch1 v.memory _ _ (λ w past stands. (
           within_past s laid v w young 0 held a c n1 scratch1 past first.are within,
-          (let same : all_of w young ≡ all_of v young = ap (λ bs. all_of (record v { blocks = bs }) young) past.blocks in subst (λ b. StandsFor s b
+          (let same : blocks_by_serial w young ≡ blocks_by_serial v young = ap (λ bs. blocks_by_serial (record v { blocks = bs }) young) past.blocks in subst (λ b. StandsFor s b
               (slice_index w.registers ra) x) (sym same) stands),
         ))
         (first.by v p within))
         (λ w q both.
         comes_then s w n2 (n + m)
-        (λ u. Within s laid u young 0 held a c × StandsFor s (all_of u young) (slice_index u.registers ra) x × StandsFor s (all_of u young)
+        (λ u. Within s laid u young 0 held a c × StandsFor s (blocks_by_serial u young) (slice_index u.registers ra) x × StandsFor s (blocks_by_serial u young)
         (slice_index u.registers rb) y)
         (λ u. Within s laid u young 0 held' a c)
         (changes_come s w n2 scratch2 w.memory _ _ (λ u past stands.
-        let same : all_of u young ≡ all_of w young = ap (λ bs. all_of (record w { blocks = bs }) young) past.blocks in
+        let same : blocks_by_serial u young ≡ blocks_by_serial w young = ap (λ bs. blocks_by_serial (record w { blocks = bs }) young) past.blocks in
         let kept : slice_index u.registers ra ≡ slice_index w.registers ra = past.others ra apart in (
           within_past s laid w u young 0 held a c n2 scratch2 past second.are both.0,
-          subst (λ b. StandsFor s b (slice_index u.registers ra) x) (sym same) (subst (λ k. StandsFor s (all_of w young) k x) (sym kept) both.1),
+          subst (λ b. StandsFor s b (slice_index u.registers ra) x) (sym same) (subst (λ k. StandsFor s (blocks_by_serial w young) k x) (sym kept) both.1),
           subst (λ b. StandsFor s b (slice_index u.registers rb) y) (sym same) stands,
         ))
         (second.by w (omega (arith, q, p)) both.0))

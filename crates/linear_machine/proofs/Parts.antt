@@ -11,10 +11,10 @@ use Rattle.rv_isa.specs.declared.instr.LoadWidth.TheVariants.{Ld}
 use Rattle.rv_isa.specs.declared.instr.StoreWidth.TheVariants.{Sd}
 use Rattle.rv_machine.specs.Hart.{Placed}
 use Rattle.rv_machine.specs.Memory.{Region}
-use Rattle.moving_laws.specs.Stands.{Among}
+use Rattle.moving_laws.specs.Stands.{AmongNumbers}
 use Rattle.linear_machine.specs.Files.{IsPut}
-use Rattle.linear_machine.specs.Relation.{Below, IsLocation, Laid, StandsFor, Within, all_of}
-use Rattle.linear_machine.specs.Straight.{Changes, Comes, IsPast}
+use Rattle.linear_machine.specs.Relation.{Below, IsLocationRegister, Laid, StandsFor, Within, blocks_by_serial}
+use Rattle.linear_machine.specs.Straight.{Changes, LeadsFurther, IsPast}
 use Rattle.linear_machine.specs.View.{Fixed, View, HasCode}
 use Rattle.linear_machine.proofs.Locations.{put_far, put_near, read_far, read_near, read_register}
 use Rattle.linear_machine.proofs.Sequences.{no_change, widened}
@@ -24,15 +24,15 @@ use Rattle.linear_machine.proofs.Steps.{stays, then_leads}
 
 -- ---- where one comes
 
-pub comes_here : (s : Fixed) (v : View) (P : View → Type 0) → P v → Comes s v 0 P
+pub comes_here : (s : Fixed) (v : View) (P : View → Type 0) → P v → LeadsFurther s v 0 P
 comes_here s v P p = record { view = v; leads = stays s v; place = omega arith; holds = p }
 
 pub changes_come : (s : Fixed) (v : View) (n : ℕ) (rs : List ℕ) (m : List Region) (P Q : View → Type 0) → ((w : View) → IsPast n rs m v w → P w → Q w) →
-    Changes s v n rs m P → Comes s v n Q
+    Changes s v n rs m P → LeadsFurther s v n Q
 changes_come s v n rs m P Q then' c = record { view = c.view; leads = c.leads; place = c.past.place; holds = then' c.view c.past c.holds }
 
-pub comes_then : (s : Fixed) (v : View) (n k : ℕ) (P Q : View → Type 0) → Comes s v n P → ((w : View) → w.place ≡ v.place + n → P w → Comes s w k Q) →
-    Comes s v (n + k) Q
+pub comes_then : (s : Fixed) (v : View) (n k : ℕ) (P Q : View → Type 0) → LeadsFurther s v n P → ((w : View) → w.place ≡ v.place + n → P w → LeadsFurther s w k Q) →
+    LeadsFurther s v (n + k) Q
 comes_then s v n k P Q first next =
     let second = next first.view first.place first.holds in
     record {
@@ -49,18 +49,18 @@ module _ (s : Fixed) (laid : Laid) (young : List Placed) (a : Around) (c : Below
   pub record Fetches (held : Loc → Option Value) (place n : ℕ) (scratch : List ℕ) (r : ℕ) (x : Value) : Type 0 where
     pub are : AreScratch scratch
     pub by : (v : View) → v.place ≡ place → Within s laid v young 0 held a c →
-        Changes s v n scratch v.memory (λ w. StandsFor s (all_of v young) (slice_index w.registers r) x)
+        Changes s v n scratch v.memory (λ w. StandsFor s (blocks_by_serial v young) (slice_index w.registers r) x)
 
   pub fetch_register : (held : Loc → Option Value) (place r : ℕ) (x : Value) → a.raised ≡ None → held (loc.Machine r) ≡ Some x → Fetches held place 0 [] r x
   fetch_register held place r x none h = record {
     are = λ q i. absurd i;
-    by = λ v p within. no_change s v [] (λ w. StandsFor s (all_of v young)
+    by = λ v p within. no_change s v [] (λ w. StandsFor s (blocks_by_serial v young)
         (slice_index w.registers r) x) within.own.are (read_register s laid v young 0 held a c within r x none h).1;
   }
 
   -- into t1 or t2
   module _ (held : Loc → Option Value) (place k r : ℕ) (x : Value) (scratch : IsScratch (suc r)) (h : held (loc.Slot k) ≡ Some x) where
-    one_scratch : (q : ℕ) → Among q (suc r ∷ []) → IsScratch q
+    one_scratch : (q : ℕ) → AmongNumbers q (suc r ∷ []) → IsScratch q
     one_scratch q (inl e) = subst IsScratch (sym e) scratch
     one_scratch q (inr i) = absurd i
 
@@ -94,11 +94,11 @@ module _ (s : Fixed) (laid : Laid) (young : List Placed) (a : Around) (c : Below
 
   -- From a place on a value in a register is kept: this is held, and then that.
   pub record Keeps (held held' : Loc → Option Value) (place n r : ℕ) (x : Value) : Type 0 where
-    pub by : (v : View) → v.place ≡ place → Within s laid v young 0 held a c → StandsFor s (all_of v young) (slice_index v.registers r) x →
-        Comes s v n (λ w. Within s laid w young 0 held' a c)
+    pub by : (v : View) → v.place ≡ place → Within s laid v young 0 held a c → StandsFor s (blocks_by_serial v young) (slice_index v.registers r) x →
+        LeadsFurther s v n (λ w. Within s laid w young 0 held' a c)
 
   -- the register is the location
-  pub keep_register : (held held' : Loc → Option Value) (place r : ℕ) (x : Value) → a.raised ≡ None → IsLocation r → IsPut (loc.Machine r) x held held' →
+  pub keep_register : (held held' : Loc → Option Value) (place r : ℕ) (x : Value) → a.raised ≡ None → IsLocationRegister r → IsPut (loc.Machine r) x held held' →
       Keeps held held' place 0 r x
   keep_register held held' place r x none is put = record {
     by = λ v p within stands. comes_here s v (λ w. Within s laid w young 0 held' a c)
@@ -113,7 +113,7 @@ module _ (s : Fixed) (laid : Laid) (young : List Placed) (a : Around) (c : Below
       by = λ v p within stands.
           changes_come s v 1 [] _ _ (λ w. Within s laid w young 0 held' a c) (λ w past e. e)
           (put_near s laid v young 0 held a c within 0 [] x held' r k other i (λ q j. absurd j) put
-          (no_change s v [] (λ w. StandsFor s (all_of v young) (slice_index w.registers (suc r)) x) within.own.are stands) small
+          (no_change s v [] (λ w. StandsFor s (blocks_by_serial v young) (slice_index w.registers (suc r)) x) within.own.are stands) small
           (let e : place ≡ v.place + 0 = omega (arith, p) in subst (λ z. HasCode s z (Store Sd 2 (suc r) ((8 * k + 16 * length a.tries) % 4096) ∷ [])) e code));
     }
 
@@ -126,7 +126,7 @@ module _ (s : Fixed) (laid : Laid) (young : List Placed) (a : Around) (c : Below
       by = λ v p within stands.
           changes_come s v 3 (7 ∷ []) _ _ (λ w. Within s laid w young 0 held' a c) (λ w past e. e)
           (put_far s laid v young 0 held a c within 0 (7 ∷ []) x held' r k other i (λ q j. ⊎_elim (λ e. inr e) (λ f. absurd f) j) put
-          (no_change s v (7 ∷ []) (λ w. StandsFor s (all_of v young) (slice_index w.registers (suc r)) x) within.own.are stands) (inl refl) small
+          (no_change s v (7 ∷ []) (λ w. StandsFor s (blocks_by_serial v young) (slice_index w.registers (suc r)) x) within.own.are stands) (inl refl) small
           (let e : place ≡ v.place + 0 = omega (arith, p) in
           subst (λ z. HasCode s z (Lui 7 (above_12 (8 * k + 16 * length a.tries) % 2 ^ 20) ∷ Op Add 7 7 2 ∷ Store Sd 7 (suc r)
           ((8 * k + 16 * length a.tries) % 4096) ∷ [])) e code));

@@ -21,7 +21,7 @@ use Rattle.machine_laws.proofs.Values.{alu-below}
 use Rattle.moving_laws.specs.Heap.{AreBlocks}
 use Rattle.linear_machine.specs.Relation.{StandsFor}
 use Rattle.linear_machine.specs.Straight.{Changes}
-use Rattle.linear_machine.specs.View.{Fixed, View, IsCode}
+use Rattle.linear_machine.specs.View.{Fixed, View, IsInstructionAt}
 use Rattle.linear_machine.proofs.Formats.{sets_imm, sets_op, sets_shift}
 use Rattle.machine_laws.proofs.Immediates.{high_12, low_12}
 use Rattle.linear_machine.proofs.Operators.{IsRowOf}
@@ -33,7 +33,7 @@ module _ (s : Fixed) (placed : List Placed) (blocks : AreBlocks placed) (sizes :
     (e : apply f sizes x y ≡ Ok z) (t ra : ℕ) (fits : suc t < 32) (other : suc t ≢ 2) (sx : StandsFor s placed (slice_index u.registers (suc ra)) x) where
   -- ---- of two registers
 
-  pub row_works : (rb : ℕ) → StandsFor s placed (slice_index u.registers (suc rb)) y → IsCode s u.place (Op r (suc t) (suc ra) (suc rb)) →
+  pub row_works : (rb : ℕ) → StandsFor s placed (slice_index u.registers (suc rb)) y → IsInstructionAt s u.place (Op r (suc t) (suc ra) (suc rb)) →
       Changes s u 1 (suc t ∷ []) u.memory (λ w. StandsFor s placed (slice_index w.registers (suc t)) z)
   row_works rb sy code =
       let wx : ℕ = slice_index u.registers (suc ra) in
@@ -48,7 +48,7 @@ module _ (s : Fixed) (placed : List Placed) (blocks : AreBlocks placed) (sizes :
   -- ---- of a register and a constant, whatever instruction does the row's work with it
 
   pub constant_works : (k : ℕ) (i : _) → y ≡ Word k → k < 2 ^ 64 → SetsRegister s u i (suc t) (alu r (slice_index u.registers (suc ra)) k) →
-      IsCode s u.place i →
+      IsInstructionAt s u.place i →
       Changes s u 1 (suc t ∷ []) u.memory (λ w. StandsFor s placed (slice_index w.registers (suc t)) z)
   constant_works k i same small sets code =
       let wx : ℕ = slice_index u.registers (suc ra) in

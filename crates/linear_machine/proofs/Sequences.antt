@@ -7,13 +7,13 @@ use Rattle.rv_isa.specs.declared.instr.LoadWidth.TheVariants.{Ld}
 use Rattle.rv_isa.specs.declared.instr.StoreWidth.TheVariants.{Sd}
 use Rattle.bs_words.specs.Word.{add_word}
 use Rattle.rv_machine.specs.Arithmetic.{imm_i}
-use Rattle.rv_machine.specs.Memory.{Region, word, write}
+use Rattle.rv_machine.specs.Memory.{Region, memory_word, write}
 use Rattle.rv_machine.specs.Sound.{AreRegisters, IsRegion}
 use Rattle.machine_laws.proofs.Words.{with_registers}
-use Rattle.moving_laws.specs.Stands.{Among}
+use Rattle.moving_laws.specs.Stands.{AmongNumbers}
 use Rattle.moving_laws.specs.Words.{IsReadable}
 use Rattle.linear_machine.specs.Straight.{Changes, IsPast}
-use Rattle.linear_machine.specs.View.{Fixed, View, IsCode}
+use Rattle.linear_machine.specs.View.{Fixed, View, IsInstructionAt}
 use Rattle.linear_machine.proofs.Formats.{sets_load, store_step, stored_in}
 use Rattle.linear_machine.proofs.Steps.{Passes, SetsRegister, reg, reg_below, set_in, set_step, stays, then_leads}
 
@@ -28,7 +28,7 @@ no_change s v rs P are p = record {
 
 -- one that sets a register
 pub set_changes :
-    (s : Fixed) (v : View) (i : Instr) (r value : ℕ) → IsCode s v.place i → Passes s (suc r) value → SetsRegister s v i (suc r) value →
+    (s : Fixed) (v : View) (i : Instr) (r value : ℕ) → IsInstructionAt s v.place i → Passes s (suc r) value → SetsRegister s v i (suc r) value →
     AreRegisters v.registers → suc r < 32 → value < 2 ^ 64 →
     Changes s v 1 (suc r ∷ []) v.memory (λ w. slice_index w.registers (suc r) ≡ value)
 set_changes s v i r value code passes sets are fits small =
@@ -48,7 +48,7 @@ set_changes s v i r value code passes sets are fits small =
 
 -- one that stores 8 bytes
 pub store_changes :
-    (s : Fixed) (v : View) (ra rb imm x : ℕ) → IsCode s v.place (Store Sd ra rb imm) → add_word (reg v.registers ra) (imm_i imm) ≡ x →
+    (s : Fixed) (v : View) (ra rb imm x : ℕ) → IsInstructionAt s v.place (Store Sd ra rb imm) → add_word (reg v.registers ra) (imm_i imm) ≡ x →
     x ≢ 0x20000000 → AllByRecursion IsRegion v.memory → IsReadable v.memory x → AreRegisters v.registers →
     Changes s v 1 [] (write v.memory x (reg v.registers rb)) (λ w. w.registers ≡ v.registers)
 store_changes s v ra rb imm x code e off regions readable are = record {
@@ -61,7 +61,7 @@ store_changes s v ra rb imm x code e off regions readable are = record {
 -- ---- the same, seen otherwise
 
 pub widened :
-    (s : Fixed) (v : View) (n : ℕ) (rs rs' : List ℕ) (m : List Region) (P Q : View → Type 0) → ((q : ℕ) → Among q rs → Among q rs') →
+    (s : Fixed) (v : View) (n : ℕ) (rs rs' : List ℕ) (m : List Region) (P Q : View → Type 0) → ((q : ℕ) → AmongNumbers q rs → AmongNumbers q rs') →
     ((w : View) → IsPast n rs' m v w → P w → Q w) → Changes s v n rs m P → Changes s v n rs' m Q
 widened s v n rs rs' m P Q sub then' c =
     let past : IsPast n rs' m v c.view = record {
@@ -101,8 +101,8 @@ pub then_changes :
 then_changes s v n k rs m m' P Q first next = then_here s v n k rs m m' P Q first (next first.view first.past first.holds)
 
 -- the code is further on, too
-pub code_past : (s : Fixed) (n : ℕ) (rs : List ℕ) (m : List Region) (v w : View) (i : Instr) → IsPast n rs m v w → IsCode s (v.place + n) i → IsCode s w.place i
-code_past s n rs m v w i p c = subst (λ q. IsCode s q i) (sym p.place) c
+pub code_past : (s : Fixed) (n : ℕ) (rs : List ℕ) (m : List Region) (v w : View) (i : Instr) → IsPast n rs m v w → IsInstructionAt s (v.place + n) i → IsInstructionAt s w.place i
+code_past s n rs m v w i p c = subst (λ q. IsInstructionAt s q i) (sym p.place) c
 
 pub sets_as : (s : Fixed) (v : View) (i : Instr) (rd x y : ℕ) → x ≡ y → SetsRegister s v i rd x → SetsRegister s v i rd y
 sets_as s v i rd x y e sets = subst (λ z. SetsRegister s v i rd z) e sets
@@ -110,7 +110,7 @@ sets_as s v i rd x y e sets = subst (λ z. SetsRegister s v i rd z) e sets
 -- and then one that sets a register
 pub set_then :
     (s : Fixed) (v : View) (n : ℕ) (rs : List ℕ) (m : List Region) (P : View → Type 0) (i : Instr) (r value : ℕ) → Changes s v n rs m P →
-    Among (suc r) rs → ((w : View) → IsPast n rs m v w → P w → SetsRegister s w i (suc r) value) → IsCode s (v.place + n) i →
+    AmongNumbers (suc r) rs → ((w : View) → IsPast n rs m v w → P w → SetsRegister s w i (suc r) value) → IsInstructionAt s (v.place + n) i →
     Passes s (suc r) value → suc r < 32 → value < 2 ^ 64 →
     Changes s v (n + 1) rs m (λ w. slice_index w.registers (suc r) ≡ value)
 set_then s v n rs m P i r value first among sets code passes fits small =
@@ -119,14 +119,14 @@ set_then s v n rs m P i r value first among sets code passes fits small =
     (widened s w 1 (suc r ∷ []) rs w.memory (λ u. slice_index u.registers (suc r) ≡ value) (λ u. slice_index u.registers (suc r) ≡ value) sub (λ u q f. f)
     (set_changes s w i r value (code_past s n rs m v w i past code) passes (sets w past p) past.are fits small)))
   where
-    sub : (q : ℕ) → Among q (suc r ∷ []) → Among q rs
-    sub q (inl e) = subst (λ k. Among k rs) (sym e) among
+    sub : (q : ℕ) → AmongNumbers q (suc r ∷ []) → AmongNumbers q rs
+    sub q (inl e) = subst (λ k. AmongNumbers k rs) (sym e) among
     sub q (inr e) = absurd e
 
 -- and what every other register holds stays
 pub set_more :
     (s : Fixed) (v : View) (n : ℕ) (rs : List ℕ) (m : List Region) (P : View → Type 0) (i : Instr) (r value : ℕ) (first : Changes s v n rs m P) →
-    Among (suc r) rs → SetsRegister s first.view i (suc r) value → IsCode s (v.place + n) i → Passes s (suc r) value → suc r < 32 → value < 2 ^ 64 →
+    AmongNumbers (suc r) rs → SetsRegister s first.view i (suc r) value → IsInstructionAt s (v.place + n) i → Passes s (suc r) value → suc r < 32 → value < 2 ^ 64 →
     Changes s v (n + 1) rs m (λ w. (slice_index w.registers (suc r) ≡ value)
     × ((q : ℕ) → q ≢ suc r → slice_index w.registers q ≡ slice_index first.view.registers q))
 set_more s v n rs m P i r value first among sets code passes fits small =
@@ -137,7 +137,7 @@ set_more s v n rs m P i r value first among sets code passes fits small =
     × ((q : ℕ) → q ≢ suc r → slice_index w.registers q ≡ slice_index u.registers q))) first.past.memory
     (widened s u 1 (suc r ∷ []) rs u.memory
     (λ w. (slice_index w.registers (suc r) ≡ value) × ((q : ℕ) → q ≢ suc r → slice_index w.registers q ≡ slice_index u.registers q)) _
-    (λ q j. ⊎_elim (λ e. subst (λ k. Among k rs) (sym e) among) (λ f. absurd f) j) (λ w p x. x)
+    (λ q j. ⊎_elim (λ e. subst (λ k. AmongNumbers k rs) (sym e) among) (λ f. absurd f) j) (λ w p x. x)
     (widened s u 1 (suc r ∷ []) (suc r ∷ []) u.memory (λ w. slice_index w.registers (suc r) ≡ value) _ (λ q j. j)
     (λ w p x. (x, λ q ne. p.others q (λ j. ⊎_elim ne (λ f. f) j)))
     (set_changes s u i r value (code_past s n rs m v u i first.past code) passes sets first.past.are fits small))))
@@ -146,15 +146,15 @@ set_more s v n rs m P i r value first among sets code passes fits small =
 pub load_there :
     (s : Fixed) (v : View) (n : ℕ) (rs : List ℕ) (m : List Region) (P : View → Type 0) (first : Changes s v n rs m P) (rd ra imm x : ℕ) →
     add_word (reg first.view.registers ra) (imm_i imm) ≡ x → x ≢ 0x20000000 → 0x10000000 ≤ x → IsReadable m x →
-    SetsRegister s first.view (Load Ld rd ra imm) rd (word m x)
+    SetsRegister s first.view (Load Ld rd ra imm) rd (memory_word m x)
 load_there s v n rs m P first rd ra imm x e off low readable =
-    subst (λ k. SetsRegister s first.view (Load Ld rd ra imm) rd (word k x)) first.past.memory
+    subst (λ k. SetsRegister s first.view (Load Ld rd ra imm) rd (memory_word k x)) first.past.memory
     (sets_load s first.view rd ra imm x e off low (subst (λ k. IsReadable k x) (sym first.past.memory) readable))
 
 -- a store after them
 pub store_more :
     (s : Fixed) (v : View) (n : ℕ) (rs : List ℕ) (m : List Region) (P : View → Type 0) (first : Changes s v n rs m P) (ra rb imm x value : ℕ) →
-    IsCode s (v.place + n) (Store Sd ra rb imm) → add_word (reg first.view.registers ra) (imm_i imm) ≡ x → reg first.view.registers rb ≡ value →
+    IsInstructionAt s (v.place + n) (Store Sd ra rb imm) → add_word (reg first.view.registers ra) (imm_i imm) ≡ x → reg first.view.registers rb ≡ value →
     x ≢ 0x20000000 → AllByRecursion IsRegion m → IsReadable m x → Changes s v (n + 1) rs (write m x value) (λ w. w.registers ≡ first.view.registers)
 store_more s v n rs m P first ra rb imm x value code e value_is off regions readable =
     let u = first.view in

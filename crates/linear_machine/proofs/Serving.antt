@@ -8,7 +8,7 @@ use Rattle.image_form.specs.Tables.{Desc}
 use Rattle.lin_ir.specs.Meaning.{Locations, are_vals, poisoned}
 use Rattle.mach_ir.specs.Acts.{Around, is_complete}
 use Rattle.rv_isa.specs.declared.instr.Instr.TheVariants.{Ecall}
-use Rattle.rv_machine.specs.Allocation.{allocated, is_request, young_from}
+use Rattle.rv_machine.specs.Allocation.{allocation_served, is_request, young_from}
 use Rattle.rv_machine.specs.FrameCalls.{collected}
 use Rattle.rv_machine.specs.Frames.{descriptor_at}
 use Rattle.rv_machine.specs.Hart.{Hart, Placed}
@@ -18,12 +18,12 @@ use Rattle.rv_machine.specs.Placement.{bytes_used}
 use Rattle.bs_words.specs.Fits.{data_start}
 use Rattle.rv_machine.specs.Relocation.{Goes, NoHeap}
 use Rattle.rv_machine.specs.Services.{Going, HeapOut, Machine, Over, after_allocation, served}
-use Rattle.moving_laws.specs.Service.{IsAllocated, IsCollected, IsRestored}
+use Rattle.moving_laws.specs.Service.{IsAllocationServed, IsCollected, IsRestored}
 use Rattle.moving_laws.proofs.Moving.{allocates, allocates_not, collects, collects_not}
 use Rattle.moving_laws.proofs.Walk.{sum_small}
 use Rattle.linear_machine.specs.Arrival.{Arrives, Needs}
 use Rattle.linear_machine.specs.Relation.{Below, IsDescribed, Laid, Within}
-use Rattle.linear_machine.specs.View.{Ends, Fixed, IsCode, Stands, View}
+use Rattle.linear_machine.specs.View.{EndsRunAfter, Fixed, IsInstructionAt, HasView, View}
 use Rattle.linear_machine.proofs.Arriving.{ends_arrives}
 use Rattle.linear_machine.proofs.Likes.{like_refl}
 use Rattle.linear_machine.proofs.Limits.{NeedsMore, in_need_there}
@@ -36,7 +36,7 @@ use Rattle.linear_machine.proofs.Steps.{one_step, ready, ready_stands, with_hart
 abbrev pub with_memory : View → Hart → View
 with_memory v h = record v { memory = h.memory }
 
-pub hart_is : (s : Fixed) (a : Machine) (v : View) → Stands s a v → a.hart ≡ hart_of s (with_memory v a.hart) a.hart
+pub hart_is : (s : Fixed) (a : Machine) (v : View) → HasView s a v → a.hart ≡ hart_of s (with_memory v a.hart) a.hart
 hart_is s a v st =
     let h = a.hart in
     let e1 : h ≡ record h { image = s.image } = ap (λ x. record h { image = x }) st.image in
@@ -72,15 +72,15 @@ module _ (s : Fixed) (laid : Laid) (v : View) (young : List Placed) (taken : ℕ
     (fit : are_vals (data_start + length s.image.bytes) named held ≡ true)
     (whole : is_complete a ≡ true) (none : a.raised ≡ None) (there : descriptor_at s.image.descs (code_start + 4 * v.place + 4) ≡ Some d) where
   -- the same where the machine has its own limit word
-  pub within_there : (b : Machine) → Stands s b v → Within s laid (with_memory v b.hart) young taken held a c
+  pub within_there : (b : Machine) → HasView s b v → Within s laid (with_memory v b.hart) young taken held a c
   within_there b st = within_like s laid v young taken held a c b.hart.memory st.memory within
 
   -- ---- the allocation service
 
-  module _ (asked : slice_index v.registers 5 ≡ taken) (request : is_request taken ≡ true) (ecall : IsCode s v.place Ecall)
+  module _ (asked : slice_index v.registers 5 ≡ taken) (request : is_request taken ≡ true) (ecall : IsInstructionAt s v.place Ecall)
       (number : slice_index v.registers 7 ≡ 3) (needs : NeedsMore v) where
-    to_allocation : (b : Machine) → Stands s b v → (j k : ℕ) → j ≡ 1 + k →
-        guarded_after s.schedule j (Going b) ≡ guarded_after s.schedule k (after_allocation (allocated (s.schedule.plan (ready s b).hart.services) (ready s b).hart)
+    to_allocation : (b : Machine) → HasView s b v → (j k : ℕ) → j ≡ 1 + k →
+        guarded_after s.schedule j (Going b) ≡ guarded_after s.schedule k (after_allocation (allocation_served (s.schedule.plan (ready s b).hart.services) (ready s b).hart)
         (ready s b))
     to_allocation b st j k e =
         let r = ready s b in
@@ -94,8 +94,8 @@ module _ (s : Fixed) (laid : Laid) (v : View) (young : List Placed) (taken : ℕ
         let top = rises_top (slice_index v.registers 26 + taken) young within.own.rises in
         ap (add_word (slice_index v.registers 26)) asked ∙ sum_small (slice_index v.registers 26) taken (omega (arith, top))
 
-    allocation : (b : Machine) (st : Stands s b v) → bytes_used (v.blocks ++ reverse young) ≤ s.heap →
-        IsAllocated (s.schedule.plan b.hart.services) (hart_of s (with_memory v b.hart) b.hart) (record { at = slice_index v.registers 2; desc = d }) c.frames
+    allocation : (b : Machine) (st : HasView s b v) → bytes_used (v.blocks ++ reverse young) ≤ s.heap →
+        IsAllocationServed (s.schedule.plan b.hart.services) (hart_of s (with_memory v b.hart) b.hart) (record { at = slice_index v.registers 2; desc = d }) c.frames
         (contents s laid (with_memory v b.hart) young taken held a c (within_there b st) named d is saves fit whole none there)
     allocation b st fits =
         let u : View = with_memory v b.hart in
@@ -148,13 +148,13 @@ module _ (s : Fixed) (laid : Laid) (v : View) (young : List Placed) (taken : ℕ
             };
             by = λ j k e. to_allocation b0 st0 j k e
                 ∙ ap (λ x. guarded_after s.schedule k (after_allocation x b))
-                (ap (allocated (s.schedule.plan b.hart.services)) (hart_is s b v st) ∙ done.is ∙ ap Goes same);
+                (ap (allocation_served (s.schedule.plan b.hart.services)) (hart_is s b v st) ∙ done.is ∙ ap Goes same);
             holds = (refl, after_it);
           });
     }
 
     -- there is none
-    pub allocation_ends : s.heap < bytes_used (v.blocks ++ reverse young) → Ends s 1 v HeapOut
+    pub allocation_ends : s.heap < bytes_used (v.blocks ++ reverse young) → EndsRunAfter s 1 v HeapOut
     allocation_ends full = record {
       by = λ b0 st0 j k e.
           let b = ready s b0 in
@@ -163,7 +163,7 @@ module _ (s : Fixed) (laid : Laid) (v : View) (young : List Placed) (taken : ℕ
           let w = within_there b st in
           to_allocation b0 st0 j k e
           ∙ ap (λ x. guarded_after s.schedule k (after_allocation x b))
-          (ap (allocated (s.schedule.plan b.hart.services)) (hart_is s b v st)
+          (ap (allocation_served (s.schedule.plan b.hart.services)) (hart_is s b v st)
           ∙ allocates_not (hart_of s u b.hart) young (own_frame_of s laid u young taken held a c w named d is saves fit whole none there) c.frames
           (contents s laid u young taken held a c w named d is saves fit whole none there)
           (knows_of s laid u young taken held a c w named d is saves fit whole none there b.hart)
@@ -184,7 +184,7 @@ module _ (s : Fixed) (laid : Laid) (v : View) (young : List Placed) (taken : ℕ
   -- ---- the move of a frame call, where no bytes are taken
 
   module _ (nothing_taken : taken ≡ 0) where
-    pub collection : (b : Machine) (st : Stands s b v) → bytes_used (v.blocks ++ reverse young) ≤ s.heap →
+    pub collection : (b : Machine) (st : HasView s b v) → bytes_used (v.blocks ++ reverse young) ≤ s.heap →
         IsCollected (s.schedule.plan b.hart.services) (hart_of s (with_memory v b.hart) b.hart) (record { at = slice_index v.registers 2; desc = d }) c.frames
         (contents s laid (with_memory v b.hart) young taken held a c (within_there b st) named d is saves fit whole none there)
     collection b st fits =
@@ -196,7 +196,7 @@ module _ (s : Fixed) (laid : Laid) (v : View) (young : List Placed) (taken : ℕ
         (s.schedule.plan b.hart.services)
         (ready_of s laid u young taken held a c w named d is saves fit whole none there b.hart (slice_index v.registers 26) (omega (arith, nothing_taken))) fits
 
-    pub collection_not : (b : Machine) (st : Stands s b v) → s.heap < bytes_used (v.blocks ++ reverse young) →
+    pub collection_not : (b : Machine) (st : HasView s b v) → s.heap < bytes_used (v.blocks ++ reverse young) →
         collected (s.schedule.plan b.hart.services) (hart_of s (with_memory v b.hart) b.hart) ≡ NoHeap
     collection_not b st full =
         let u : View = with_memory v b.hart in

@@ -8,13 +8,13 @@ use Rattle.rv_isa.specs.declared.instr.Instr.TheVariants.{Load, Lui, Op, Store}
 use Rattle.rv_isa.specs.declared.instr.LoadWidth.TheVariants.{Ld}
 use Rattle.rv_isa.specs.declared.instr.StoreWidth.TheVariants.{Sd}
 use Rattle.rv_machine.specs.Arithmetic.{imm_i, imm_u}
-use Rattle.rv_machine.specs.Memory.{word, write}
+use Rattle.rv_machine.specs.Memory.{memory_word, write}
 use Rattle.rv_machine.specs.Sound.{AreRegisters, IsRegion}
 use Rattle.machine_laws.proofs.Memory.{word_below}
-use Rattle.moving_laws.specs.Stands.{Among}
+use Rattle.moving_laws.specs.Stands.{AmongNumbers}
 use Rattle.moving_laws.specs.Words.{IsReadable}
 use Rattle.linear_machine.specs.Straight.{Changes, IsPast}
-use Rattle.linear_machine.specs.View.{Fixed, View, HasCode, IsCode}
+use Rattle.linear_machine.specs.View.{Fixed, View, HasCode, IsInstructionAt}
 use Rattle.linear_machine.proofs.Formats.{sets_load, sets_lui, sets_op}
 use Rattle.machine_laws.proofs.Immediates.{Extended, by_12, by_20, low_12, up}
 use Rattle.linear_machine.proofs.Sequences.{code_past, set_changes, set_then, sets_as, store_changes, then_changes, widened}
@@ -53,11 +53,11 @@ module _ (s : Fixed) (v : View) (are : AreRegisters v.registers) (offset : ℕ) 
   -- ---- near
 
   pub load_near : (r : ℕ) → suc r < 32 → suc r ≢ 2 → offset < 2048 → HasCode s v.place (Load Ld (suc r) 2 (offset % 4096) ∷ []) →
-      Changes s v 1 (suc r ∷ []) v.memory (λ w. slice_index w.registers (suc r) ≡ word v.memory (slice_index v.registers 2 + offset))
+      Changes s v 1 (suc r ∷ []) v.memory (λ w. slice_index w.registers (suc r) ≡ memory_word v.memory (slice_index v.registers 2 + offset))
   load_near r fits other small code =
       let high = there.high in
       let low = there.low in
-      set_changes s v (Load Ld (suc r) 2 (offset % 4096)) r (word v.memory (slice_index v.registers 2 + offset)) code.0 (inl other)
+      set_changes s v (Load Ld (suc r) 2 (offset % 4096)) r (memory_word v.memory (slice_index v.registers 2 + offset)) code.0 (inl other)
       (sets_load s v (suc r) 2 (offset % 4096) (slice_index v.registers 2 + offset) (near_sum offset (slice_index v.registers 2) small high)
       (λ e. omega (arith, e, low)) (omega (arith, low)) there.readable)
       are fits (word_below v.memory (slice_index v.registers 2 + offset))
@@ -74,7 +74,7 @@ module _ (s : Fixed) (v : View) (are : AreRegisters v.registers) (offset : ℕ) 
   abbrev base : ℕ
   base = add_word (imm_u (above_12 offset % 2 ^ 20)) (slice_index v.registers 2)
 
-  off_sp : (x : ℕ) → suc x ≢ 2 → Among 2 (suc x ∷ []) → ⊥
+  off_sp : (x : ℕ) → suc x ≢ 2 → AmongNumbers 2 (suc x ∷ []) → ⊥
   off_sp x other (inl e) = other (sym e)
   off_sp x other (inr e) = e
 
@@ -92,22 +92,22 @@ module _ (s : Fixed) (v : View) (are : AreRegisters v.registers) (offset : ℕ) 
   module _ (x : ℕ) (x_fits : suc x < 32) (no_sp : suc x ≢ 2) (small : offset < 2 ^ 30) where
     pub load_far : (r : ℕ) → suc r < 32 → suc r ≢ 2 →
         HasCode s v.place (Lui (suc x) (above_12 offset % 2 ^ 20) ∷ Op Add (suc x) (suc x) 2 ∷ Load Ld (suc r) (suc x) (offset % 4096) ∷ []) →
-        Changes s v 3 (suc r ∷ suc x ∷ []) v.memory (λ w. slice_index w.registers (suc r) ≡ word v.memory (slice_index v.registers 2 + offset))
+        Changes s v 3 (suc r ∷ suc x ∷ []) v.memory (λ w. slice_index w.registers (suc r) ≡ memory_word v.memory (slice_index v.registers 2 + offset))
     load_far r fits other code =
         let high = there.high in
         let low = there.low in
         set_then s v 2 (suc r ∷ suc x ∷ []) v.memory (λ w. slice_index w.registers (suc x) ≡ base) (Load Ld (suc r) (suc x) (offset % 4096)) r
-        (word v.memory (slice_index v.registers 2 + offset))
+        (memory_word v.memory (slice_index v.registers 2 + offset))
         (widened s v 2 (suc x ∷ []) (suc r ∷ suc x ∷ []) v.memory (λ w. slice_index w.registers (suc x) ≡ base) (λ w. slice_index w.registers (suc x) ≡ base)
         (λ q i. inr i) (λ w p e. e) (far_base x x_fits no_sp (code.0, (code.1.0, tt))))
         (inl refl)
         (λ w past e.
         let sum : add_word (slice_index w.registers (suc x)) (imm_i (offset % 4096)) ≡ slice_index v.registers 2 + offset =
         ap (λ z. add_word z (imm_i (offset % 4096))) e ∙ far_sum offset (slice_index v.registers 2) small high in
-        subst (λ m. SetsRegister s w (Load Ld (suc r) (suc x) (offset % 4096)) (suc r) (word m (slice_index v.registers 2 + offset))) past.memory
+        subst (λ m. SetsRegister s w (Load Ld (suc r) (suc x) (offset % 4096)) (suc r) (memory_word m (slice_index v.registers 2 + offset))) past.memory
         (sets_load s w (suc r) (suc x) (offset % 4096) (slice_index v.registers 2 + offset) sum (λ q. omega (arith, q, low)) (omega (arith, low))
         (subst (λ m. IsReadable m (slice_index v.registers 2 + offset)) (sym past.memory) there.readable)))
-        (let e : v.place + 1 + 1 ≡ v.place + 2 = omega arith in subst (λ q. IsCode s q (Load Ld (suc r) (suc x) (offset % 4096))) e code.1.1.0)
+        (let e : v.place + 1 + 1 ≡ v.place + 2 = omega arith in subst (λ q. IsInstructionAt s q (Load Ld (suc r) (suc x) (offset % 4096))) e code.1.1.0)
         (inl other) fits (word_below v.memory (slice_index v.registers 2 + offset))
 
     pub store_far : (r : ℕ) → r ≢ suc x → AllByRecursion IsRegion v.memory →
@@ -128,7 +128,7 @@ module _ (s : Fixed) (v : View) (are : AreRegisters v.registers) (offset : ℕ) 
         (λ u. Unit {0})
         (λ q i. absurd i) (λ u p f. tt)
         (store_changes s w (suc x) r (offset % 4096) (slice_index v.registers 2 + offset)
-        (code_past s 2 (suc x ∷ []) v.memory v w (Store Sd (suc x) r (offset % 4096)) past (subst (λ q. IsCode s q (Store Sd (suc x) r
+        (code_past s 2 (suc x ∷ []) v.memory v w (Store Sd (suc x) r (offset % 4096)) past (subst (λ q. IsInstructionAt s q (Store Sd (suc x) r
         (offset % 4096))) place code.1.1.0))
         sum (let low = there.low in λ q. omega (arith, q, low)) (subst (λ m. AllByRecursion IsRegion m) (sym past.memory) regions)
         (subst (λ m. IsReadable m (slice_index v.registers 2 + offset)) (sym past.memory) there.readable) past.are))))

@@ -6,7 +6,7 @@ use Rattle.bs_words.specs.declared.types.Loc.TheVariants as loc
 use Rattle.bs_words.specs.declared.values.Value.{Value}
 use Rattle.mach_ir.specs.Acts.{Around}
 use Rattle.rv_machine.specs.Hart.{Placed}
-use Rattle.rv_machine.specs.Memory.{Region, word, write}
+use Rattle.rv_machine.specs.Memory.{Region, memory_word, write}
 use Rattle.rv_machine.specs.Sound.{extents}
 use Rattle.machine_laws.proofs.Memory.{has_write, other_word}
 use Rattle.moving_laws.specs.Waiting.{traps_at}
@@ -15,7 +15,7 @@ use Rattle.moving_laws.proofs.Held.{held_other}
 use Rattle.moving_laws.proofs.Usable.{formed_regions, stack_readable}
 use Rattle.moving_laws.proofs.Words.{readable_write, word_same}
 use Rattle.linear_machine.specs.Files.{IsPut}
-use Rattle.linear_machine.specs.Relation.{AreCarried, Below, Laid, ReturnStands, StandsFor, Within, all_of}
+use Rattle.linear_machine.specs.Relation.{AreCarried, Below, Laid, ReturnStands, StandsFor, Within, blocks_by_serial}
 use Rattle.linear_machine.specs.Straight.{IsPast}
 use Rattle.linear_machine.specs.View.{Fixed, View}
 use Rattle.linear_machine.proofs.Keeping.{heap_kept, traps_at_all, traps_kept, waits_kept}
@@ -72,7 +72,7 @@ module _ (s : Fixed) (laid : Laid) (v : View) (young : List Placed) (taken : ℕ
   back_by false k value e i h = h
 
   pub within_slot :
-      (k value : ℕ) (x : Value) (file' : Loc → Option Value) → k < laid.slots → value < 2 ^ 64 → StandsFor s (all_of v young) value x →
+      (k value : ℕ) (x : Value) (file' : Loc → Option Value) → k < laid.slots → value < 2 ^ 64 → StandsFor s (blocks_by_serial v young) value x →
       IsPut (loc.Slot k) x file file' →
       Within s laid (record v { memory = write v.memory (slice_index v.registers 2 + (8 * k + 16 * length a.tries)) value }) young taken file' a c
   within_slot k value x file' i small stands put =
@@ -96,19 +96,19 @@ module _ (s : Fixed) (laid : Laid) (v : View) (young : List Placed) (taken : ℕ
         slots = λ q y h. ⊎_elim
             (λ p.
             let e : q ≡ k = same_slot refl p.0 in
-            let here : word m' (slot_at k) ≡ value = word_same v.memory (slot_at k) value (formed_regions
+            let here : memory_word m' (slot_at k) ≡ value = word_same v.memory (slot_at k) value (formed_regions
             (extents s.image s.heap s.base) v.memory within.usable.regions) there.readable small in
-            subst (λ z. (z < laid.slots) × StandsFor s (all_of v young) (word m' (slot_at z)) y) (sym e)
-            (i, subst (λ z. StandsFor s (all_of v young) (word m' (slot_at k)) z) (sym p.1) (subst (λ z. StandsFor s (all_of v young) z x) (sym here) stands)))
+            subst (λ z. (z < laid.slots) × StandsFor s (blocks_by_serial v young) (memory_word m' (slot_at z)) y) (sym e)
+            (i, subst (λ z. StandsFor s (blocks_by_serial v young) (memory_word m' (slot_at k)) z) (sym p.1) (subst (λ z. StandsFor s (blocks_by_serial v young) z x) (sym here) stands)))
             (λ p.
             let o = within.slots q y p.1 in
-            let same : word m' (slot_at q) ≡ word v.memory (slot_at q) =
+            let same : memory_word m' (slot_at q) ≡ memory_word v.memory (slot_at q) =
             other_word v.memory (slot_at k) (slot_at q) value (λ t. p.0 (ap loc.Slot (let e : q ≡ k = omega (arith, t) in e))) in
-            (o.0, subst (λ z. StandsFor s (all_of v young) z y) (sym same) o.1))
+            (o.0, subst (λ z. StandsFor s (blocks_by_serial v young) z y) (sym same) o.1))
             (put.each (loc.Slot q) y h);
         back = back_by laid.saves k value refl i within.back;
-        waits = waits_kept s (all_of v young) v.memory m' c (λ y l h. other_word v.memory (slot_at k) y value (λ t. omega (arith, t, l, hi))) within.waits;
-        traps = traps_kept s (all_of v young) v.memory m' (slice_index v.registers 9) (traps_at (slice_index v.registers 2) (map laid.handler a.tries)) c
+        waits = waits_kept s (blocks_by_serial v young) v.memory m' c (λ y l h. other_word v.memory (slot_at k) y value (λ t. omega (arith, t, l, hi))) within.waits;
+        traps = traps_kept s (blocks_by_serial v young) v.memory m' (slice_index v.registers 9) (traps_at (slice_index v.registers 2) (map laid.handler a.tries)) c
             (λ y l h. other_word v.memory (slot_at k) y value (λ t. omega (arith, t, l, hi)))
             (traps_at_all _ (slice_index v.registers 2) (map laid.handler a.tries)
             (λ y q h. (
@@ -117,7 +117,7 @@ module _ (s : Fixed) (laid : Laid) (v : View) (young : List Placed) (taken : ℕ
                   (y + 8) value (λ t. omega (arith, t, h, n)),
             )))
             within.waits within.traps;
-        heap = heap_kept s (all_of v young) v.memory m' a
+        heap = heap_kept s (blocks_by_serial v young) v.memory m' a
             (λ y q ne. other_word v.memory (slot_at k) y value (λ t. omega (arith, t, q, lo, bh)))
             (λ y e q. held_other v.memory (slot_at k) y value e (λ t. omega (arith, t, q, lo, bh)))
             (λ y r. readable_write v.memory (slot_at k) y value r) within.heap;
@@ -126,7 +126,7 @@ module _ (s : Fixed) (laid : Laid) (v : View) (young : List Placed) (taken : ℕ
       not_machine : (q : ℕ) → loc.Machine q ≡ loc.Slot k → ⊥
       not_machine q e = absurd (cc)
 
-      carried : (o : Option Value) → AreCarried s (all_of v young) v.registers file o → AreCarried s (all_of v young) v.registers file' o
+      carried : (o : Option Value) → AreCarried s (blocks_by_serial v young) v.registers file o → AreCarried s (blocks_by_serial v young) v.registers file' o
       carried None hold = λ q y h. hold q y (⊎_elim (λ p. absurd (not_machine q p.0)) (λ p. p.1) (put.each (loc.Machine q) y h))
       carried (Some y) hold = hold
 
@@ -134,7 +134,7 @@ module _ (s : Fixed) (laid : Laid) (v : View) (young : List Placed) (taken : ℕ
   pub within_spilled :
       (w : View) (n : ℕ) (rs : List ℕ) (k value : ℕ) (x : Value) (file' : Loc → Option Value) →
       IsPast n rs (write v.memory (slice_index v.registers 2 + (8 * k + 16 * length a.tries)) value) v w → AreScratch rs →
-      k < laid.slots → value < 2 ^ 64 → StandsFor s (all_of v young) value x → IsPut (loc.Slot k) x file file' → Within s laid w young taken file' a c
+      k < laid.slots → value < 2 ^ 64 → StandsFor s (blocks_by_serial v young) value x → IsPut (loc.Slot k) x file file' → Within s laid w young taken file' a c
   within_spilled w n rs k value x file' past scratch i small stands put =
       within_past s laid (record v { memory = write v.memory (slot_at k) value }) w young taken file' a c n rs
       (record { place = past.place; are = past.are; others = past.others; memory = past.memory; blocks = past.blocks })

@@ -5,16 +5,16 @@ use Rattle.bs_words.specs.declared.types.Loc.TheVariants as loc
 use Rattle.bs_words.specs.declared.values.Value.{Value}
 use Rattle.mach_ir.specs.Acts.{Around}
 use Rattle.rv_machine.specs.Hart.{Placed}
-use Rattle.rv_machine.specs.Memory.{word}
+use Rattle.rv_machine.specs.Memory.{memory_word}
 use Rattle.rv_machine.specs.Placement.{are_apart}
 use Rattle.rv_machine.specs.Space.{IsHeap}
 use Rattle.rv_machine.specs.Sound.{AreRegisters, HasRegions, extents}
-use Rattle.moving_laws.specs.Stands.{Among}
+use Rattle.moving_laws.specs.Stands.{AmongNumbers}
 use Rattle.moving_laws.specs.Waiting.{traps_at}
 use Rattle.moving_laws.specs.Young.{Rises}
 use Rattle.lin_laws.proofs.Forms.{same_machine}
 use Rattle.linear_machine.specs.Files.{HoldsLess, IsPut}
-use Rattle.linear_machine.specs.Relation.{AreCarried, Below, HeapStands, IsLocation, Laid, OwnRegisters, RegistersHold, ReturnStands, SlotsHold, StandsFor, TrapsStand, Waits, Within, all_of}
+use Rattle.linear_machine.specs.Relation.{AreCarried, Below, HeapStands, IsLocationRegister, Laid, OwnRegisters, RegistersHold, ReturnStands, SlotsHold, StandsFor, TrapsStand, Waits, Within, blocks_by_serial}
 use Rattle.linear_machine.specs.Straight.{IsPast}
 use Rattle.linear_machine.specs.View.{Fixed, View}
 
@@ -26,13 +26,13 @@ IsScratch q = (q ≡ 6) ⊎ (q ≡ 7)
 
 -- scratch registers alone
 abbrev pub AreScratch : List ℕ → Type 0
-AreScratch rs = (q : ℕ) → Among q rs → IsScratch q
+AreScratch rs = (q : ℕ) → AmongNumbers q rs → IsScratch q
 
 -- a register of the machine's own, or ra, is no scratch register
 abbrev pub IsKept : ℕ → Type 0
 IsKept q = (q ≢ 6) × (q ≢ 7)
 
-pub kept_scratch : (rs : List ℕ) (q : ℕ) → AreScratch rs → IsKept q → Among q rs → ⊥
+pub kept_scratch : (rs : List ℕ) (q : ℕ) → AreScratch rs → IsKept q → AmongNumbers q rs → ⊥
 kept_scratch rs q all kept i = ⊎_elim (λ e. kept.0 e) (λ e. kept.1 e) (all q i)
 
 pub own_past : (registers registers' : List ℕ) (young : List Placed) (taken : ℕ) → AreRegisters registers' →
@@ -46,7 +46,7 @@ own_past registers registers' young taken are e26 e27 o = record {
   domain = e27 ∙ o.domain;
 }
 
-return_past : (saves : Bool) (v w : View) (c : Below) → (word w.memory (c.top - 8) ≡ word v.memory (c.top - 8)) →
+return_past : (saves : Bool) (v w : View) (c : Below) → (memory_word w.memory (c.top - 8) ≡ memory_word v.memory (c.top - 8)) →
     slice_index w.registers 1 ≡ slice_index v.registers 1 →
     ReturnStands saves v c → ReturnStands saves w c
 return_past true v w c m r h = m ∙ h
@@ -62,8 +62,8 @@ pub record IsFree (q : ℕ) : Type 0 where
   pub no_domain : q ≢ 27
 
 module _ (s : Fixed) (laid : Laid) (v w : View) (young : List Placed) (taken : ℕ) (held held' : Loc → Option Value) (a : Around) (c : Below)
-    (n : ℕ) (rs : List ℕ) (past : IsPast n rs v.memory v w) (free : (q : ℕ) → Among q rs → IsFree q) (less : HoldsLess held' held)
-    (off : a.raised ≡ None → (q : ℕ) (x : Value) → Among q rs → held' (loc.Machine q) ≡ Some x → ⊥) (carries : (a.raised ≡ None) ⊎ (Among 10 rs → ⊥))
+    (n : ℕ) (rs : List ℕ) (past : IsPast n rs v.memory v w) (free : (q : ℕ) → AmongNumbers q rs → IsFree q) (less : HoldsLess held' held)
+    (off : a.raised ≡ None → (q : ℕ) (x : Value) → AmongNumbers q rs → held' (loc.Machine q) ≡ Some x → ⊥) (carries : (a.raised ≡ None) ⊎ (AmongNumbers 10 rs → ⊥))
     (within : Within s laid v young taken held a c) where
   own_reg : (q : ℕ) → (q < 3) ⊎ ((q ≡ 9) ⊎ ((q ≡ 26) ⊎ (q ≡ 27))) → slice_index w.registers q ≡ slice_index v.registers q
   own_reg q (inl l) = past.others q (λ i. let f = (free q i).some in omega (arith, l, f))
@@ -74,16 +74,16 @@ module _ (s : Fixed) (laid : Laid) (v w : View) (young : List Placed) (taken : �
   same_sp : slice_index w.registers 2 ≡ slice_index v.registers 2
   same_sp = own_reg 2 (inl (omega arith))
 
-  pub placed_same : all_of w young ≡ all_of v young
-  placed_same = ap (λ bs. all_of (record v { blocks = bs }) young) past.blocks
+  pub placed_same : blocks_by_serial w young ≡ blocks_by_serial v young
+  placed_same = ap (λ bs. blocks_by_serial (record v { blocks = bs }) young) past.blocks
 
-  carried_by : (o : Option Value) → a.raised ≡ o → AreCarried s (all_of v young) v.registers held o → AreCarried s (all_of v young) w.registers held' o
+  carried_by : (o : Option Value) → a.raised ≡ o → AreCarried s (blocks_by_serial v young) v.registers held o → AreCarried s (blocks_by_serial v young) w.registers held' o
   carried_by None e hold = λ q x h.
       let p = hold q x (less.each (loc.Machine q) x h) in
-      (p.0, subst (λ z. StandsFor s (all_of v young) z x) (sym (past.others q (λ i. off e q x i h))) p.1)
+      (p.0, subst (λ z. StandsFor s (blocks_by_serial v young) z x) (sym (past.others q (λ i. off e q x i h))) p.1)
   carried_by (Some x) e hold =
       let same : slice_index w.registers 10 ≡ slice_index v.registers 10 = past.others 10 (λ i. ⊎_elim (λ none. let f = e in cc) (λ n. n i) carries) in
-      subst (λ z. StandsFor s (all_of v young) z x) (sym same) hold
+      subst (λ z. StandsFor s (blocks_by_serial v young) z x) (sym same) hold
 
   pub within_changed : Within s laid w young taken held' a c
   within_changed = record {
@@ -97,15 +97,15 @@ module _ (s : Fixed) (laid : Laid) (v w : View) (young : List Placed) (taken : �
     low = let f = within.low in let e = same_sp in omega (arith, f, e);
     carried = subst (λ p. AreCarried s p w.registers held' a.raised) (sym placed_same) (carried_by a.raised refl within.carried);
     slots = subst (λ p. SlotsHold s laid p w.memory (slice_index w.registers 2) (length a.tries) held') (sym placed_same)
-        (subst (λ m. SlotsHold s laid (all_of v young) m (slice_index w.registers 2) (length a.tries) held') (sym past.memory)
-        (subst (λ p. SlotsHold s laid (all_of v young) v.memory p (length a.tries) held') (sym same_sp)
+        (subst (λ m. SlotsHold s laid (blocks_by_serial v young) m (slice_index w.registers 2) (length a.tries) held') (sym past.memory)
+        (subst (λ p. SlotsHold s laid (blocks_by_serial v young) v.memory p (length a.tries) held') (sym same_sp)
         (λ k x h. within.slots k x (less.each (loc.Slot k) x h))));
-    back = return_past laid.saves v w c (ap (λ m. word m (c.top - 8)) past.memory) (own_reg 1 (inl (omega arith))) within.back;
-    waits = subst (λ p. Waits s p w.memory c) (sym placed_same) (subst (λ m. Waits s (all_of v young) m c) (sym past.memory) within.waits);
+    back = return_past laid.saves v w c (ap (λ m. memory_word m (c.top - 8)) past.memory) (own_reg 1 (inl (omega arith))) within.back;
+    waits = subst (λ p. Waits s p w.memory c) (sym placed_same) (subst (λ m. Waits s (blocks_by_serial v young) m c) (sym past.memory) within.waits);
     traps = subst (λ m. TrapsStand s m (slice_index w.registers 9) (traps_at (slice_index w.registers 2) (map laid.handler a.tries)) c) (sym past.memory)
         (subst (λ t. TrapsStand s v.memory t (traps_at (slice_index w.registers 2) (map laid.handler a.tries)) c) (sym (own_reg 9 (inr (inl refl))))
         (subst (λ p. TrapsStand s v.memory (slice_index v.registers 9) (traps_at p (map laid.handler a.tries)) c) (sym same_sp) within.traps));
-    heap = subst (λ p. HeapStands s p w.memory a) (sym placed_same) (subst (λ m. HeapStands s (all_of v young) m a) (sym past.memory) within.heap);
+    heap = subst (λ p. HeapStands s p w.memory a) (sym placed_same) (subst (λ m. HeapStands s (blocks_by_serial v young) m a) (sym past.memory) within.heap);
   }
 
 -- scratch registers alone
@@ -123,11 +123,11 @@ scratch_free q (inr e) = record {
   no_domain = λ f. omega (arith, e, f);
 }
 
-pub location_free : (q : ℕ) → IsLocation q → IsFree q
+pub location_free : (q : ℕ) → IsLocationRegister q → IsFree q
 location_free q is = record { some = is.some; no_trap = is.no_trap; no_young = is.no_young; no_domain = is.no_domain }
 
 -- a0 may be a location
-pub a0_location : IsLocation 10
+pub a0_location : IsLocationRegister 10
 a0_location = record {
   some = omega arith;
   below = omega arith;
@@ -139,9 +139,9 @@ a0_location = record {
 
 module _ (s : Fixed) (laid : Laid) (v w : View) (young : List Placed) (taken : ℕ) (held : Loc → Option Value) (a : Around) (c : Below)
     (n : ℕ) (rs : List ℕ) (past : IsPast n rs v.memory v w) (scratch : AreScratch rs) (within : Within s laid v young taken held a c) where
-  not_held : a.raised ≡ None → (q : ℕ) (x : Value) → Among q rs → held (loc.Machine q) ≡ Some x → ⊥
+  not_held : a.raised ≡ None → (q : ℕ) (x : Value) → AmongNumbers q rs → held (loc.Machine q) ≡ Some x → ⊥
   not_held none q x i h =
-      let is : IsLocation q = ((subst (λ o. AreCarried s (all_of v young) v.registers held o) none within.carried) q x h).0 in
+      let is : IsLocationRegister q = ((subst (λ o. AreCarried s (blocks_by_serial v young) v.registers held o) none within.carried) q x h).0 in
       ⊎_elim (λ e. is.no_scratch.0 e) (λ e. is.no_scratch.1 e) (scratch q i)
 
   pub within_past : Within s laid w young taken held a c
@@ -163,7 +163,7 @@ within_less s laid v young taken file file' a c less w = record {
   usable = w.usable;
   frame = w.frame;
   low = w.low;
-  carried = less_carried s (all_of v young) v.registers file file' a.raised less w.carried;
+  carried = less_carried s (blocks_by_serial v young) v.registers file file' a.raised less w.carried;
   slots = λ k x h. w.slots k x (less.each (loc.Slot k) x h);
   back = w.back;
   waits = w.waits;
@@ -174,18 +174,18 @@ within_less s laid v young taken file file' a c less w = record {
 -- ---- with one more register in it
 
 module _ (s : Fixed) (laid : Laid) (v : View) (young : List Placed) (taken : ℕ) (held held' : Loc → Option Value) (a : Around) (c : Below)
-    (r : ℕ) (x : Value) (is : IsLocation r) (none : a.raised ≡ None) (stands : StandsFor s (all_of v young) (slice_index v.registers r) x)
+    (r : ℕ) (x : Value) (is : IsLocationRegister r) (none : a.raised ≡ None) (stands : StandsFor s (blocks_by_serial v young) (slice_index v.registers r) x)
     (put : IsPut (loc.Machine r) x held held') (within : Within s laid v young taken held a c) where
-  old_registers : RegistersHold s (all_of v young) v.registers held
-  old_registers = subst (λ o. AreCarried s (all_of v young) v.registers held o) none within.carried
+  old_registers : RegistersHold s (blocks_by_serial v young) v.registers held
+  old_registers = subst (λ o. AreCarried s (blocks_by_serial v young) v.registers held o) none within.carried
 
-  new_registers : RegistersHold s (all_of v young) v.registers held'
+  new_registers : RegistersHold s (blocks_by_serial v young) v.registers held'
   new_registers q y h =
       ⊎_elim
       (λ p.
       let e : q ≡ r = same_machine q r p.0 in
-      subst (λ z. IsLocation z × StandsFor s (all_of v young) (slice_index v.registers z) y) (sym e)
-      (is, subst (λ z. StandsFor s (all_of v young) (slice_index v.registers r) z) (sym p.1) stands))
+      subst (λ z. IsLocationRegister z × StandsFor s (blocks_by_serial v young) (slice_index v.registers z) y) (sym e)
+      (is, subst (λ z. StandsFor s (blocks_by_serial v young) (slice_index v.registers r) z) (sym p.1) stands))
       (λ p. old_registers q y p.1)
       (put.each (loc.Machine q) y h)
 
@@ -198,7 +198,7 @@ module _ (s : Fixed) (laid : Laid) (v : View) (young : List Placed) (taken : ℕ
     usable = within.usable;
     frame = within.frame;
     low = within.low;
-    carried = subst (λ o. AreCarried s (all_of v young) v.registers held' o) (sym none) new_registers;
+    carried = subst (λ o. AreCarried s (blocks_by_serial v young) v.registers held' o) (sym none) new_registers;
     slots = λ k y h. within.slots k y (⊎_elim (λ p. absurd (not_slot k p.0)) (λ p. p.1) (put.each (loc.Slot k) y h));
     back = within.back;
     waits = within.waits;

@@ -5,7 +5,7 @@ use Rattle.bs_words.specs.Fits.{data_start}
 use Rattle.bs_words.specs.Memory.{Cell, HeapBlock, InStatic, Memory, StaticList, cell_at, end_of_statics, in_statics, value_in}
 use Rattle.bs_words.specs.declared.values.Value.TheVariants.{Word}
 use Rattle.image_form.specs.Tables.{Tables}
-use Rattle.rv_machine.specs.Memory.{Region, word, write}
+use Rattle.rv_machine.specs.Memory.{Region, memory_word, write}
 use Rattle.rv_machine.specs.Sound.{HasRegions, extents}
 use Rattle.moving_laws.specs.Words.{IsReadable, held_word}
 use Rattle.moving_laws.proofs.Held as machine
@@ -145,7 +145,7 @@ module _ (s : Fixed) (m : List Region) (regions : HasRegions (extents s.image s.
   heap_even = let h = s.room.aligned in omega (arith, h)
 
   -- a word that can be read is the one that is held there, and is set as it is written
-  pub held_readable : (x : ℕ) → IsReadable m x → held_word m x ≡ word m x
+  pub held_readable : (x : ℕ) → IsReadable m x → held_word m x ≡ memory_word m x
   held_readable x r = machine.held_readable s.image s.heap s.base s.functions.tables.bytes.short heap_even s.stack m regions x r
 
   pub hold_readable : (x z : ℕ) → IsReadable m x → z < 2 ^ 64 → machine.hold m x z ≡ write m x z

@@ -17,7 +17,7 @@ use Rattle.rv_machine.specs.Sound.{AllWords, extents}
 use Rattle.machine_laws.proofs.Memory.{has_write}
 use Rattle.moving_laws.proofs.Usable.{formed_regions, limit_readable}
 use Rattle.moving_laws.proofs.Words.{word_same}
-use Rattle.linear_machine.specs.View.{Fixed, View, Stands, Leads, Ends, IsCode}
+use Rattle.linear_machine.specs.View.{Fixed, View, HasView, ReachesView, EndsRunAfter, IsInstructionAt}
 use Rattle.linear_machine.proofs.Likes.{known_asked, like_limit}
 
 -- ---- the ask
@@ -26,7 +26,7 @@ use Rattle.linear_machine.proofs.Likes.{known_asked, like_limit}
 abbrev pub with_hart : Machine → Hart → Machine
 with_hart a h = record a { hart = h }
 
-asked_stands : (s : Fixed) (a : Machine) (v : View) (t : Bool) → Stands s a v → Stands s (with_hart a (cond t (asked a.hart) a.hart)) v
+asked_stands : (s : Fixed) (a : Machine) (v : View) (t : Bool) → HasView s a v → HasView s (with_hart a (cond t (asked a.hart) a.hart)) v
 unfolding write
 asked_stands s a v false st = st
 asked_stands s a v true st = record {
@@ -50,7 +50,7 @@ asked_stands s a v true st = record {
 abbrev pub ready : Fixed → Machine → Machine
 ready s a = with_hart a (perhaps_asked s.schedule a.hart)
 
-pub ready_stands : (s : Fixed) (a : Machine) (v : View) → Stands s a v → Stands s (ready s a) v
+pub ready_stands : (s : Fixed) (a : Machine) (v : View) → HasView s a v → HasView s (ready s a) v
 ready_stands s a v st = asked_stands s a v (s.schedule.asks a.hart.retired) st
 
 -- ---- the fetch
@@ -61,7 +61,7 @@ fetch_at code pc place w e h =
     cond-true _ _ _ (and_from _ _ (le-leb code_start pc (omega arith)) (eq-eqb (pc % 4) 0 (omega arith)))
     ∙ ap (slice_get code) index ∙ h
 
-hart_executes : (s : Fixed) (a : Machine) (v : View) (i : Instr) → Stands s a v → IsCode s v.place i → hart a.hart ≡ executed i a.hart
+hart_executes : (s : Fixed) (a : Machine) (v : View) (i : Instr) → HasView s a v → IsInstructionAt s v.place i → hart a.hart ≡ executed i a.hart
 unfolding hart
 hart_executes s a v i st c =
     ap (λ o. fetched o a.hart)
@@ -69,17 +69,17 @@ hart_executes s a v i st c =
     ∙ ap (λ o. decoded_next o a.hart) (decoded-encoded i c.fits)
 
 -- no service is asked for
-pub unserved_step : (s : Fixed) (a : Machine) (v : View) (i : Instr) (then' : Next) → Stands s a v → IsCode s v.place i → executed i a.hart ≡ then' →
+pub unserved_step : (s : Fixed) (a : Machine) (v : View) (i : Instr) (then' : Next) → HasView s a v → IsInstructionAt s v.place i → executed i a.hart ≡ then' →
     is_service then' ≡ false → is_in_need a ≡ true
 unserved_step s a v i then' st c effect free = unserved a (ap is_service (hart_executes s a v i st c ∙ effect) ∙ free)
 
 -- another service than an allocation is asked for
-pub other_number : (s : Fixed) (a : Machine) (v : View) (n : ℕ) → Stands s a v → slice_index v.registers 7 ≡ n → n ≢ 3 → is_in_need a ≡ true
+pub other_number : (s : Fixed) (a : Machine) (v : View) (n : ℕ) → HasView s a v → slice_index v.registers 7 ≡ n → n ≢ 3 → is_in_need a ≡ true
 other_number s a v n st number other = other_service a (λ e. other (sym number ∙ sym (ap (λ xs. slice_index xs 7) st.registers) ∙ e))
 
 -- what comes of one instruction
 pub one_step :
-    (s : Fixed) (a : Machine) (v : View) (i : Instr) (then' : Next) → Stands s a v → IsCode s v.place i → is_in_need a ≡ true →
+    (s : Fixed) (a : Machine) (v : View) (i : Instr) (then' : Next) → HasView s a v → IsInstructionAt s v.place i → is_in_need a ≡ true →
     executed i (perhaps_asked s.schedule a.hart) ≡ then' →
     (j k : ℕ) → j ≡ 1 + k → guarded_after s.schedule j (Going a) ≡ guarded_after s.schedule k (after_next s.schedule then' a)
 one_step s a v i then' st c need effect j k e =
@@ -90,7 +90,7 @@ one_step s a v i then' st c need effect j k e =
 
 -- ---- stretches
 
-pub stays : (s : Fixed) (v : View) → Leads s 0 v v
+pub stays : (s : Fixed) (v : View) → ReachesView s 0 v v
 stays s v = record {
   answers = refl;
   calls = refl;
@@ -98,7 +98,7 @@ stays s v = record {
   by = λ a st. (a, st, λ j k e. let same : j ≡ k = omega arith in ap (λ n. guarded_after s.schedule n (Going a)) same);
 }
 
-pub then_leads : (s : Fixed) (n m : ℕ) (u v w : View) → Leads s n u v → Leads s m v w → Leads s (n + m) u w
+pub then_leads : (s : Fixed) (n m : ℕ) (u v w : View) → ReachesView s n u v → ReachesView s m v w → ReachesView s (n + m) u w
 then_leads s n m u v w p q = record {
   answers = q.answers ∙ p.answers;
   calls = q.calls ∙ p.calls;
@@ -109,7 +109,7 @@ then_leads s n m u v w p q = record {
       (second.0, second.1, λ j k e. first.2 j (m + k) (omega arith) ∙ second.2 (m + k) k refl);
 }
 
-pub then_ends : (s : Fixed) (n m : ℕ) (u v : View) (end : End) → u.calls ≡ v.calls → Leads s n u v → Ends s m v end → Ends s (n + m) u end
+pub then_ends : (s : Fixed) (n m : ℕ) (u v : View) (end : End) → u.calls ≡ v.calls → ReachesView s n u v → EndsRunAfter s m v end → EndsRunAfter s (n + m) u end
 then_ends s n m u v end same p q = record {
   by = λ a st j k e.
       let first = p.by a st in
@@ -123,7 +123,7 @@ abbrev pub reg : List ℕ → ℕ → ℕ
 reg registers zero = 0
 reg registers (suc r) = slice_index registers (suc r)
 
-pub register_reg : (s : Fixed) (a : Machine) (v : View) (r : ℕ) → Stands s a v → register a.hart r ≡ reg v.registers r
+pub register_reg : (s : Fixed) (a : Machine) (v : View) (r : ℕ) → HasView s a v → register a.hart r ≡ reg v.registers r
 register_reg s a v zero st = refl
 register_reg s a v (suc r) st = ap (λ registers. slice_index registers (suc r)) st.registers
 
@@ -153,11 +153,11 @@ next_pc pc place e = omega arith
 -- The effect of an instruction, on every machine in such a state, is to set a register and to go to
 -- a place.
 pub record SetsTo (s : Fixed) (v : View) (i : Instr) (rd value place : ℕ) : Type 0 where
-  pub effect : (a : Machine) → Stands s a v → executed i a.hart ≡ sets rd value (code_start + 4 * place) a.hart
+  pub effect : (a : Machine) → HasView s a v → executed i a.hart ≡ sets rd value (code_start + 4 * place) a.hart
 
 pub set_to_step :
-    (s : Fixed) (v : View) (i : Instr) (rd value place : ℕ) → IsCode s v.place i → Passes s rd value →
-    SetsTo s v i rd value place → Leads s 1 v (record v { place = place; registers = with_register rd value v.registers })
+    (s : Fixed) (v : View) (i : Instr) (rd value place : ℕ) → IsInstructionAt s v.place i → Passes s rd value →
+    SetsTo s v i rd value place → ReachesView s 1 v (record v { place = place; registers = with_register rd value v.registers })
 set_to_step s v i rd value place c passes known = record {
   answers = refl;
   calls = refl;
@@ -190,11 +190,11 @@ set_to_step s v i rd value place c passes known = record {
 
 -- the usual one goes on with the next instruction
 pub record SetsRegister (s : Fixed) (v : View) (i : Instr) (rd value : ℕ) : Type 0 where
-  pub effect : (a : Machine) → Stands s a v → executed i a.hart ≡ sets rd value (a.hart.pc + 4) a.hart
+  pub effect : (a : Machine) → HasView s a v → executed i a.hart ≡ sets rd value (a.hart.pc + 4) a.hart
 
 pub set_step :
-    (s : Fixed) (v : View) (i : Instr) (rd value : ℕ) → IsCode s v.place i → Passes s rd value →
-    SetsRegister s v i rd value → Leads s 1 v (set_in rd value v)
+    (s : Fixed) (v : View) (i : Instr) (rd value : ℕ) → IsInstructionAt s v.place i → Passes s rd value →
+    SetsRegister s v i rd value → ReachesView s 1 v (set_in rd value v)
 set_step s v i rd value c passes known =
     set_to_step s v i rd value (v.place + 1) c passes (record {
       effect = λ a st. known.effect a st ∙ ap (λ pc. sets rd value pc a.hart)
@@ -202,7 +202,7 @@ set_step s v i rd value c passes known =
     })
 
 -- an instruction that would bring sp below the stack's base
-pub out_step : (s : Fixed) (v : View) (i : Instr) (value : ℕ) → IsCode s v.place i → value < s.base → SetsRegister s v i 2 value → Ends s 1 v StackOut
+pub out_step : (s : Fixed) (v : View) (i : Instr) (value : ℕ) → IsInstructionAt s v.place i → value < s.base → SetsRegister s v i 2 value → EndsRunAfter s 1 v StackOut
 out_step s v i value c low known = record {
   by = λ a st j k e.
       let b = ready s a in
@@ -216,9 +216,9 @@ out_step s v i value c low known = record {
 
 -- an instruction that only goes to a place
 pub record GoesTo (s : Fixed) (v : View) (i : Instr) (place : ℕ) : Type 0 where
-  pub effect : (a : Machine) → Stands s a v → executed i a.hart ≡ goes_to (code_start + 4 * place) a.hart
+  pub effect : (a : Machine) → HasView s a v → executed i a.hart ≡ goes_to (code_start + 4 * place) a.hart
 
-pub go_step : (s : Fixed) (v : View) (i : Instr) (place : ℕ) → IsCode s v.place i → GoesTo s v i place → Leads s 1 v (at_place place v)
+pub go_step : (s : Fixed) (v : View) (i : Instr) (place : ℕ) → IsInstructionAt s v.place i → GoesTo s v i place → ReachesView s 1 v (at_place place v)
 go_step s v i place c known = record {
   answers = refl;
   calls = refl;

@@ -6,18 +6,18 @@ use Rattle.std.proofs.lemmas.Bool.{and_parts, eqb-true}
 use Rattle.std.proofs.lemmas.Option.{slice_get_within}
 use Rattle.bs_words.specs.Memory.{Cell, HeapBlock, InBlock, InHeader, InStatic, Memory, StaticList, block_bytes, heap_need, in_statics}
 use Rattle.bs_words.specs.declared.values.Value.{Value}
-use Rattle.mach_ir.specs.Acts.{Around, is_among, same_cell, without}
+use Rattle.mach_ir.specs.Acts.{Around, is_among_cells, same_cell, without}
 use Rattle.rv_machine.specs.Hart.{Placed}
-use Rattle.rv_machine.specs.Memory.{Region, word, write}
+use Rattle.rv_machine.specs.Memory.{Region, memory_word, write}
 use Rattle.rv_machine.specs.Moving.{is_scanned}
-use Rattle.rv_machine.specs.Observation.{cells_of}
+use Rattle.rv_machine.specs.Observation.{cells_of_header}
 use Rattle.rv_machine.specs.Sound.{HasRegions, extents}
 use Rattle.machine_laws.proofs.Memory.{other_word}
-use Rattle.rv_machine.specs.Placement.{bytes_used, end_of}
-use Rattle.rv_machine.specs.Relocation.{root_cells}
+use Rattle.rv_machine.specs.Placement.{bytes_used, block_end}
+use Rattle.rv_machine.specs.Relocation.{root_addresses}
 use Rattle.moving_laws.specs.Stands.{StaticsStand}
 use Rattle.moving_laws.specs.Heap.{AllApart, AreApart}
-use Rattle.moving_laws.specs.Values.{FitsCell, IsKnown, start_of, value_word, words_of}
+use Rattle.moving_laws.specs.Values.{FitsCell, IsKnown, start_of, value_word, cells_of_block}
 use Rattle.moving_laws.specs.Words.{IsReadable, held_word}
 use Rattle.moving_laws.proofs.Held.{held_other}
 use Rattle.moving_laws.proofs.Rewriting.{start_inside}
@@ -34,7 +34,7 @@ sum_from : (n : ℕ) (xs : List ℕ) → fold ◌+◌ n xs ≡ n + sum xs
 sum_from n [] = omega arith
 sum_from n (x ∷ xs) = let p = sum_from (n + x) xs in let q = sum_from (0 + x) xs in omega (arith, p, q)
 
-bytes_are : (bs : List HeapBlock) (ps : List Placed) → length bs ≡ length ps → ((k : ℕ) → k < length ps → words_of ps k ≡ size_in (slice_get bs k)) →
+bytes_are : (bs : List HeapBlock) (ps : List Placed) → length bs ≡ length ps → ((k : ℕ) → k < length ps → cells_of_block ps k ≡ size_in (slice_get bs k)) →
     bytes_used ps ≡ sum (map block_bytes bs)
 bytes_are [] [] e h = refl
 bytes_are [] (p ∷ ps) e h = absurd (omega (arith, e))
@@ -52,15 +52,15 @@ bytes_need s placed m a h = bytes_are a.memory.blocks placed h.stand.count h.sta
 
 -- ---- places of words differ
 
-beside : (b : Placed) (bs : List Placed) (k : ℕ) → AllByRecursion (AreApart b) bs → k < length bs → (end_of b + 8 ≤ start_of bs k)
-    ⊎ (start_of bs k + 8 * words_of bs k + 8 ≤ b.start)
+beside : (b : Placed) (bs : List Placed) (k : ℕ) → AllByRecursion (AreApart b) bs → k < length bs → (block_end b + 8 ≤ start_of bs k)
+    ⊎ (start_of bs k + 8 * cells_of_block bs k + 8 ≤ b.start)
 beside b [] k far l = absurd (omega (arith, l))
 beside b (x ∷ bs) zero far l = far.0
 beside b (x ∷ bs) (suc k) far l = beside b bs k far.1 (omega (arith, l))
 
 -- two blocks, each with its header, have no word in common
 pub blocks_apart : (bs : List Placed) (j k : ℕ) → AllApart bs → j < length bs → k < length bs → j ≢ k →
-    (start_of bs j + 8 * words_of bs j + 8 ≤ start_of bs k) ⊎ (start_of bs k + 8 * words_of bs k + 8 ≤ start_of bs j)
+    (start_of bs j + 8 * cells_of_block bs j + 8 ≤ start_of bs k) ⊎ (start_of bs k + 8 * cells_of_block bs k + 8 ≤ start_of bs j)
 blocks_apart [] j k far l m n = absurd (omega (arith, l))
 blocks_apart (b ∷ bs) zero zero far l m n = absurd (n refl)
 blocks_apart (b ∷ bs) zero (suc k) far l m n = beside b bs k far.0 (omega (arith, m))
@@ -85,22 +85,22 @@ same_cell-true (InStatic s i) (InStatic t j) e =
     ap (λ n. InStatic n i) (eqb-true s t p.0) ∙ ap (InStatic t) (eqb-true i j p.1)
 
 -- a cell that is none of those left, is the one that was taken away, or was none of them before
-pub without_is : (c d : Cell) (ds : List Cell) → is_among d (without c ds) ≡ false → (d ≡ c) ⊎ (is_among d ds ≡ false)
+pub without_is : (c d : Cell) (ds : List Cell) → is_among_cells d (without c ds) ≡ false → (d ≡ c) ⊎ (is_among_cells d ds ≡ false)
 without_is c d [] e = inr refl
 without_is c d (x ∷ ds) e = by_test (same_cell c x) refl e (without_is c d ds)
   where
-    by_same : (t : Bool) → same_cell d x ≡ t → (c ≡ x) → (d ≡ c) ⊎ (is_among d ds ≡ false) → (d ≡ c) ⊎ ((t || is_among d ds) ≡ false)
+    by_same : (t : Bool) → same_cell d x ≡ t → (c ≡ x) → (d ≡ c) ⊎ (is_among_cells d ds ≡ false) → (d ≡ c) ⊎ ((t || is_among_cells d ds) ≡ false)
     by_same true f g later = inl (same_cell-true d x f ∙ sym g)
     by_same false f g later = later
 
-    by_other : (t : Bool) → (t || is_among d (without c ds)) ≡ false → (is_among d (without c ds) ≡ false → (d ≡ c) ⊎ (is_among d ds ≡ false)) → (d ≡ c)
-        ⊎ ((t || is_among d ds) ≡ false)
+    by_other : (t : Bool) → (t || is_among_cells d (without c ds)) ≡ false → (is_among_cells d (without c ds) ≡ false → (d ≡ c) ⊎ (is_among_cells d ds ≡ false)) → (d ≡ c)
+        ⊎ ((t || is_among_cells d ds) ≡ false)
     by_other true e later = absurd (cc)
     by_other false e later = later e
 
-    by_test : (t : Bool) → same_cell c x ≡ t → is_among d (cond t (without c ds) (x ∷ without c ds)) ≡ false →
-        (is_among d (without c ds) ≡ false → (d ≡ c) ⊎ (is_among d ds ≡ false)) →
-        (d ≡ c) ⊎ ((same_cell d x || is_among d ds) ≡ false)
+    by_test : (t : Bool) → same_cell c x ≡ t → is_among_cells d (cond t (without c ds) (x ∷ without c ds)) ≡ false →
+        (is_among_cells d (without c ds) ≡ false → (d ≡ c) ⊎ (is_among_cells d ds ≡ false)) →
+        (d ≡ c) ⊎ ((same_cell d x || is_among_cells d ds) ≡ false)
     by_test true f e later = by_same (same_cell d x) refl (same_cell-true c x f) (later e)
     by_test false f e later = by_other (same_cell d x) e later
 
@@ -147,7 +147,7 @@ statics_same memory bs y = ap (λ o. cond (y % 8 == 0) o None) (by_test (y % 1 =
 -- what stands for static cells stands for them whatever the blocks hold, where their words stay
 pub statics_stay : (s : Fixed) (placed : List Placed) (m m' : List Region) (memory : Memory) (bs : List HeapBlock) →
     ((y : ℕ) → y % 8 ≡ 0 → y < 0x20000000 → held_word m' y ≡ held_word m y) →
-    StaticsStand s.image placed m (root_cells s.image) (statics_of memory) → StaticsStand s.image placed m' (root_cells s.image)
+    StaticsStand s.image placed m (root_addresses s.image) (statics_of memory) → StaticsStand s.image placed m' (root_addresses s.image)
     (statics_of (record memory { blocks = bs }))
 statics_stay s placed m m' memory bs same h =
     let short = s.functions.tables.bytes.short in
@@ -165,7 +165,7 @@ module _ (s : Fixed) (placed : List Placed) (m : List Region) (regions : HasRegi
     (k n value : ℕ) (x : Value) (b : HeapBlock) (there : slice_get a.memory.blocks k ≡ Some b) (inside : n < length b.cells) (small : value < 2 ^ 64)
     (stands : StandsFor s placed value x)
     (fits : FitsCell s.image (length placed) (is_scanned b.header) x) (unwritten : List Cell)
-    (fewer : (c : Cell) → is_among c unwritten ≡ false → (c ≡ InBlock k n) ⊎ (is_among c a.unwritten ≡ false)) where
+    (fewer : (c : Cell) → is_among_cells c unwritten ≡ false → (c ≡ InBlock k n) ⊎ (is_among_cells c a.unwritten ≡ false)) where
   abbrev new_block : HeapBlock
   new_block = record b { cells = slice_set b.cells n x }
 
@@ -187,7 +187,7 @@ module _ (s : Fixed) (placed : List Placed) (m : List Region) (regions : HasRegi
   k_in : k < length placed
   k_in = let w = slice_get_within a.memory.blocks k b there in let c = count_is in omega (arith, w, c)
 
-  size_is : words_of placed k ≡ length b.cells
+  size_is : cells_of_block placed k ≡ length b.cells
   size_is = h.stand.sizes k k_in ∙ ap size_in there
 
   near : (start_of placed k % 8 ≡ 0) × (0x30000008 ≤ start_of placed k) × (start_of placed k ≤ 0x38010000)
@@ -198,7 +198,7 @@ module _ (s : Fixed) (placed : List Placed) (m : List Region) (regions : HasRegi
       (omega (arith, e, inside))
 
   -- another word stays
-  stays : (y : ℕ) → start_of placed k + 8 * n ≢ y → word m' y ≡ word m y
+  stays : (y : ℕ) → start_of placed k + 8 * n ≢ y → memory_word m' y ≡ memory_word m y
   stays y d = other_word m (start_of placed k + 8 * n) y value d
 
   head_differs : (j : ℕ) → j < length placed → start_of placed k + 8 * n ≢ start_of placed j - 8
@@ -210,7 +210,7 @@ module _ (s : Fixed) (placed : List Placed) (m : List Region) (regions : HasRegi
       (λ d. ⊎_elim (λ z. omega (arith, q, z, p)) (λ z. omega (arith, q, z, e, inside)) (blocks_apart placed j k h.old.apart l k_in d))
       (same_or_not j k)
 
-  cell_differs : (j i : ℕ) → j < length placed → i < words_of placed j → ((j ≡ k) → i ≢ n) → start_of placed k + 8 * n ≢ start_of placed j + 8 * i
+  cell_differs : (j i : ℕ) → j < length placed → i < cells_of_block placed j → ((j ≡ k) → i ≢ n) → start_of placed k + 8 * n ≢ start_of placed j + 8 * i
   cell_differs j i l w d q =
       let e = size_is in
       let p = start_inside placed j h.old.inside l in
@@ -252,7 +252,7 @@ module _ (s : Fixed) (placed : List Placed) (m : List Region) (regions : HasRegi
       (same_or_not j k)
 
   -- what a cell then holds: the one that was written this value, another what it held
-  cell_as : (j i : ℕ) (v : Value) → cond (is_among (InBlock j i) unwritten) None (cell_in (slice_get (slice_set a.memory.blocks k new_block) j) i) ≡ Some v →
+  cell_as : (j i : ℕ) (v : Value) → cond (is_among_cells (InBlock j i) unwritten) None (cell_in (slice_get (slice_set a.memory.blocks k new_block) j) i) ≡ Some v →
       ((j ≡ k) × (i ≡ n) × (v ≡ x)) ⊎ (((j ≡ k) → i ≢ n) × ((blocks_of a).cell j i ≡ Some v))
   cell_as j i v e = ⊎_elim (λ (t : j ≡ k). ⊎_elim (λ (u : i ≡ n). inl (t, u, here t u)) (λ d. inr ((λ q. d), other (λ q. d))) (same_or_not i n))
       (λ d. inr ((λ q. absurd (d q)), other (λ q. absurd (d q)))) (same_or_not j k)
@@ -263,7 +263,7 @@ module _ (s : Fixed) (placed : List Placed) (m : List Region) (regions : HasRegi
 
       here : j ≡ k → i ≡ n → v ≡ x
       here t u =
-          let p = (parts (is_among (InBlock j i) unwritten) (cell_in (slice_get (slice_set a.memory.blocks k new_block) j) i) e).1 in
+          let p = (parts (is_among_cells (InBlock j i) unwritten) (cell_in (slice_get (slice_set a.memory.blocks k new_block) j) i) e).1 in
           let q : cell_in (slice_get (slice_set a.memory.blocks k new_block) k) n ≡ Some v = subst (λ z. cell_in (slice_get
           (slice_set a.memory.blocks k new_block) z) n ≡ Some v) t (subst (λ z. cell_in (slice_get
           (slice_set a.memory.blocks k new_block) j) z ≡ Some v) u p) in
@@ -285,7 +285,7 @@ module _ (s : Fixed) (placed : List Placed) (m : List Region) (regions : HasRegi
 
       other : ((j ≡ k) → i ≢ n) → (blocks_of a).cell j i ≡ Some v
       other d =
-          let p = parts (is_among (InBlock j i) unwritten) (cell_in (slice_get (slice_set a.memory.blocks k new_block) j) i) e in
+          let p = parts (is_among_cells (InBlock j i) unwritten) (cell_in (slice_get (slice_set a.memory.blocks k new_block) j) i) e in
           ⊎_elim (λ q. let u = unequal q in absurd (d u.0 u.1))
           (λ f. ap (λ t. cond t None (cell_in (slice_get a.memory.blocks j) i)) f ∙ sym (old_cell d) ∙ p.1)
           (fewer (InBlock j i) p.0)
@@ -300,14 +300,14 @@ module _ (s : Fixed) (placed : List Placed) (m : List Region) (regions : HasRegi
           count = length-set a.memory.blocks k new_block ∙ h.stand.count;
           sizes = λ j l. h.stand.sizes j l ∙ sym (size_as j);
           header = λ j w l e.
-              stays (start_of placed j - 8) (head_differs j l) ∙ h.stand.header j w l (head_before j w (is_among (InHeader j) unwritten) refl e);
+              stays (start_of placed j - 8) (head_differs j l) ∙ h.stand.header j w l (head_before j w (is_among_cells (InHeader j) unwritten) refl e);
           cell = λ j i v l w e.
               ⊎_elim
               (λ q.
               let here : start_of placed k + 8 * n ≡ start_of placed j + 8 * i =
               subst (λ z. start_of placed k + 8 * n ≡ start_of placed z + 8 * i) (sym q.0)
               (subst (λ z. start_of placed k + 8 * n ≡ start_of placed k + 8 * z) (sym q.1) refl) in
-              subst (λ y. word m' y ≡ value_word s.image placed v) here
+              subst (λ y. memory_word m' y ≡ value_word s.image placed v) here
               (word_same m (start_of placed k + 8 * n) value (formed_regions (extents s.image s.heap s.base) m regions) readable_there small ∙ stands.is
               ∙ ap (value_word s.image placed) (sym q.2)))
               (λ q. stays (start_of placed j + 8 * i) (cell_differs j i l w q.0) ∙ h.stand.cell j i v l w q.1)
@@ -315,7 +315,7 @@ module _ (s : Fixed) (placed : List Placed) (m : List Region) (regions : HasRegi
           known = λ j i v l e. ⊎_elim (λ q. subst (IsKnown s.image (length placed)) (sym q.2) stands.known) (λ q. h.stand.known j i v l q.1) (cell_as j i v e);
         };
         heads = λ j y e. ⊎_elim
-            (λ q. subst (λ z. cells_of z.header ≡ length z.cells) (sym q.1) (h.heads k b there ∙ sym (length-set b.cells n x)))
+            (λ q. subst (λ z. cells_of_header z.header ≡ length z.cells) (sym q.1) (h.heads k b there ∙ sym (length-set b.cells n x)))
             (λ q. h.heads j y q.1)
             (set_by j y e);
         fits = λ j i y v e f. ⊎_elim
@@ -335,7 +335,7 @@ module _ (s : Fixed) (placed : List Placed) (m : List Region) (regions : HasRegi
       not_cell : (j : ℕ) → InHeader j ≡ InBlock k n → ⊥
       not_cell j q = absurd (cc)
 
-      head_before : (j w : ℕ) (t : Bool) → is_among (InHeader j) unwritten ≡ t →
+      head_before : (j w : ℕ) (t : Bool) → is_among_cells (InHeader j) unwritten ≡ t →
           cond t None (header_in (slice_get (slice_set a.memory.blocks k new_block) j)) ≡ Some w → (blocks_of a).header j ≡ Some w
       head_before j w true f e = absurd (cc)
       head_before j w false f e =

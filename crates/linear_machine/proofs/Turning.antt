@@ -6,9 +6,9 @@ use Rattle.bs_words.specs.declared.types.Loc.TheVariants as loc
 use Rattle.bs_words.specs.declared.values.Value.{Value}
 use Rattle.lin_ir.specs.Meaning.{Locations}
 use Rattle.mach_ir.specs.Acts.{Around, is_complete}
-use Rattle.mach_ir.specs.Runs.{entered}
+use Rattle.mach_ir.specs.Runs.{entry_around}
 use Rattle.rv_machine.specs.Hart.{Placed}
-use Rattle.rv_machine.specs.Memory.{Region, word, write, code_start}
+use Rattle.rv_machine.specs.Memory.{Region, memory_word, write, code_start}
 use Rattle.rv_machine.specs.Placement.{are_apart}
 use Rattle.rv_machine.specs.Sound.{HasRegions, extents}
 use Rattle.rv_machine.specs.Space.{IsHeap}
@@ -19,7 +19,7 @@ use Rattle.moving_laws.proofs.Held.{held_other}
 use Rattle.moving_laws.proofs.Usable.{formed_regions, stack_readable}
 use Rattle.moving_laws.proofs.Words.{readable_write, word_same}
 use Rattle.linear_machine.specs.Moments.{AtEntry, AtReturn}
-use Rattle.linear_machine.specs.Relation.{AreCarried, Below, HeapStands, IsLocation, IsUsable, Laid, ReturnStands, StandsFor, TrapsStand, Waits, Within, all_of}
+use Rattle.linear_machine.specs.Relation.{AreCarried, Below, HeapStands, IsLocationRegister, IsUsable, Laid, ReturnStands, StandsFor, TrapsStand, Waits, Within, blocks_by_serial}
 use Rattle.linear_machine.specs.Straight.{Differs}
 use Rattle.linear_machine.specs.View.{Fixed, View}
 use Rattle.linear_machine.proofs.Frames.{heap_whole}
@@ -34,8 +34,8 @@ usable_past s v w m em eb has u = record {
   apart = ap are_apart eb ∙ u.apart;
 }
 
-pub placed_past : (v w : View) (young : List Placed) → w.blocks ≡ v.blocks → all_of w young ≡ all_of v young
-placed_past v w young e = ap (λ bs. all_of (record v { blocks = bs }) young) e
+pub placed_past : (v w : View) (young : List Placed) → w.blocks ≡ v.blocks → blocks_by_serial w young ≡ blocks_by_serial v young
+placed_past v w young e = ap (λ bs. blocks_by_serial (record v { blocks = bs }) young) e
 
 -- ---- a function is left: sp is back where it was, and a0 is as it was
 
@@ -58,16 +58,16 @@ module _ (s : Fixed) (laid : Laid) (v w : View) (young : List Placed) (held : Lo
         usable = usable_past s v w v.memory differs.memory differs.blocks within.usable.regions within.usable;
         top = top;
         value_in = λ x h.
-            let p = (subst (λ o. AreCarried s (all_of v young) v.registers held o) none within.carried) 10 x (there x h) in
+            let p = (subst (λ o. AreCarried s (blocks_by_serial v young) v.registers held o) none within.carried) 10 x (there x h) in
             subst (λ b. StandsFor s b (slice_index w.registers 10) x) (sym same)
-            (subst (λ z. StandsFor s (all_of v young) z x)
+            (subst (λ z. StandsFor s (blocks_by_serial v young) z x)
             (sym (off 10 (λ e. omega (arith, e)) (λ e. omega (arith, e)) (λ e. omega (arith, e)) (λ e. omega (arith, e)))) p.1);
-        waits = subst (λ b. Waits s b w.memory c) (sym same) (subst (λ m. Waits s (all_of v young) m c) (sym differs.memory) within.waits);
+        waits = subst (λ b. Waits s b w.memory c) (sym same) (subst (λ m. Waits s (blocks_by_serial v young) m c) (sym differs.memory) within.waits);
         traps = subst (λ m. TrapsStand s m (slice_index w.registers 9) [] c) (sym differs.memory)
             (subst (λ t. TrapsStand s v.memory t [] c) (sym e9)
             (subst (λ ts. TrapsStand s v.memory (slice_index v.registers 9) (traps_at (slice_index v.registers 2) (map laid.handler ts)) c) left within.traps));
-        heap = subst (λ b. HeapStands s b w.memory (entered a.memory)) (sym same)
-            (subst (λ m. HeapStands s (all_of v young) m (entered a.memory)) (sym differs.memory) (heap_whole s (all_of v young) v.memory a whole within.heap));
+        heap = subst (λ b. HeapStands s b w.memory (entry_around a.memory)) (sym same)
+            (subst (λ m. HeapStands s (blocks_by_serial v young) m (entry_around a.memory)) (sym differs.memory) (heap_whole s (blocks_by_serial v young) v.memory a whole within.heap));
       }
 
 -- ---- a function begins: its frame is below sp as it was, and the return address has its place
@@ -77,7 +77,7 @@ pub record IsBegun (arguments : List Value) (held : Locations) : Type 0 where
   pub register : (r : ℕ) (x : Value) → held (loc.Machine r) ≡ Some x → (k : ℕ) × (r ≡ 10 + k) × (slice_get arguments k ≡ Some x)
   pub slot : (k : ℕ) (x : Value) → held (loc.Slot k) ≡ Some x → ⊥
 
-argument_location : (k r : ℕ) → k < 16 → r ≡ 10 + k → IsLocation r
+argument_location : (k r : ℕ) → k < 16 → r ≡ 10 + k → IsLocationRegister r
 argument_location k r l e = record {
   some = omega (arith, e);
   below = omega (arith, e, l);
@@ -103,7 +103,7 @@ module _ (s : Fixed) (laid : Laid) (v w : View) (young : List Placed) (entry : �
   base_high = let b = s.stack.low in omega (arith, b)
 
   -- every word but that one stays
-  saved_off : (b : Bool) (y : ℕ) → c.top - 8 ≢ y → word (saved b v.memory (c.top - 8) c.back) y ≡ word v.memory y
+  saved_off : (b : Bool) (y : ℕ) → c.top - 8 ≢ y → memory_word (saved b v.memory (c.top - 8) c.back) y ≡ memory_word v.memory y
   saved_off true y n = other_word v.memory (c.top - 8) y c.back n
   saved_off false y n = refl
 
@@ -120,11 +120,11 @@ module _ (s : Fixed) (laid : Laid) (v w : View) (young : List Placed) (entry : �
   some_room true e t = let r = subst (λ k. 8 * laid.slots + cond k 8 0 ≤ laid.frame) (sym e) laid.room in omega (arith, r)
   some_room false e t = absurd (cc)
 
-  stack_same : (b : Bool) → b ≡ laid.saves → (y : ℕ) → c.top ≤ y → word (saved b v.memory (c.top - 8) c.back) y ≡ word v.memory y
+  stack_same : (b : Bool) → b ≡ laid.saves → (y : ℕ) → c.top ≤ y → memory_word (saved b v.memory (c.top - 8) c.back) y ≡ memory_word v.memory y
   stack_same true e y l = let r = some_room true e refl in saved_off true y (λ q. omega (arith, q, l, r, fits))
   stack_same false e y l = refl
 
-  heap_same : (b : Bool) → b ≡ laid.saves → (y : ℕ) → y < 0x38010008 → word (saved b v.memory (c.top - 8) c.back) y ≡ word v.memory y
+  heap_same : (b : Bool) → b ≡ laid.saves → (y : ℕ) → y < 0x38010008 → memory_word (saved b v.memory (c.top - 8) c.back) y ≡ memory_word v.memory y
   heap_same true e y l = let r = some_room true e refl in let bh = base_high in saved_off true y (λ q. omega (arith, q, l, r, fits, bh))
   heap_same false e y l = refl
 
@@ -146,10 +146,10 @@ module _ (s : Fixed) (laid : Laid) (v w : View) (young : List Placed) (entry : �
   back_stands false e = off_entry 1 (λ e. omega (arith, e)) (λ e. omega (arith, e)) (λ e. omega (arith, e)) ∙ at.back
 
   returns_as : (b : Bool) → ReturnStands b (record w { memory = saved laid.saves v.memory (c.top - 8) c.back }) c → ReturnStands b w c
-  returns_as true h = ap (λ m. word m (c.top - 8)) differs.memory ∙ h
+  returns_as true h = ap (λ m. memory_word m (c.top - 8)) differs.memory ∙ h
   returns_as false h = h
 
-  pub begins : (held : Locations) → IsBegun arguments held → Within s laid w young 0 held (entered memory) c
+  pub begins : (held : Locations) → IsBegun arguments held → Within s laid w young 0 held (entry_around memory) c
   begins held begun =
       let m' : List Region = saved laid.saves v.memory (c.top - 8) c.back in
       let same = placed_past v w young differs.blocks in
@@ -167,18 +167,18 @@ module _ (s : Fixed) (laid : Laid) (v w : View) (young : List Placed) (entry : �
             let here : slice_index w.registers r ≡ slice_index v.registers (10 + g.0) = ap (slice_index w.registers) e ∙ off_entry (10 + g.0)
             (λ q. omega (arith, q)) (λ q. omega (arith, q)) (λ q. omega (arith, q)) in (
               argument_location g.0 r p.0 e,
-              subst (λ b. StandsFor s b (slice_index w.registers r) x) (sym same) (subst (λ z. StandsFor s (all_of v young) z x) (sym here) p.1),
+              subst (λ b. StandsFor s b (slice_index w.registers r) x) (sym same) (subst (λ z. StandsFor s (blocks_by_serial v young) z x) (sym here) p.1),
             );
         slots = λ k x h. absurd (begun.slot k x h);
         back = returns_as laid.saves (back_stands laid.saves refl);
-        waits = subst (λ b. Waits s b w.memory c) (sym same) (subst (λ m. Waits s (all_of v young) m c) (sym differs.memory)
-            (waits_kept s (all_of v young) v.memory m' c (λ y l h. stack_same laid.saves refl y l) at.waits));
+        waits = subst (λ b. Waits s b w.memory c) (sym same) (subst (λ m. Waits s (blocks_by_serial v young) m c) (sym differs.memory)
+            (waits_kept s (blocks_by_serial v young) v.memory m' c (λ y l h. stack_same laid.saves refl y l) at.waits));
         traps = subst (λ m. TrapsStand s m (slice_index w.registers 9) [] c) (sym differs.memory)
             (subst (λ t. TrapsStand s m' t [] c) (sym e9)
-            (traps_kept s (all_of v young) v.memory m' (slice_index v.registers 9) [] c (λ y l h. stack_same laid.saves refl y l) tt at.waits at.traps));
-        heap = subst (λ b. HeapStands s b w.memory (entered memory)) (sym same)
-            (subst (λ m. HeapStands s (all_of v young) m (entered memory)) (sym differs.memory)
-            (heap_kept s (all_of v young) v.memory m' (entered memory) (λ y l n. heap_same laid.saves refl y l)
+            (traps_kept s (blocks_by_serial v young) v.memory m' (slice_index v.registers 9) [] c (λ y l h. stack_same laid.saves refl y l) tt at.waits at.traps));
+        heap = subst (λ b. HeapStands s b w.memory (entry_around memory)) (sym same)
+            (subst (λ m. HeapStands s (blocks_by_serial v young) m (entry_around memory)) (sym differs.memory)
+            (heap_kept s (blocks_by_serial v young) v.memory m' (entry_around memory) (λ y l n. heap_same laid.saves refl y l)
             (λ y e l. held_same laid.saves refl y e l)
             (λ y r. saved_readable laid.saves y r) at.heap));
       }

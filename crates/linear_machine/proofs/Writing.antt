@@ -4,12 +4,12 @@ use Rattle.std.proofs.lemmas.Option.{slice_get_within}
 use Rattle.bs_words.specs.Memory.{Cell, HeapBlock, InBlock, InHeader, Memory}
 use Rattle.bs_words.specs.declared.values.Value.{Value}
 use Rattle.lin_ir.specs.Meaning.{Locations}
-use Rattle.mach_ir.specs.Acts.{Around, is_among}
+use Rattle.mach_ir.specs.Acts.{Around, is_among_cells}
 use Rattle.rv_machine.specs.Hart.{Placed}
-use Rattle.rv_machine.specs.Memory.{Region, word, write}
+use Rattle.rv_machine.specs.Memory.{Region, memory_word, write}
 use Rattle.rv_machine.specs.Sound.{HasRegions, extents}
 use Rattle.machine_laws.proofs.Memory.{other_word}
-use Rattle.moving_laws.specs.Values.{start_of, words_of}
+use Rattle.moving_laws.specs.Values.{start_of, cells_of_block}
 use Rattle.moving_laws.specs.Waiting.{traps_at}
 use Rattle.moving_laws.specs.Words.{IsReadable}
 use Rattle.moving_laws.proofs.Held.{held_other}
@@ -17,7 +17,7 @@ use Rattle.moving_laws.proofs.Rewriting.{start_inside}
 use Rattle.moving_laws.proofs.Usable.{formed_regions}
 use Rattle.moving_laws.proofs.Words.{readable_write, same_or_not, word_same}
 use Rattle.linear_machine.specs.Contents.{blocks_of, cell_in, header_in}
-use Rattle.linear_machine.specs.Relation.{Below, HeapStands, Laid, ReturnStands, StandsFor, Within, all_of}
+use Rattle.linear_machine.specs.Relation.{Below, HeapStands, Laid, ReturnStands, StandsFor, Within, blocks_by_serial}
 use Rattle.linear_machine.specs.View.{Fixed, View}
 use Rattle.linear_machine.proofs.Keeping.{traps_at_all, traps_kept, waits_kept}
 use Rattle.linear_machine.proofs.Storing.{blocks_apart, statics_stay}
@@ -26,8 +26,8 @@ use Rattle.linear_machine.proofs.Storing.{blocks_apart, statics_stay}
 
 pub within_changed :
     (s : Fixed) (laid : Laid) (v : View) (young : List Placed) (taken : ℕ) (held : Locations) (a : Around) (c : Below) (m' : List Region) (memory : Memory)
-    (unwritten : List Cell) → HasRegions (extents s.image s.heap s.base) m' → ((y : ℕ) → 0x38010008 ≤ y → word m' y ≡ word v.memory y) →
-    HeapStands s (all_of v young) m' (record a { memory = memory; unwritten = unwritten }) → Within s laid v young taken held a c →
+    (unwritten : List Cell) → HasRegions (extents s.image s.heap s.base) m' → ((y : ℕ) → 0x38010008 ≤ y → memory_word m' y ≡ memory_word v.memory y) →
+    HeapStands s (blocks_by_serial v young) m' (record a { memory = memory; unwritten = unwritten }) → Within s laid v young taken held a c →
     Within s laid (record v { memory = m' }) young taken held (record a { memory = memory; unwritten = unwritten }) c
 within_changed s laid v young taken held a c m' memory unwritten regions keeps heap w =
     let lo = w.low in
@@ -43,10 +43,10 @@ within_changed s laid v young taken held a c m' memory unwritten regions keeps h
       slots = λ k x h.
           let p = w.slots k x h in
           let same = keeps (slice_index v.registers 2 + (8 * k + 16 * length a.tries)) (omega (arith, lo, high)) in
-          (p.0, subst (λ z. StandsFor s (all_of v young) z x) (sym same) p.1);
+          (p.0, subst (λ z. StandsFor s (blocks_by_serial v young) z x) (sym same) p.1);
       back = return_kept laid.saves refl high w.back;
-      waits = waits_kept s (all_of v young) v.memory m' c (λ y l h. keeps y (omega (arith, l, wl, high))) w.waits;
-      traps = traps_kept s (all_of v young) v.memory m' (slice_index v.registers 9)
+      waits = waits_kept s (blocks_by_serial v young) v.memory m' c (λ y l h. keeps y (omega (arith, l, wl, high))) w.waits;
+      traps = traps_kept s (blocks_by_serial v young) v.memory m' (slice_index v.registers 9)
           (traps_at (slice_index v.registers 2) (map laid.handler a.tries)) c
           (λ y l h. keeps y (omega (arith, l, wl, high)))
           (traps_at_all _ (slice_index v.registers 2) (map laid.handler a.tries)
@@ -68,7 +68,7 @@ within_changed s laid v young taken held a c m' memory unwritten regions keeps h
 module _ (s : Fixed) (placed : List Placed) (m : List Region) (regions : HasRegions (extents s.image s.heap s.base) m) (a : Around)
     (h : HeapStands s placed m a)
     (k : ℕ) (b : HeapBlock) (there : slice_get a.memory.blocks k ≡ Some b) (small : b.header < 2 ^ 64) (unwritten : List Cell)
-    (fewer : (c : Cell) → is_among c unwritten ≡ false → (c ≡ InHeader k) ⊎ (is_among c a.unwritten ≡ false)) where
+    (fewer : (c : Cell) → is_among_cells c unwritten ≡ false → (c ≡ InHeader k) ⊎ (is_among_cells c a.unwritten ≡ false)) where
   k_in : k < length placed
   k_in = let w = slice_get_within a.memory.blocks k b there in let c = h.stand.count in omega (arith, w, c)
 
@@ -81,7 +81,7 @@ module _ (s : Fixed) (placed : List Placed) (m : List Region) (regions : HasRegi
   abbrev m' : List Region
   m' = write m (start_of placed k - 8) b.header
 
-  cell_differs : (j i : ℕ) → j < length placed → i < words_of placed j → start_of placed k - 8 ≢ start_of placed j + 8 * i
+  cell_differs : (j i : ℕ) → j < length placed → i < cells_of_block placed j → start_of placed k - 8 ≢ start_of placed j + 8 * i
   cell_differs j i l w q =
       let p = near in
       ⊎_elim
@@ -108,18 +108,18 @@ module _ (s : Fixed) (placed : List Placed) (m : List Region) (regions : HasRegi
               (λ (t : j ≡ k).
               let f : (blocks_of (record a { unwritten = unwritten })).header k ≡ Some w = subst (λ z. (blocks_of
               (record a { unwritten = unwritten })).header z ≡ Some w) t e in
-              let g : b.header ≡ w = head_is (is_among (InHeader k) unwritten) w f in
-              subst (λ z. word m' (start_of placed z - 8) ≡ w) (sym t)
+              let g : b.header ≡ w = head_is (is_among_cells (InHeader k) unwritten) w f in
+              subst (λ z. memory_word m' (start_of placed z - 8) ≡ w) (sym t)
               (word_same m (start_of placed k - 8) b.header (formed_regions (extents s.image s.heap s.base) m regions) readable_there small ∙ g))
               (λ d. other_word m (start_of placed k - 8) (start_of placed j - 8) b.header (head_differs j l d)
-              ∙ h.stand.header j w l (head_before j w (is_among (InHeader j) unwritten) refl d e))
+              ∙ h.stand.header j w l (head_before j w (is_among_cells (InHeader j) unwritten) refl d e))
               (same_or_not j k);
           cell = λ j i v l w e. other_word m (start_of placed k - 8) (start_of placed j + 8 * i) b.header (cell_differs j i l w)
-              ∙ h.stand.cell j i v l w (cell_before j i v (is_among (InBlock j i) unwritten) refl e);
-          known = λ j i v l e. h.stand.known j i v l (cell_before j i v (is_among (InBlock j i) unwritten) refl e);
+              ∙ h.stand.cell j i v l w (cell_before j i v (is_among_cells (InBlock j i) unwritten) refl e);
+          known = λ j i v l e. h.stand.known j i v l (cell_before j i v (is_among_cells (InBlock j i) unwritten) refl e);
         };
         heads = h.heads;
-        fits = λ j i y v e f. h.fits j i y v e (cell_before j i v (is_among (InBlock j i) unwritten) refl f);
+        fits = λ j i y v e f. h.fits j i y v e (cell_before j i v (is_among_cells (InBlock j i) unwritten) refl f);
         statics = statics_stay s placed m m' a.memory a.memory.blocks (λ y even l. held_other m (start_of placed k - 8) y b.header even (λ q. omega
             (arith, q, l, p))) h.statics;
         lie = h.lie;
@@ -129,7 +129,7 @@ module _ (s : Fixed) (placed : List Placed) (m : List Region) (regions : HasRegi
       head_is true w e = absurd (cc)
       head_is false w e = let f : header_in (slice_get a.memory.blocks k) ≡ Some b.header = ap header_in there in cc
 
-      head_before : (j w : ℕ) (t : Bool) → is_among (InHeader j) unwritten ≡ t → j ≢ k → cond t None (header_in (slice_get a.memory.blocks j)) ≡ Some w →
+      head_before : (j w : ℕ) (t : Bool) → is_among_cells (InHeader j) unwritten ≡ t → j ≢ k → cond t None (header_in (slice_get a.memory.blocks j)) ≡ Some w →
           (blocks_of a).header j ≡ Some w
       head_before j w true f d e = absurd (cc)
       head_before j w false f d e =
@@ -138,7 +138,7 @@ module _ (s : Fixed) (placed : List Placed) (m : List Region) (regions : HasRegi
           same_head : (j : ℕ) → InHeader j ≡ InHeader k → j ≡ k
           same_head j q = cc
 
-      cell_before : (j i : ℕ) (v : Value) (t : Bool) → is_among (InBlock j i) unwritten ≡ t → cond t None (cell_in (slice_get a.memory.blocks j) i) ≡ Some v →
+      cell_before : (j i : ℕ) (v : Value) (t : Bool) → is_among_cells (InBlock j i) unwritten ≡ t → cond t None (cell_in (slice_get a.memory.blocks j) i) ≡ Some v →
           (blocks_of a).cell j i ≡ Some v
       cell_before j i v true f e = absurd (cc)
       cell_before j i v false f e =

@@ -3,7 +3,7 @@
 use Rattle.std.specs.Prelude.{◌≡◌, ℕ, ◌+◌, ◌<◌, ◌≤◌, ◌⊎◌}
 use Rattle.rv_machine.specs.Services.{End, StackOut, HeapOut, Machine, Going, Over}
 use Rattle.guarded_machine.specs.Guarded.{guarded_after}
-use Rattle.linear_machine.specs.View.{Fixed, View, Stands}
+use Rattle.linear_machine.specs.View.{Fixed, View, HasView}
 
 -- What a step needs: bytes of stack below an address, and bytes of heap.
 pub record Needs : Type 0 where
@@ -11,13 +11,13 @@ pub record Needs : Type 0 where
   pub stack : ℕ
   pub heap : ℕ
 
-abbrev pub IsShort : Fixed → Needs → End → Type 0
-IsShort s q e =
+abbrev pub IsOutOfRoom : Fixed → Needs → End → Type 0
+IsOutOfRoom s q e =
     ((e ≡ StackOut) × (q.top < s.base + q.stack)) ⊎ ((e ≡ HeapOut) × (s.heap < q.heap))
 
 -- what is always there
-abbrev pub nothing : Fixed → Needs
-nothing s = record { top = s.base; stack = 0; heap = 0 }
+abbrev pub needs_nothing : Fixed → Needs
+needs_nothing s = record { top = s.base; stack = 0; heap = 0 }
 
 pub record ArrivalIn (least most : ℕ) (s : Fixed) (v : View) (a : Machine) (P : View → Type 0)
     : Type 0 where
@@ -27,7 +27,7 @@ pub record ArrivalIn (least most : ℕ) (s : Fixed) (v : View) (a : Machine) (P 
   pub few : count ≤ most
   pub view : View
   pub machine : Machine
-  pub stands : Stands s machine view
+  pub stands : HasView s machine view
   pub answers : view.answers ≡ v.answers
   pub calls : view.calls ≡ v.calls
   pub by : (j k : ℕ) → j ≡ count + k →
@@ -38,13 +38,13 @@ pub record ArrivalIn (least most : ℕ) (s : Fixed) (v : View) (a : Machine) (P 
 pub record Gone (s : Fixed) (q : Needs) (v : View) (a : Machine) : Type 0 where
   pub count : ℕ
   pub end : End
-  pub want : IsShort s q end
+  pub want : IsOutOfRoom s q end
   pub by : (j k : ℕ) → j ≡ count + k →
       guarded_after s.schedule j (Going a) ≡ guarded_after s.schedule k (Over v.calls end)
 
 pub record ArrivesIn (least most : ℕ) (s : Fixed) (q : Needs) (v : View) (P : View → Type 0)
     : Type 0 where
-  pub from : (a : Machine) → Stands s a v → ArrivalIn least most s v a P ⊎ Gone s q v a
+  pub from : (a : Machine) → HasView s a v → ArrivalIn least most s v a P ⊎ Gone s q v a
 
 abbrev pub Arrives : ℕ → Fixed → Needs → View → (View → Type 0) → Type 0
 Arrives most s q v P = ArrivesIn 0 most s q v P

@@ -4,7 +4,7 @@ use Rattle.std.specs.Prelude.{ℕ, ◌%◌, ◌==◌, cond, length, Option, Some
 use Rattle.bs_words.specs.Memory.{Memory, HeapBlock, Cell, InHeader, InBlock, cell_at, value_in}
 use Rattle.bs_words.specs.declared.values.Value.{Value}
 use Rattle.bs_words.specs.declared.values.Value.TheVariants.{Word}
-use Rattle.mach_ir.specs.Acts.{Around, is_among}
+use Rattle.mach_ir.specs.Acts.{Around, is_among_cells}
 use Rattle.moving_laws.specs.Stands.{Blocks}
 
 abbrev pub header_in : Option HeapBlock → Option ℕ
@@ -23,9 +23,9 @@ abbrev pub blocks_of : Around → Blocks
 blocks_of a = record {
   count = length a.memory.blocks;
   size = λ k. size_in (slice_get a.memory.blocks k);
-  header = λ k. cond (is_among (InHeader k) a.unwritten) None
+  header = λ k. cond (is_among_cells (InHeader k) a.unwritten) None
       (header_in (slice_get a.memory.blocks k));
-  cell = λ k j. cond (is_among (InBlock k j) a.unwritten) None
+  cell = λ k j. cond (is_among_cells (InBlock k j) a.unwritten) None
       (cell_in (slice_get a.memory.blocks k) j);
 }
 

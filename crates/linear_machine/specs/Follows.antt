@@ -9,7 +9,7 @@ use Rattle.lin_ir.specs.Formed.{spare}
 use Rattle.lin_ir.specs.Meaning.{Locations, State}
 use Rattle.lin_ir.specs.declared.lin.Line.{Line}
 use Rattle.rv_machine.specs.Hart.{Placed}
-use Rattle.linear_machine.specs.Arrival.{Needs, nothing, ArrivesIn}
+use Rattle.linear_machine.specs.Arrival.{Needs, needs_nothing, ArrivesIn}
 use Rattle.linear_machine.specs.Moments.{AtEntry, AtReturn, AtThrow}
 use Rattle.linear_machine.specs.Outside.{IsAsking}
 use Rattle.linear_machine.specs.Relation.{Below, Laid, During}
@@ -66,7 +66,7 @@ pub record FollowsCall (n : ℕ) (s : Fixed) (laid : Laid) (live : List Line →
     (entry : ℕ → ℕ) (c : Below) (v : View) (f : ℕ) (arguments : List Value) (memory : Memory)
     (go : Doing → Step State) : Type 0 where
   pub below : Below
-  pub enters : ArrivesIn 1 n s (nothing s) v (IsEntered s entry f arguments memory below)
+  pub enters : ArrivesIn 1 n s (needs_nothing s) v (IsEntered s entry f arguments memory below)
   pub resumes : (d : Doing) (w : View) → IsDone s below d w → IsAfter s laid live c (go d) w
 
 abbrev pub FollowsAsked : ℕ → Fixed → Laid → (List Line → Type 0) → (ℕ → ℕ) → Below → View → Asked →
@@ -74,14 +74,14 @@ abbrev pub FollowsAsked : ℕ → Fixed → Laid → (List Line → Type 0) → 
 FollowsAsked n s laid live entry c v call go (Inside f) =
     FollowsCall n s laid live entry c v f call.arguments call.memory go
 FollowsAsked n s laid live entry c v call go (Outside row frame) =
-    ArrivesIn 0 n s (nothing s) v
+    ArrivesIn 0 n s (needs_nothing s) v
     (IsAsking s (record { top = s.base; stack = 0; heap = heap_need call.memory }) row frame
     call.arguments call.memory (λ d w. IsAfter s laid live c (go d) w))
 
 -- a call that takes the function's place begins the callee where the function began
 abbrev pub FollowsTail : ℕ → Fixed → (ℕ → ℕ) → Below → View → Asked → Callee → Type 0
 FollowsTail n s entry c v call (Inside f) =
-    ArrivesIn 1 n s (nothing s) v (IsEntered s entry f call.arguments call.memory c)
+    ArrivesIn 1 n s (needs_nothing s) v (IsEntered s entry f call.arguments call.memory c)
 FollowsTail n s entry c v call (Outside row frame) = ⊥
 
 abbrev pub FollowsStep : ℕ → Fixed → Laid → (List Line → Type 0) → (ℕ → ℕ) → Below → View →
@@ -96,7 +96,7 @@ FollowsStep n s laid live entry c v (Waits call go) =
     FollowsAsked n s laid live entry c v call go call.callee
 FollowsStep n s laid live entry c v (FinishesBy call kept) =
     FollowsTail n s entry c v call call.callee
-FollowsStep n s laid live entry c v (Finishes d) = ArrivesIn 0 n s (nothing s) v (IsDone s c d)
-FollowsStep n s laid live entry c v (FinishesRaising d) = ArrivesIn 1 n s (nothing s) v
+FollowsStep n s laid live entry c v (Finishes d) = ArrivesIn 0 n s (needs_nothing s) v (IsDone s c d)
+FollowsStep n s laid live entry c v (FinishesRaising d) = ArrivesIn 1 n s (needs_nothing s) v
     (IsDone s c d)
 FollowsStep n s laid live entry c v IsStuck = Unit {0}

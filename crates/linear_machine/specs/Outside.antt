@@ -20,7 +20,7 @@ use Rattle.rv_machine.specs.Services.{Machine, Going, call_made}
 use Rattle.rv_machine.specs.Sound.{AllWords}
 use Rattle.moving_laws.specs.Values.{function_at}
 use Rattle.linear_machine.specs.Arrival.{Needs, Gone}
-use Rattle.linear_machine.specs.View.{Fixed, View, Stands, IsCode}
+use Rattle.linear_machine.specs.View.{Fixed, View, HasView, IsInstructionAt}
 
 -- ---- what answers say that the call did, and the answers that it leaves
 
@@ -50,21 +50,21 @@ taken_of frame memory result answers =
 -- ---- the call
 
 -- what is observed of an argument
-abbrev pub shown : Tables → Value → Obs
-shown image (Word w) = obs.Word w
-shown image (Block serial offset) = obs.Block serial
-shown image (Function f) = obs.Word (function_at image.funcs f)
+abbrev pub observed_argument : Tables → Value → Obs
+observed_argument image (Word w) = obs.Word w
+observed_argument image (Block serial offset) = obs.Block serial
+observed_argument image (Function f) = obs.Word (function_at image.funcs f)
 
 -- the call as it is counted
-abbrev pub counted : Fixed → External → List Value → Made
-counted s row arguments = record { name = row.name; shown = map (shown s.image) arguments }
+abbrev pub counted_call : Fixed → External → List Value → Made
+counted_call s row arguments = record { name = row.name; shown = map (observed_argument s.image) arguments }
 
 -- the ECALL has run, with what it took from the answers
 pub record GoesOn (s : Fixed) (a : Machine) (calls : List Made) (answers : List ℕ)
     (P : View → Type 0) : Type 0 where
   pub view : View
   pub machine : Machine
-  pub stands : Stands s machine view
+  pub stands : HasView s machine view
   pub answers_are : view.answers ≡ answers
   pub calls_are : view.calls ≡ calls
   pub by : (j k : ℕ) → j ≡ 1 + k →
@@ -81,10 +81,10 @@ pub record IsAsking (s : Fixed) (needs : Needs) (row : External) (frame : Bool)
     pub name : ext.name ≡ row.name
     pub params : ext.params ≡ row.params
     pub result : ext.result ≡ row.result
-    pub code : IsCode s w.place Ecall
+    pub code : IsInstructionAt s w.place Ecall
     pub service : slice_index w.registers t2 ≡ external_service frame
-    pub made : (a : Machine) → Stands s a w → call_made ext a.hart ≡ counted s row arguments
-    pub goes : (a : Machine) (t : Taken) → Stands s a w → AllWords w.answers →
+    pub made : (a : Machine) → HasView s a w → call_made ext a.hart ≡ counted_call s row arguments
+    pub goes : (a : Machine) (t : Taken) → HasView s a w → AllWords w.answers →
         taken_of frame memory row.result w.answers ≡ Some t →
-        GoesOn s a (w.calls ++ counted s row arguments ∷ []) t.answers (Goes t.doing)
+        GoesOn s a (w.calls ++ counted_call s row arguments ∷ []) t.answers (Goes t.doing)
         ⊎ Gone s needs w a

@@ -3,8 +3,8 @@ use Rattle.std.specs.Prelude.{◌≡◌, ℕ, ◌+◌, ◌*◌, ◌%◌, ◌<◌
 use Rattle.bs_words.specs.Fits.{data_start}
 use Rattle.bs_words.specs.Memory.{Memory, StaticList, end_of_data, is_root}
 use Rattle.image_form.specs.Tables.{Tables}
-use Rattle.rv_machine.specs.Relocation.{root_cells}
-use Rattle.moving_laws.specs.Stands.{Among}
+use Rattle.rv_machine.specs.Relocation.{root_addresses}
+use Rattle.moving_laws.specs.Stands.{AmongNumbers}
 
 -- a list begins at a multiple of 8, and has a cell for each 8 bytes that it begins
 abbrev pub IsCellList : StaticList → Type 0
@@ -20,5 +20,5 @@ AreBehind at (l ∷ lists) = (at ≤ l.start) × IsCellList l × AreBehind (l.st
 pub record StaticsLie (image : Tables) (memory : Memory) : Type 0 where
   pub lists : AreBehind data_start memory.statics
   pub ends : end_of_data memory ≡ data_start + length image.bytes
-  pub root : (x : ℕ) → is_root memory.roots x ≡ true → Among x (root_cells image)
-  pub roots : (x : ℕ) → Among x (root_cells image) → is_root memory.roots x ≡ true
+  pub root : (x : ℕ) → is_root memory.roots x ≡ true → AmongNumbers x (root_addresses image)
+  pub roots : (x : ℕ) → AmongNumbers x (root_addresses image) → is_root memory.roots x ≡ true

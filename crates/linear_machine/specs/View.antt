@@ -10,7 +10,7 @@ use Rattle.rv_isa.specs.Encoding.{InstrFits, encoded}
 use Rattle.rv_isa.specs.declared.instr.Instr.{Instr}
 use Rattle.rv_machine.specs.Hart.{Placed}
 use Rattle.rv_machine.specs.Loading.{IsRoom}
-use Rattle.rv_machine.specs.Memory.{Region, word, code_start}
+use Rattle.rv_machine.specs.Memory.{Region, memory_word, code_start}
 use Rattle.rv_machine.specs.Places.{domain_start, limit_asked, limit_at_rest}
 use Rattle.rv_machine.specs.Run.{Schedule}
 use Rattle.rv_machine.specs.Services.{End, Machine, Going, Over}
@@ -43,7 +43,7 @@ pub record View : Type 0 where
 
 -- two memories that differ in the limit word alone
 pub record IsLike (m m' : List Region) : Type 0 where
-  pub words : (x : ℕ) → x ≢ domain_start → word m' x ≡ word m x
+  pub words : (x : ℕ) → x ≢ domain_start → memory_word m' x ≡ memory_word m x
   -- also the word in which a region ends
   pub held : (x : ℕ) → x % 8 ≡ 0 → x ≢ domain_start → held_word m' x ≡ held_word m x
   pub lie : map extent m' ≡ map extent m
@@ -51,15 +51,15 @@ pub record IsLike (m m' : List Region) : Type 0 where
 
 -- the mover asks, or asks for nothing
 abbrev pub IsLimit : List Region → Type 0
-IsLimit m = (word m domain_start ≡ limit_at_rest) ⊎ (word m domain_start ≡ limit_asked)
+IsLimit m = (memory_word m domain_start ≡ limit_at_rest) ⊎ (memory_word m domain_start ≡ limit_asked)
 
 -- It asks, where that is known.
 abbrev pub KnownLimit : Bool → List Region → Type 0
-KnownLimit true m = word m domain_start ≡ limit_asked
+KnownLimit true m = memory_word m domain_start ≡ limit_asked
 KnownLimit false m = IsLimit m
 
 -- The machine is in this state.
-pub record Stands (s : Fixed) (machine : Machine) (v : View) : Type 0 where
+pub record HasView (s : Fixed) (machine : Machine) (v : View) : Type 0 where
   pub image : machine.hart.image ≡ s.image
   pub pc : machine.hart.pc ≡ code_start + 4 * v.place
   pub registers : machine.hart.registers ≡ v.registers
@@ -74,25 +74,25 @@ pub record Stands (s : Fixed) (machine : Machine) (v : View) : Type 0 where
   pub calls : machine.calls ≡ v.calls
 
 -- So many instructions lead from one view to another.
-pub record Leads (s : Fixed) (n : ℕ) (v w : View) : Type 0 where
+pub record ReachesView (s : Fixed) (n : ℕ) (v w : View) : Type 0 where
   pub answers : w.answers ≡ v.answers
   pub calls : w.calls ≡ v.calls
   pub asked : w.asked ≡ v.asked
-  pub by : (a : Machine) → Stands s a v → (b : Machine) × Stands s b w
+  pub by : (a : Machine) → HasView s a v → (b : Machine) × HasView s b w
       × ((j k : ℕ) → j ≡ n + k →
       guarded_after s.schedule j (Going a) ≡ guarded_after s.schedule k (Going b))
 
 -- So many instructions end the run.
-pub record Ends (s : Fixed) (n : ℕ) (v : View) (end : End) : Type 0 where
-  pub by : (a : Machine) → Stands s a v → (j k : ℕ) → j ≡ n + k →
+pub record EndsRunAfter (s : Fixed) (n : ℕ) (v : View) (end : End) : Type 0 where
+  pub by : (a : Machine) → HasView s a v → (j k : ℕ) → j ≡ n + k →
       guarded_after s.schedule j (Going a) ≡ guarded_after s.schedule k (Over v.calls end)
 
 -- the instruction is at this place of the code
-pub record IsCode (s : Fixed) (place : ℕ) (i : Instr) : Type 0 where
+pub record IsInstructionAt (s : Fixed) (place : ℕ) (i : Instr) : Type 0 where
   pub there : slice_get s.image.code place ≡ Some (encoded i)
   pub fits : InstrFits i
 
 -- so do these, one after the other
 abbrev pub HasCode : Fixed → ℕ → List Instr → Type 0
 HasCode s place [] = Unit {0}
-HasCode s place (i ∷ is) = IsCode s place i × HasCode s (place + 1) is
+HasCode s place (i ∷ is) = IsInstructionAt s place i × HasCode s (place + 1) is

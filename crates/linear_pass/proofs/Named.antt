@@ -8,10 +8,10 @@ use Rattle.bs_words.specs.declared.types.Comp.{Comp}
 use Rattle.bs_words.specs.declared.types.Loc.{Loc}
 use Rattle.bs_words.specs.declared.types.Loc.TheVariants as loc
 use Rattle.bs_words.proofs.Lists.{pairs_here, pairs_later}
-use Rattle.mach_ir.specs.Placed.{colours}
-use Rattle.lin_ir.specs.Descriptors.{IsEntry, of_register, of_slot, ComesBefore, Describes, AreExact}
+use Rattle.mach_ir.specs.Placed.{colour_numbers}
+use Rattle.lin_ir.specs.Descriptors.{IsDescriptorEntry, of_register, of_slot, ComesBefore, Describes, AreExact}
 use Rattle.lin_ir.specs.Formed.{IsHome, is_colour, is_slot, spare}
-use Rattle.lin_ir.specs.Walks.{Stands, LiveAt}
+use Rattle.lin_ir.specs.Walks.{StandsAsLine, LiveAt}
 use Rattle.lin_ir.specs.declared.descr.Descr.{Descr}
 use Rattle.lin_ir.specs.declared.lin.Line.{Line}
 use Rattle.lin_ir.specs.declared.lin.Lin.{Lin}
@@ -86,22 +86,22 @@ map_in f is_first = is_first
 map_in f (is_later i) = is_later (map_in f i)
 
 abbrev entries : Lin → ℕ → List ℕ
-entries m traps = map (λ r. 2 * r + 1) colours ++ slot_entries traps m.slots
+entries m traps = map (λ r. 2 * r + 1) colour_numbers ++ slot_entries traps m.slots
 
 entries_count : (m : Lin) (traps : ℕ) → length (entries m traps) ≡ 21 + m.slots
 entries_count m traps =
-    length-append (map (λ r. 2 * r + 1) colours) (slot_entries traps m.slots) ∙ ap (λ k. 21 + k) (slot_count traps m.slots)
+    length-append (map (λ r. 2 * r + 1) colour_numbers) (slot_entries traps m.slots) ∙ ap (λ k. 21 + k) (slot_count traps m.slots)
 
-among : (m : Lin) (traps : ℕ) (l : Loc) (e : ℕ) → IsHome m l → IsEntry traps l e → IsIn e (entries m traps)
+among : (m : Lin) (traps : ℕ) (l : Loc) (e : ℕ) → IsHome m l → IsDescriptorEntry traps l e → IsIn e (entries m traps)
 among m traps (loc.Machine r) e (is_colour c) of_register =
-    left_in (slot_entries traps m.slots) (map_in (λ r. 2 * r + 1) (in_of r colours c))
-among m traps (loc.Slot k) e (is_slot lt) of_slot = right_in (map (λ r. 2 * r + 1) colours) (has_slot traps k m.slots lt)
+    left_in (slot_entries traps m.slots) (map_in (λ r. 2 * r + 1) (in_of r colour_numbers c))
+among m traps (loc.Slot k) e (is_slot lt) of_slot = right_in (map (λ r. 2 * r + 1) colour_numbers) (has_slot traps k m.slots lt)
 among m traps loc.Unset e h i = elim h [ ]
 
 -- ---- what is live
 
 module _ (m : Lin) (homes : All (λ (i : Line). AtHomes m i.args × AtHomes m i.results) m.code) where
-  pub no_spare : (i : Line) (next : List Line) (t : Comp) → Stands i next m.code → LiveAt m spare t i next → ⊥
+  pub no_spare : (i : Line) (next : List Line) (t : Comp) → StandsAsLine i next m.code → LiveAt m spare t i next → ⊥
   no_spare i next t s v = not_spare {m = m} (live_home m homes s v) refl
 
   pub names_homes : (d : Descr) → Describes m d → NamesHomes m d

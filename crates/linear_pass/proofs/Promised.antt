@@ -12,7 +12,7 @@ use Rattle.lin_ir.specs.declared.lin.Lin.{Lin}
 use Rattle.lin_laws.specs.Graph.{AreNumbered}
 use Rattle.lin_flow.proofs.Begun.{are_numbered}
 use Rattle.linear_rules.specs.Keeps.{KeepsReached}
-use Rattle.linear_rules.specs.Lowered.{is_among, slots_of, slot_number, slot_count, lowered}
+use Rattle.linear_rules.specs.Lowered.{is_among_numbers, slots_of_function, slot_number, slot_count, lowered}
 use Rattle.linear_rules.proofs.Lowering.{lowered_keeps_reached, lowered_well_formed, lowered_slots, lowered_lines, lowered_labels}
 use Rattle.linear_rules.proofs.Slots.{slot_occurs_in_code, slot_occurs_in_params, slot_stands, numbers_apart, numbers_below, numbers_onto}
 use Rattle.tidy_rules.specs.Redirecting.{Tidies}
@@ -28,7 +28,7 @@ use Rattle.linear_pass.specs.Linear.{IsSlotOf, OneForEach, IsLinearOf}
 use Rattle.linear_pass.proofs.Named.{no_spare, all_homes}
 
 module _ (p : Mach) where
-  occurs : (k : ℕ) → IsSlotOf p k → is_among k (slots_of p) ≡ true
+  occurs : (k : ℕ) → IsSlotOf p k → is_among_numbers k (slots_of_function p) ≡ true
   occurs k h = ⊎_elim (λ c. slot_occurs_in_params p k h.0 c h.2) (λ c. slot_occurs_in_code p k h.0 c h.2) h.1
 
   -- one slot for each slot number that occurs

@@ -9,11 +9,11 @@ use Rattle.mach_ir.specs.Walks.{InCode}
 use Rattle.mach_ir.specs.Walks as mach_walks
 use Rattle.mach_ir.specs.declared.reg.Reg.{Reg}
 use Rattle.mach_ir.specs.declared.mach.Mach.{Mach}
-use Rattle.lin_ir.specs.Descriptors.{IsEntry, AreExact, NamesLives, NoAddrLive}
+use Rattle.lin_ir.specs.Descriptors.{IsDescriptorEntry, AreExact, NamesLives, NoAddrLive}
 use Rattle.lin_ir.specs.Formed.{IsHome, IsTight, spare, labels_in}
-use Rattle.lin_ir.specs.Keeps.{Keeps}
+use Rattle.lin_ir.specs.Keeps.{LinearKeeps}
 use Rattle.lin_ir.specs.Meaning.{NamedAt}
-use Rattle.lin_ir.specs.Walks.{Stands, LiveAt}
+use Rattle.lin_ir.specs.Walks.{StandsAsLine, LiveAt}
 use Rattle.lin_ir.specs.declared.descr.Descr.{Descr}
 use Rattle.lin_ir.specs.declared.lin.Line.{Line}
 use Rattle.lin_ir.specs.declared.lin.Lin.{Lin}
@@ -43,7 +43,7 @@ pub record OneForEach (p : Mach) (slots : ℕ) : Type 0 where
 pub record NamesHomes (m : Lin) (d : Descr) : Type 0 where
   pub few : length d.entries ≤ 21 + m.slots
   pub homes : (entry : ℕ) → Contains d.entries entry →
-      (traps : ℕ) × (l : Loc) × IsHome m l × IsEntry traps l entry
+      (traps : ℕ) × (l : Loc) × IsHome m l × IsDescriptorEntry traps l entry
 
 -- ---- whole
 
@@ -56,7 +56,7 @@ pub record IsLinearOf (p : Mach) (r : Lin) : Type 0 where
   -- Where no address is live after a frame point of the Mach function: with names that are exact it
   -- does the same while all else is poison, so it never reads poison where the Mach function is not
   -- stuck; and no location of it is live as addr after a frame point.
-  pub keeps : mach_walks.NoAddrLive p → (named : NamedAt) → NamesLives r named → Keeps p r named
+  pub keeps : mach_walks.NoAddrLive p → (named : NamedAt) → NamesLives r named → LinearKeeps p r named
   pub no_addr : mach_walks.NoAddrLive p → NoAddrLive r
   -- Each line but labels and entries of handlers is reached by some walk, each move of a location
   -- to itself is for its type, and no jump leads to where control comes without it.
@@ -72,7 +72,7 @@ pub record IsLinearOf (p : Mach) (r : Lin) : Type 0 where
   pub labels_few : length (labels_in r.code) ≤
       length (mach_formed.labels_in p.code) + length p.code
   -- t0 is live nowhere after a frame point, and no descriptor names it
-  pub spare_dead : (i : Line) (next : List Line) (t : Comp) → Stands i next r.code →
+  pub spare_dead : (i : Line) (next : List Line) (t : Comp) → StandsAsLine i next r.code →
       LiveAt r spare t i next → ⊥
   pub named : (ds : List Descr) → AreExact r ds → All (NamesHomes r) ds
   -- at most five lines for each instruction, and one for each try that an exit ends

@@ -13,13 +13,13 @@ use Rattle.bs_words.specs.declared.values.Value.{Value}
 use Rattle.bs_words.proofs.Lists.{none_in, pairs_here, pairs_later, head_same, tail_same}
 use Rattle.cmm_meaning.specs.Setting.{Setting}
 use Rattle.cmm_meaning.specs.State.{Doing, Callee}
-use Rattle.mach_ir.specs.Acts.{Around, Target, On, At, AtLabel, AtHandler, Act, Goes, Pushes, Jumps, Unwinds, Asks, Replaces, Ends, EndsRaising, Stuck, drop_tries, truth_of, branches}
-use Rattle.mach_ir.specs.Runs.{Place, Step, Continues, Pays, entered, first_tally}
-use Rattle.mach_ir.specs.Meaning.{State, File, Held, put_all, put_if, with_held, clear, killed, written, values, past_frame, passes_frame, is_destroyed, is_at_one_of, destroyed_by, after_label, from_handler, at_handler, code_at, landing_code, tries_at, mach_act, wrote, on_act, on_values, step, begun, start}
+use Rattle.mach_ir.specs.Acts.{Around, Target, On, At, AtLabel, AtHandler, Act, Goes, Pushes, Jumps, Unwinds, Asks, Replaces, Ends, EndsRaising, Stuck, drop_tries, truth_of, goes_by_test}
+use Rattle.mach_ir.specs.Runs.{ActivationSetting, Step, Continues, Pays, entry_around, first_tally}
+use Rattle.mach_ir.specs.Meaning.{State, File, Held, put_all, put_if, with_held, clear_registers, killed, registers_written, values, past_frame, passes_frame, is_destroyed, is_at_one_of, destroyed_by, after_label, from_handler, at_handler, code_at, landing_code, tries_at, mach_act, wrote, on_act, on_values, step, begin_mach, mach_start}
 use Rattle.mach_ir.specs.Formed.{AreDistinct, tries_left, WellFormed}
 use Rattle.mach_ir.specs.Keeps.{ValsWritten, wrote_unless, wrote_at, Ahead, Trails}
-use Rattle.mach_ir.specs.Placed.{IsPlaced, in_colour, in_slot, FullyPlaced, colours}
-use Rattle.mach_ir.specs.Walks.{Among, first, later, Writes, OneOf, this, targets, may_raise, goes, raises, Live, read, aside, LiveAcross, across_step, across_raise, after_step, IsRegister, is_param, is_colour, is_in_code, IsMove, is_move, at_write, at_params, one_way}
+use Rattle.mach_ir.specs.Placed.{HasColourOrSlot, in_colour, in_slot, FullyPlaced, colour_numbers}
+use Rattle.mach_ir.specs.Walks.{AmongRegisters, first, later, Writes, OneOf, this, targets, may_raise, goes, raises, Live, read, aside, LiveAcross, across_step, across_raise, after_step, IsRegister, is_param, is_colour, is_in_code, IsMove, is_move, at_write, at_params, one_way}
 use Rattle.mach_ir.specs.Walks as mach_walks
 use Rattle.mach_ir.specs.declared.op.CopyKind.TheVariants as copy
 use Rattle.mach_ir.specs.declared.op.Op.TheVariants as op
@@ -37,9 +37,9 @@ use Rattle.mach_laws.proofs.Walking.{ending_at}
 use Rattle.mach_laws.proofs.Among.{left_among, right_among, split_among}
 use Rattle.mach_laws.proofs.Instructions.{instr}
 use Rattle.mach_laws.proofs.Files.{put_of, PutAll, nil, cons}
-use Rattle.lin_ir.specs.Formed.{bare}
+use Rattle.lin_ir.specs.Formed.{bare_flow}
 use Rattle.lin_ir.specs.Meaning as lines
-use Rattle.lin_ir.specs.Meaning.{Locations, is_val}
+use Rattle.lin_ir.specs.Meaning.{Locations, holds_val}
 use Rattle.lin_ir.specs.Walks as walks
 use Rattle.lin_ir.specs.declared.lin.Flow.TheVariants as flow
 use Rattle.lin_ir.specs.declared.lin.LinOp.{LinOp}
@@ -49,7 +49,7 @@ use Rattle.lin_ir.specs.declared.lin.Lin.{Lin}
 use Rattle.lin_ir.specs.declared.lin.Spot.{Spot}
 use Rattle.lin_laws.proofs.Forms.{not_slot}
 use Rattle.linear_rules.specs.Kept as kept
-use Rattle.linear_rules.specs.Kept.{ValsHeld, Begins}
+use Rattle.linear_rules.specs.Kept.{ValsHeld, LoweringBegins}
 use Rattle.linear_rules.specs.Lowered.{home, spots, is_idle, line_of, pops, lines_of, lowered_code}
 use Rattle.linear_rules.proofs.Homes.{IsIn, is_first, is_later, in_of, contains_of, in_among, number_in, Pair, pair_in, Once, once_none, once_more, values_none, pair_held, single, clear_keeps, past_some, machine_of, one_at, killed_has, in_spots, spot_of, Typed, puts_at, typed_put, reads_all, in_map}
 use Rattle.linear_rules.proofs.Marks.{all_in, in_ending, args_in_code, results_in_code, AsLine, op_line, if_line, switch_line, try_line, handler_line, is_bare, IsIdle, idles, idle_of, bare_empty, EntryOf, entry_of}
@@ -62,7 +62,7 @@ use Rattle.mach_laws.proofs.Turns.{Turns, goes_in, exits_in, jumps_in, unwinds_i
 use Rattle.mach_laws.proofs.Level.{ahead_of, trails_of}
 
 -- no value is asked for where a line is no frame point
-calm_at : (c : Place) (m : Lin) (j : Line) (ys : List Line) (b : Locations) (around : Around) → lines.passes_frame j.op ≡ false →
+calm_at : (c : ActivationSetting) (m : Lin) (j : Line) (ys : List Line) (b : Locations) (around : Around) → lines.passes_frame j.op ≡ false →
     ValsHeld c m (record { rest = j ∷ ys; file = b; around = around })
 calm_at c m j ys b around e =
     record {
@@ -89,7 +89,7 @@ same_tries ts handler_line = refl
 same_act : {g : MachOp} {f : LinOp} (c : Setting) (vs : List Value) (a : Around) → AsLine g f → mach_act c g vs a ≡ lines.lin_act c f vs a
 same_act c vs a op_line = refl
 same_act c vs a (if_line {t = t} {l = l}) =
-    sym (branch_opposite a On (At l) (truth_of (sizes a.memory) t vs)) ∙ ap (branches a (At l) On) (sym (truth_opposite (sizes a.memory) t vs))
+    sym (branch_opposite a On (At l) (truth_of (sizes a.memory) t vs)) ∙ ap (goes_by_test a (At l) On) (sym (truth_opposite (sizes a.memory) t vs))
 same_act c vs a switch_line = refl
 same_act c [] a try_line = refl
 same_act c (v ∷ vs) a try_line = refl
@@ -168,7 +168,7 @@ move_of k n (mach.Mark f) args results = inr (λ m. elim m [ ])
 
 -- ---- places
 
-not_unset : (r : Reg) → IsPlaced r → r.loc ≡ loc.Unset → ⊥
+not_unset : (r : Reg) → HasColourOrSlot r → r.loc ≡ loc.Unset → ⊥
 not_unset r (in_colour n c e) u = out n (sym e ∙ u)
   where
     out : (n : ℕ) → loc.Machine n ≡ loc.Unset → ⊥
@@ -198,7 +198,7 @@ once_of (r ∷ rs) h =
 
 -- ---- the relation
 
-module _ (c : Place) (number : ℕ → ℕ) (slots : ℕ) (p : Mach) (well : WellFormed p) (full : FullyPlaced p)
+module _ (c : ActivationSetting) (number : ℕ → ℕ) (slots : ℕ) (p : Mach) (well : WellFormed p) (full : FullyPlaced p)
     (apart : (r k : Reg) → IsRegister p r → IsRegister p k → home number r.loc ≡ home number k.loc → r.loc ≡ k.loc) where
   abbrev end : ℕ
   end = c.setting.end
@@ -209,7 +209,7 @@ module _ (c : Place) (number : ℕ → ℕ) (slots : ℕ) (p : Mach) (well : Wel
   abbrev L : List Instr → List Line
   L = lowered_code number
 
-  placed : (r : Reg) → IsRegister p r → IsPlaced r
+  placed : (r : Reg) → IsRegister p r → HasColourOrSlot r
   placed r i = full.places r i
 
   results_are : {i : Instr} {next : List Instr} → Ending (i ∷ next) p.code → (r : Reg) → IsIn r i.results → IsRegister p r
@@ -293,18 +293,18 @@ module _ (c : Place) (number : ℕ → ℕ) (slots : ℕ) (p : Mach) (well : Wel
       vals_held : ValsWritten p (at_file (i ∷ next) a around) → ValsHeld c Q (at_lines (j ∷ ys) b around)
       vals_held vals = record { held = λ k ks same frame l w. first_line k ks same frame l w }
         where
-          by : lines.passes_frame f ≡ true → (l : Loc) → walks.LiveAcross Q l comp.Val j ys around.tries → IsMetAcross number slots p well full l comp.Val i next → is_val end (b l) ≡ true
+          by : lines.passes_frame f ≡ true → (l : Loc) → walks.LiveAcross Q l comp.Val j ys around.tries → IsMetAcross number slots p well full l comp.Val i next → holds_val end (b l) ≡ true
           by t l w m = three (a m.reg.number) refl
             where
-              three : (o : Option Held) → a m.reg.number ≡ o → is_val end (b l) ≡ true
+              three : (o : Option Held) → a m.reg.number ≡ o → holds_val end (b l) ≡ true
               three None e = absurd (vals.written i next refl (sym (same_frame z) ∙ t) m.reg m.is m.type m.live e)
               three (Some x) e =
                   let y = typed m.reg m.is x e in
                   let w' : walks.LiveAcross Q (home number m.reg.loc) m.reg.comp j ys around.tries =
                   subst (λ k. walks.LiveAcross Q (home number m.reg.loc) k j ys around.tries) (sym m.type) (subst (λ l. walks.LiveAcross Q l comp.Val j ys around.tries) (sym m.place) w) in
-                  ap (λ l. is_val end (b l)) (sym m.place) ∙ ap (is_val end) (rel m.reg m.is x (live_here m.live) (line_live_here w') e) ∙ ap (λ k. fits end (type_of_comp k) x.value) (sym m.type) ∙ y.1
+                  ap (λ l. holds_val end (b l)) (sym m.place) ∙ ap (holds_val end) (rel m.reg m.is x (live_here m.live) (line_live_here w') e) ∙ ap (λ k. fits end (type_of_comp k) x.value) (sym m.type) ∙ y.1
 
-          first_line : (k : Line) (ks : List Line) → j ∷ ys ≡ k ∷ ks → lines.passes_frame k.op ≡ true → (l : Loc) → walks.LiveAcross Q l comp.Val k ks around.tries → is_val end (b l) ≡ true
+          first_line : (k : Line) (ks : List Line) → j ∷ ys ≡ k ∷ ks → lines.passes_frame k.op ≡ true → (l : Loc) → walks.LiveAcross Q l comp.Val k ks around.tries → holds_val end (b l) ≡ true
           first_line k ks same frame l w =
               let head : j ≡ k = head_same same in
               let tail : ys ≡ ks = tail_same same in
@@ -320,14 +320,14 @@ module _ (c : Place) (number : ℕ → ℕ) (slots : ℕ) (p : Mach) (well : Wel
           (rel r ri x (read (in_among inside)) (walks.read (contains_of (in_spots number inside))) u, (typed r ri x u).1))
 
       -- what is live after a write, and not written, is in no destroyed register
-      colour_free : (t : Target) → OneOf t (targets i.op) → (k : Reg) → IsRegister p k → Live p k.number (code_at p.code next t) → (Among k.number (killed p i) → ⊥) →
+      colour_free : (t : Target) → OneOf t (targets i.op) → (k : Reg) → IsRegister p k → Live p k.number (code_at p.code next t) → (AmongRegisters k.number (killed p i) → ⊥) →
           ((r : Reg) → IsIn r i.results → home number r.loc ≡ home number k.loc → ⊥) → is_destroyed (destroyed_by i.op) k.loc ≡ true → ⊥
       colour_free t o k ki v unkilled nowhere e = by (placed k ki)
         where
-          by : IsPlaced k → ⊥
+          by : HasColourOrSlot k → ⊥
           by (in_slot s) = let y = machine_of (destroyed_by i.op) k.loc e in not_slot y.0 k.origin (sym y.1 ∙ s)
           by (in_colour n at s) =
-              let inside : IsIn (loc.Machine n) (map (λ (r : Reg). r.loc) p.colours) = subst (IsIn (loc.Machine n)) (sym full.well.colours.each) (in_map loc.Machine (in_of n colours at)) in
+              let inside : IsIn (loc.Machine n) (map (λ (r : Reg). r.loc) p.colours) = subst (IsIn (loc.Machine n)) (sym full.well.colours.each) (in_map loc.Machine (in_of n colour_numbers at)) in
               let y = of_map (λ (r : Reg). r.loc) (loc.Machine n) p.colours inside in
               two y.from y.inside (y.same ∙ sym s)
             where
@@ -338,8 +338,8 @@ module _ (c : Place) (number : ℕ → ℕ) (slots : ℕ) (p : Mach) (well : Wel
                   shared (moved m) = true≢false (sym e ∙ ap (λ f. is_destroyed (destroyed_by f) k.loc) m.op_is)
                   shared (one_slot same slot) = let y = machine_of (destroyed_by i.op) k.loc e in not_slot y.0 r.origin (sym y.1 ∙ slot)
 
-                  kill : Among r.number (killed p i) → (t' : Bool) → nat_eq r.number k.number ≡ t' → ⊥
-                  kill w true s' = unkilled (subst (λ m. Among m (killed p i)) (eqb-true r.number k.number s') w)
+                  kill : AmongRegisters r.number (killed p i) → (t' : Bool) → nat_eq r.number k.number ≡ t' → ⊥
+                  kill w true s' = unkilled (subst (λ m. AmongRegisters m (killed p i)) (eqb-true r.number k.number s') w)
                   kill w false s' = shared (share_of ending t o r k (is_colour (contains_of inside)) ki (right_among i.results _ w) v s' (ap (home number) here))
 
                   three : (t' : Bool) → is_at_one_of r.loc i.results ≡ t' → ⊥
@@ -352,17 +352,17 @@ module _ (c : Place) (number : ℕ → ℕ) (slots : ℕ) (p : Mach) (well : Wel
       Copied vs = (k : ℕ) → (m : Copies i k) → (h : Held) × (a' k ≡ Some h) × (vs ≡ h.value ∷ [])
 
       abbrev Known : State → Type 0
-      Known s = Agrees p (written p i) s
+      Known s = Agrees p (registers_written p i) s
 
-      goes_on : (vs : List Value) (to : Target) (after : Around) (d : File) → PutAll end (clear (killed p i) a') i.results vs d → OneOf to (targets i.op) → after.tries ≡ tries_on i.op around.tries →
+      goes_on : (vs : List Value) (to : Target) (after : Around) (d : File) → PutAll end (clear_registers (killed p i) a') i.results vs d → OneOf to (targets i.op) → after.tries ≡ tries_on i.op around.tries →
           after.raised ≡ None → Copied vs →
-          Arrive (written p i) (Continues (at_file (code_at p.code next to) d after))
-          (lines.wrote (lines.code_at Q.code ys to) after (lines.put_all end j.results vs (lines.clear (lines.destroyed_by f) b)))
+          Arrive (registers_written p i) (Continues (at_file (code_at p.code next to) d after))
+          (lines.wrote (lines.code_at Q.code ys to) after (lines.put_all end j.results vs (lines.clear_destroyed (lines.destroyed_by f) b)))
       goes_on vs to after d puts o left none copied =
-          let y = puts_at number p end well.numbers placed (lines.clear (lines.destroyed_by f) b) puts (results_are ending) in
+          let y = puts_at number p end well.numbers placed (lines.clear_destroyed (lines.destroyed_by f) b) puts (results_are ending) in
           let t : after.tries ≡ walks.tries_after f around.tries = left ∙ same_tries around.tries z in
           let t' : walks.tries_after f around.tries ≡ tries_at (code_at p.code next to) = ap (walks.tries_after f) tries ∙ traps_to number slots p well full f ending z to o in
-          subst (λ o. Arrive (written p i) (Continues (at_file (code_at p.code next to) d after)) (lines.wrote (lines.code_at Q.code ys to) after o)) (sym y.puts)
+          subst (λ o. Arrive (registers_written p i) (Continues (at_file (code_at p.code next to) d after)) (lines.wrote (lines.code_at Q.code ys to) after o)) (sym y.puts)
           (both_continue
           (λ agree.
           related (ending_at to ending) (whole (at_target number slots p well ending to o)) (t ∙ t')
@@ -380,14 +380,14 @@ module _ (c : Place) (number : ℕ → ℕ) (slots : ℕ) (p : Mach) (well : Wel
               by false e = typed r ri x e
               by true e = typed r ri x (past_some (a r.number) x e).0
 
-          cleared : Typed number p end (clear (killed p i) a')
+          cleared : Typed number p end (clear_registers (killed p i) a')
           cleared r ri x e = typed' r ri x (clear_keeps (killed p i) a' r.number x e).0
 
           share : (k : Reg) → IsRegister p k → (x : Held) (r : Reg) (v : Value) → Live p k.number (code_at p.code next to) → d k.number ≡ Some x → Pair r v i.results vs → nat_eq r.number k.number ≡ false →
               Known (at_file (code_at p.code next to) d after) → Shares i k r → v ≡ x.value
           share k ki x r v live e pair ne agree (one_slot same slot) =
               agree.agree r k (results_are ending r (pair_in pair)) ki same
-              (inr (subst (λ o. Among r.number (wrote_unless o (written p i))) (sym none) (left_among _ (killed p i) (in_among (pair_in pair))))) (inl live)
+              (inr (subst (λ o. AmongRegisters r.number (wrote_unless o (registers_written p i))) (sym none) (left_among _ (killed p i) (in_among (pair_in pair))))) (inl live)
               (record { comp = r.comp; value = v }) x (pair_held puts (once_of i.results (all_in (λ (i : Instr). AreDistinct i.results) well.distinct (in_ending ending))) r v pair) e
           share k ki x r v live e pair ne agree (moved m) = by (copied k.number m)
             where
@@ -398,11 +398,11 @@ module _ (c : Place) (number : ℕ → ℕ) (slots : ℕ) (p : Mach) (well : Wel
                   s.0 ∙ ap (λ (k : Held). k.value) (same_Some h.0 x (sym h.1 ∙ old))
 
           kept : (k : Reg) → IsRegister p k → (x : Held) → Live p k.number (code_at p.code next to) → walks.Live Q (home number k.loc) k.comp (lines.code_at Q.code ys to) (walks.tries_after f around.tries) →
-              (Among k.number i.results → ⊥) → ((r : Reg) → IsIn r i.results → home number r.loc ≡ home number k.loc → ⊥) →
-              clear (killed p i) a' k.number ≡ Some x → lines.clear (lines.destroyed_by f) b (home number k.loc) ≡ Some x.value
+              (AmongRegisters k.number i.results → ⊥) → ((r : Reg) → IsIn r i.results → home number r.loc ≡ home number k.loc → ⊥) →
+              clear_registers (killed p i) a' k.number ≡ Some x → lines.clear_destroyed (lines.destroyed_by f) b (home number k.loc) ≡ Some x.value
           kept k ki x v u free nowhere e = by (is_destroyed (lines.destroyed_by f) (home number k.loc)) refl
             where
-              old : (a' k.number ≡ Some x) × (Among k.number (killed p i) → ⊥)
+              old : (a' k.number ≡ Some x) × (AmongRegisters k.number (killed p i) → ⊥)
               old = clear_keeps (killed p i) a' k.number x e
 
               unwritten : Writes p i k.number → ⊥
@@ -411,7 +411,7 @@ module _ (c : Place) (number : ℕ → ℕ) (slots : ℕ) (p : Mach) (well : Wel
               at_colour : is_destroyed (lines.destroyed_by f) (home number k.loc) ≡ true → is_destroyed (destroyed_by i.op) k.loc ≡ true
               at_colour s = back (placed k ki) (subst (λ d. is_destroyed d (home number k.loc) ≡ true) (same_destroyed z) s)
                 where
-                  back : IsPlaced k → is_destroyed (destroyed_by i.op) (home number k.loc) ≡ true → is_destroyed (destroyed_by i.op) k.loc ≡ true
+                  back : HasColourOrSlot k → is_destroyed (destroyed_by i.op) (home number k.loc) ≡ true → is_destroyed (destroyed_by i.op) k.loc ≡ true
                   back (in_colour n at e) s = subst (λ l. is_destroyed (destroyed_by i.op) l ≡ true) (sym e) (subst (λ l. is_destroyed (destroyed_by i.op) (home number l) ≡ true) e s)
                   back (in_slot e) s =
                       let y = machine_of (destroyed_by i.op) (home number k.loc) s in absurd (not_slot y.0 (number k.origin) (sym y.1 ∙ ap (home number) e))
@@ -501,14 +501,14 @@ module _ (c : Place) (number : ℕ → ℕ) (slots : ℕ) (p : Mach) (well : Wel
       no_exit try_line x = elim x [ ]
       no_exit handler_line x = elim x [ ]
 
-      acts : (x : Act) → Turns i.op around.tries around.raised x → CopiedAct x → Arrive (written p i) (on_act c p i next a' around x) (lines.on_act c Q j ys b around x)
-      acts (Goes vs to after) (goes_in o left raised) copied = by (put_all end i.results vs (clear (killed p i) a')) refl
+      acts : (x : Act) → Turns i.op around.tries around.raised x → CopiedAct x → Arrive (registers_written p i) (on_act c p i next a' around x) (lines.on_act c Q j ys b around x)
+      acts (Goes vs to after) (goes_in o left raised) copied = by (put_all end i.results vs (clear_registers (killed p i) a')) refl
         where
-          by : (r : Option File) → put_all end i.results vs (clear (killed p i) a') ≡ r →
-              Arrive (written p i) (wrote (code_at p.code next to) after r) (lines.wrote (lines.code_at Q.code ys to) after (lines.put_all end j.results vs (lines.clear (lines.destroyed_by f) b)))
+          by : (r : Option File) → put_all end i.results vs (clear_registers (killed p i) a') ≡ r →
+              Arrive (registers_written p i) (wrote (code_at p.code next to) after r) (lines.wrote (lines.code_at Q.code ys to) after (lines.put_all end j.results vs (lines.clear_destroyed (lines.destroyed_by f) b)))
           by None e = first_stuck
           by (Some d) e =
-              goes_on vs to after d (put_of end i.results vs (clear (killed p i) a') d e) o left (raised ∙ none_raised around.raised z calm)
+              goes_on vs to after d (put_of end i.results vs (clear_registers (killed p i) a') d e) o left (raised ∙ none_raised around.raised z calm)
               (λ k m. let h = copied k m in (h.0, h.1, goes_same vs (h.0.value ∷ []) to after h.2))
       acts (Jumps (AtLabel l) after) (exits_in x e u) copied = absurd (no_exit z x)
       acts (Jumps AtHandler after) (jumps_in {h = h} r e) copied = both_pay (λ agree. caught h after r e)
@@ -535,14 +535,14 @@ module _ (c : Place) (number : ℕ → ℕ) (slots : ℕ) (p : Mach) (well : Wel
               two : (ws vs : List Value) → Some ws ≡ Some vs → ws ≡ vs
               two ws vs e = cc
 
-      one_step : Arrive (written p i) (on_values c p i next a around (values a i.args)) (kept.on_values c Q j ys b around (lines.values end b j.args))
+      one_step : Arrive (registers_written p i) (on_values c p i next a around (values a i.args)) (kept.on_lossless_line_values c Q j ys b around (lines.values end b j.args))
       one_step = by (values a i.args) refl
         where
-          by : (o : Option (List Value)) → values a i.args ≡ o → Arrive (written p i) (on_values c p i next a around o) (kept.on_values c Q j ys b around (lines.values end b j.args))
+          by : (o : Option (List Value)) → values a i.args ≡ o → Arrive (registers_written p i) (on_values c p i next a around o) (kept.on_lossless_line_values c Q j ys b around (lines.values end b j.args))
           by None e = first_stuck
           by (Some vs) e =
-              subst (λ o. Arrive (written p i) (on_act c p i next a' around (mach_act c.setting i.op vs around)) (kept.on_values c Q j ys b around o)) (sym (args_read vs e))
-              (subst (λ x. Arrive (written p i) (on_act c p i next a' around (mach_act c.setting i.op vs around)) (lines.on_act c Q j ys b around x)) (same_act c.setting vs around z)
+              subst (λ o. Arrive (registers_written p i) (on_act c p i next a' around (mach_act c.setting i.op vs around)) (kept.on_lossless_line_values c Q j ys b around o)) (sym (args_read vs e))
+              (subst (λ x. Arrive (registers_written p i) (on_act c p i next a' around (mach_act c.setting i.op vs around)) (lines.on_act c Q j ys b around x)) (same_act c.setting vs around z)
               (acts (mach_act c.setting i.op vs around) (turns c.setting i.op vs around) (copied_act vs e)))
 
     -- ---- structures
@@ -554,7 +554,7 @@ module _ (c : Place) (number : ℕ → ℕ) (slots : ℕ) (p : Mach) (well : Wel
         Arrive ws x (Continues (at_lines xs b (record around { tries = drop_tries n around.tries }))) → Arrive ws x (Continues (at_lines (pops number n xs) b around))
     pops_run zero xs b around r = r
     pops_run {ws} {x} (suc n) xs b around r =
-        goes_alone (calm_at c Q (bare flow.PopTrap) (pops number n xs) b around refl)
+        goes_alone (calm_at c Q (bare_flow flow.PopTrap) (pops number n xs) b around refl)
         (pops_run n xs b (record around { tries = drop_tries 1 around.tries })
         (subst (λ ts. Arrive ws x (Continues (at_lines xs b (record around { tries = ts })))) (drop_more n around.tries) r))
 
@@ -576,7 +576,7 @@ module _ (c : Place) (number : ℕ → ℕ) (slots : ℕ) (p : Mach) (well : Wel
     Owes i =
         (next : List Instr) (a : File) (b : Locations) (around : Around) → Ending (i ∷ next) p.code → around.tries ≡ tries_at (i ∷ next) → walks.Reached Q (L (i ∷ next)) around.tries →
         Typed number p end a → Rel (i ∷ next) (L (i ∷ next)) a b around.tries → (is_handler i.op ≡ false → around.raised ≡ None) → ValsWritten p (at_file (i ∷ next) a around) →
-        Arrive (written p i) (step c p (at_file (i ∷ next) a around)) (Continues (at_lines (L (i ∷ next)) b around))
+        Arrive (registers_written p i) (step c p (at_file (i ∷ next) a around)) (Continues (at_lines (L (i ∷ next)) b around))
 
     module _ (g : MachOp) (is_bare' : is_bare g ≡ true) (next : List Instr) (a : File) (b : Locations) (around : Around) (ending : Ending (bare_instr g ∷ next) p.code)
         (tries : around.tries ≡ tries_at (bare_instr g ∷ next)) (reached : walks.Reached Q (L (bare_instr g ∷ next)) around.tries) (typed : Typed number p end a)
@@ -597,27 +597,27 @@ module _ (c : Place) (number : ℕ → ℕ) (slots : ℕ) (p : Mach) (well : Wel
       found l o = label_q number slots p well l (label_of number slots p well ending l o)
 
       -- a jump to a label, and what is live there
-      jump_live : (m : ℕ) → OneOf (At m) (targets g) → (zs : List Line) (ts : List ℕ) (l : Loc) (t : Comp) → walks.Live Q l t (L (after_label m p.code)) ts → walks.Live Q l t (bare (flow.Jump m) ∷ zs) ts
+      jump_live : (m : ℕ) → OneOf (At m) (targets g) → (zs : List Line) (ts : List ℕ) (l : Loc) (t : Comp) → walks.Live Q l t (L (after_label m p.code)) ts → walks.Live Q l t (bare_flow (flow.Jump m) ∷ zs) ts
       jump_live m o zs ts l t v = walks.on (none_written l) (walks.goes (At m) this) (subst (λ ys. walks.Live Q l t ys ts) (sym (found m o)) v)
 
-      exit_live : (m : ℕ) → OneOf (At m) (targets g) → (zs : List Line) (ts : List ℕ) (l : Loc) (t : Comp) → walks.Live Q l t (L (after_label m p.code)) ts → walks.Live Q l t (bare (flow.Exit m) ∷ zs) ts
+      exit_live : (m : ℕ) → OneOf (At m) (targets g) → (zs : List Line) (ts : List ℕ) (l : Loc) (t : Comp) → walks.Live Q l t (L (after_label m p.code)) ts → walks.Live Q l t (bare_flow (flow.Exit m) ∷ zs) ts
       exit_live m o zs ts l t v = walks.on (none_written l) (walks.goes (At m) this) (subst (λ ys. walks.Live Q l t ys ts) (sym (found m o)) v)
 
-      jump_reached : (m : ℕ) → OneOf (At m) (targets g) → (zs : List Line) (ts : List ℕ) → walks.Reached Q (bare (flow.Jump m) ∷ zs) ts → walks.Reached Q (L (after_label m p.code)) ts
+      jump_reached : (m : ℕ) → OneOf (At m) (targets g) → (zs : List Line) (ts : List ℕ) → walks.Reached Q (bare_flow (flow.Jump m) ∷ zs) ts → walks.Reached Q (L (after_label m p.code)) ts
       jump_reached m o zs ts r = subst (λ ys. walks.Reached Q ys ts) (found m o) (walks.by_step r (walks.goes (At m) this))
 
-      exit_reached : (m : ℕ) → OneOf (At m) (targets g) → (zs : List Line) (ts : List ℕ) → walks.Reached Q (bare (flow.Exit m) ∷ zs) ts → walks.Reached Q (L (after_label m p.code)) ts
+      exit_reached : (m : ℕ) → OneOf (At m) (targets g) → (zs : List Line) (ts : List ℕ) → walks.Reached Q (bare_flow (flow.Exit m) ∷ zs) ts → walks.Reached Q (L (after_label m p.code)) ts
       exit_reached m o zs ts r = subst (λ ys. walks.Reached Q ys ts) (found m o) (walks.by_step r (walks.goes (At m) this))
 
       -- a structure of which the lines are a jump and a label
-      jumps : (m k : ℕ) → OneOf (At m) (targets g) → tries_left g around.tries ≡ around.tries → L (bare_instr g ∷ next) ≡ bare (flow.Jump m) ∷ bare (flow.Label k) ∷ L next →
-          Arrive (written p (bare_instr g)) (Continues (at_file (after_label m p.code) a around)) (Continues (at_lines (bare (flow.Jump m) ∷ bare (flow.Label k) ∷ L next) b around))
+      jumps : (m k : ℕ) → OneOf (At m) (targets g) → tries_left g around.tries ≡ around.tries → L (bare_instr g ∷ next) ≡ bare_flow (flow.Jump m) ∷ bare_flow (flow.Label k) ∷ L next →
+          Arrive (registers_written p (bare_instr g)) (Continues (at_file (after_label m p.code) a around)) (Continues (at_lines (bare_flow (flow.Jump m) ∷ bare_flow (flow.Label k) ∷ L next) b around))
       jumps m k o same shape =
-          goes_alone (calm_at c Q (bare (flow.Jump m)) (bare (flow.Label k) ∷ L next) b around refl)
-          (subst (λ ys. Arrive (written p (bare_instr g)) (Continues (at_file (after_label m p.code) a around)) (Continues (at_lines ys b around))) (sym (found m o))
+          goes_alone (calm_at c Q (bare_flow (flow.Jump m)) (bare_flow (flow.Label k) ∷ L next) b around refl)
+          (subst (λ ys. Arrive (registers_written p (bare_instr g)) (Continues (at_file (after_label m p.code) a around)) (Continues (at_lines ys b around))) (sym (found m o))
           (both_continue (λ agree. bare_goes (At m) around.tries o (sym (label_tries m o ∙ same))
-          (jump_reached m o (bare (flow.Label k) ∷ L next) around.tries (subst (λ ys. walks.Reached Q ys around.tries) shape reached))
-          (λ l t v. subst (λ ys. walks.Live Q l t ys around.tries) (sym shape) (jump_live m o (bare (flow.Label k) ∷ L next) around.tries l t v)))))
+          (jump_reached m o (bare_flow (flow.Label k) ∷ L next) around.tries (subst (λ ys. walks.Reached Q ys around.tries) shape reached))
+          (λ l t v. subst (λ ys. walks.Live Q l t ys around.tries) (sym shape) (jump_live m o (bare_flow (flow.Label k) ∷ L next) around.tries l t v)))))
 
     else_step : (k m : ℕ) → Owes (bare_instr (mach.Mark (mark.Else k m)))
     else_step k m next a b around ending tries reached typed rel calm vals =
@@ -637,15 +637,15 @@ module _ (c : Place) (number : ℕ → ℕ) (slots : ℕ) (p : Mach) (well : Wel
 
     end_step : (k : ℕ) → Owes (bare_instr (mach.Mark (mark.End k)))
     end_step k next a b around ending tries reached typed rel calm vals =
-        goes_alone (calm_at c Q (bare (flow.Label k)) (L next) b around refl)
+        goes_alone (calm_at c Q (bare_flow (flow.Label k)) (L next) b around refl)
         (both_continue (λ agree. bare_goes (mach.Mark (mark.End k)) refl next a b around ending tries reached typed rel calm On around.tries this tries (walks.by_step reached (walks.goes On this))
         (λ l t v. walks.on (none_written l) (walks.goes On this) v)))
 
     leave_step : (k m : ℕ) → Owes (bare_instr (mach.Mark (mark.Leave k m)))
     leave_step k m next a b around ending tries reached typed rel calm vals =
-        goes_alone (calm_at c Q (bare flow.PopTrap) (bare (flow.Jump m) ∷ L next) b around refl)
-        (goes_alone (calm_at c Q (bare (flow.Jump m)) (L next) b (record around { tries = drop_tries 1 around.tries }) refl)
-        (subst (λ ys. Arrive (written p (bare_instr (mach.Mark (mark.Leave k m)))) (Continues (at_file (after_label m p.code) a (record around { tries = drop_tries 1 around.tries })))
+        goes_alone (calm_at c Q (bare_flow flow.PopTrap) (bare_flow (flow.Jump m) ∷ L next) b around refl)
+        (goes_alone (calm_at c Q (bare_flow (flow.Jump m)) (L next) b (record around { tries = drop_tries 1 around.tries }) refl)
+        (subst (λ ys. Arrive (registers_written p (bare_instr (mach.Mark (mark.Leave k m)))) (Continues (at_file (after_label m p.code) a (record around { tries = drop_tries 1 around.tries })))
         (Continues (at_lines ys b (record around { tries = drop_tries 1 around.tries })))) (sym (found (mach.Mark (mark.Leave k m)) refl next a b around ending tries reached typed rel calm m this))
         (both_continue (λ agree. bare_goes (mach.Mark (mark.Leave k m)) refl next a b around ending tries reached typed rel calm (At m) (drop_tries 1 around.tries) this
         (sym (label_tries (mach.Mark (mark.Leave k m)) refl next a b around ending tries reached typed rel calm m this))
@@ -655,15 +655,15 @@ module _ (c : Place) (number : ℕ → ℕ) (slots : ℕ) (p : Mach) (well : Wel
 
     exit_step : (k n : ℕ) → Owes (bare_instr (mach.Mark (mark.Exit k n)))
     exit_step k n next a b around ending tries reached typed rel calm vals =
-        pops_run n (bare (flow.Exit k) ∷ L next) b around
-        (goes_alone (calm_at c Q (bare (flow.Exit k)) (L next) b (record around { tries = drop_tries n around.tries }) refl)
-        (subst (λ ys. Arrive (written p (bare_instr (mach.Mark (mark.Exit k n)))) (Pays (at_file (after_label k p.code) a (record around { tries = drop_tries n around.tries })))
+        pops_run n (bare_flow (flow.Exit k) ∷ L next) b around
+        (goes_alone (calm_at c Q (bare_flow (flow.Exit k)) (L next) b (record around { tries = drop_tries n around.tries }) refl)
+        (subst (λ ys. Arrive (registers_written p (bare_instr (mach.Mark (mark.Exit k n)))) (Pays (at_file (after_label k p.code) a (record around { tries = drop_tries n around.tries })))
         (Pays (at_lines ys b (record around { tries = drop_tries n around.tries })))) (sym (found (mach.Mark (mark.Exit k n)) refl next a b around ending tries reached typed rel calm k this))
         (both_pay (λ agree. bare_goes (mach.Mark (mark.Exit k n)) refl next a b around ending tries reached typed rel calm (At k) (drop_tries n around.tries) this
         (sym (label_tries (mach.Mark (mark.Exit k n)) refl next a b around ending tries reached typed rel calm k this))
         (exit_reached (mach.Mark (mark.Exit k n)) refl next a b around ending tries reached typed rel calm k this (L next) (drop_tries n around.tries)
-        (pops_reached n (bare (flow.Exit k) ∷ L next) around.tries reached))
-        (λ l t v. pops_live n (bare (flow.Exit k) ∷ L next) around.tries
+        (pops_reached n (bare_flow (flow.Exit k) ∷ L next) around.tries reached))
+        (λ l t v. pops_live n (bare_flow (flow.Exit k) ∷ L next) around.tries
         (exit_live (mach.Mark (mark.Exit k n)) refl next a b around ending tries reached typed rel calm k this (L next) (drop_tries n around.tries) l t v))))))
 
     -- where nothing is read and nothing written, the instruction is this one
@@ -680,7 +680,7 @@ module _ (c : Place) (number : ℕ → ℕ) (slots : ℕ) (p : Mach) (well : Wel
     -- where its line comes first
     line_step : (g : MachOp) (f : LinOp) → AsLine g f → (args results : List Reg) → ((next : List Instr) → L (instr g args results ∷ next) ≡ line_of number f (instr g args results) ∷ L next) → Owes (instr g args results)
     line_step g f z args results shape next a b around ending tries reached typed rel calm vals =
-        subst (λ ys. Arrive (written p (instr g args results)) (step c p (at_file (instr g args results ∷ next) a around)) (Continues (at_lines ys b around))) (sym (shape next))
+        subst (λ ys. Arrive (registers_written p (instr g args results)) (step c p (at_file (instr g args results ∷ next) a around)) (Continues (at_lines ys b around))) (sym (shape next))
         (goes_alone
         (vals_held (instr g args results) next a b around f ending z tries (subst (λ ys. walks.Reached Q ys around.tries) (shape next) reached) typed
         (subst (λ ys. Rel (instr g args results ∷ next) ys a b around.tries) (shape next) rel) calm vals)
@@ -691,7 +691,7 @@ module _ (c : Place) (number : ℕ → ℕ) (slots : ℕ) (p : Mach) (well : Wel
     handler_step : (l : ℕ) (args results : List Reg) → Owes (instr (mach.Mark (mark.Handler l)) args results)
     handler_step l args results next a b around ending tries reached typed rel calm vals =
         let i : Instr = instr (mach.Mark (mark.Handler l)) args results in
-        goes_alone (calm_at c Q (bare (flow.Label l)) (line_of number (lin.Flow flow.EnterTrap) i ∷ L next) b around refl)
+        goes_alone (calm_at c Q (bare_flow (flow.Label l)) (line_of number (lin.Flow flow.EnterTrap) i ∷ L next) b around refl)
         (goes_alone (calm_at c Q (line_of number (lin.Flow flow.EnterTrap) i) (L next) b around refl)
         (one_step i next a b around (lin.Flow flow.EnterTrap) ending handler_line tries (walks.by_step reached (walks.goes On this)) typed
         (λ r ri x v u e. rel r ri x v (walks.on (none_written (home number r.loc)) (walks.goes On this) u) e) calm))
@@ -714,7 +714,7 @@ module _ (c : Place) (number : ℕ → ℕ) (slots : ℕ) (p : Mach) (well : Wel
     -- a copy from a place to itself has no line
     idle_step : (g : MachOp) (args results : List Reg) → IsIdle g args results → (next : List Instr) (a : File) (b : Locations) (around : Around) → Ending (instr g args results ∷ next) p.code →
         around.tries ≡ tries_at (instr g args results ∷ next) → walks.Reached Q (L next) around.tries → Typed number p end a → Rel (instr g args results ∷ next) (L next) a b around.tries →
-        (is_handler g ≡ false → around.raised ≡ None) → Arrive (written p (instr g args results)) (step c p (at_file (instr g args results ∷ next) a around)) (Continues (at_lines (L next) b around))
+        (is_handler g ≡ false → around.raised ≡ None) → Arrive (registers_written p (instr g args results)) (step c p (at_file (instr g args results ∷ next) a around)) (Continues (at_lines (L next) b around))
     idle_step g args results (idles {kind = kind} {x = x} {d = d} same type) next a b around ending tries reached typed rel calm = by (a x.number) refl
       where
         i : Instr
@@ -737,12 +737,12 @@ module _ (c : Place) (number : ℕ → ℕ) (slots : ℕ) (p : Mach) (well : Wel
             ∙ ap (λ (z : Held). Some z.value) (same_Some (record { comp = d.comp; value = h.value }) y e)
         kept h s k ki y v u false t e = rel k ki y (mach_walks.on (λ w. out w) (goes On this) v) u e
           where
-            out : Among k.number (d ∷ []) → ⊥
+            out : AmongRegisters k.number (d ∷ []) → ⊥
             out (first w) = true≢false (sym (eq-eqb d.number k.number w) ∙ t)
             out (later w) = elim w [ ]
 
         moves_on : (h : Held) → a x.number ≡ Some h → (t : Bool) → fits end (type_of_comp d.comp) h.value ≡ t →
-            Arrive (written p (instr (mach.Op (op.Pure (pure.Copy kind))) (x ∷ []) (d ∷ []))) (wrote next around (put_if t d h.value (Some a))) (Continues (at_lines (L next) b around))
+            Arrive (registers_written p (instr (mach.Op (op.Pure (pure.Copy kind))) (x ∷ []) (d ∷ []))) (wrote next around (put_if t d h.value (Some a))) (Continues (at_lines (L next) b around))
         moves_on h s false t = first_stuck
         moves_on h s true t =
             both_continue (λ agree.
@@ -751,7 +751,7 @@ module _ (c : Place) (number : ℕ → ℕ) (slots : ℕ) (p : Mach) (well : Wel
             (λ k ki y v u e. kept h s k ki y v u (nat_eq d.number k.number) refl e) (λ w. calm refl))
 
         by : (o : Option Held) → a x.number ≡ o →
-            Arrive (written p (instr (mach.Op (op.Pure (pure.Copy kind))) (x ∷ []) (d ∷ []))) (on_values c p (instr (mach.Op (op.Pure (pure.Copy kind))) (x ∷ []) (d ∷ [])) next a around (with_held o (Some [])))
+            Arrive (registers_written p (instr (mach.Op (op.Pure (pure.Copy kind))) (x ∷ []) (d ∷ []))) (on_values c p (instr (mach.Op (op.Pure (pure.Copy kind))) (x ∷ []) (d ∷ [])) next a around (with_held o (Some [])))
             (Continues (at_lines (L next) b around))
         by None s = first_stuck
         by (Some h) s = moves_on h s (fits end (type_of_comp d.comp) h.value) refl
@@ -766,19 +766,19 @@ module _ (c : Place) (number : ℕ → ℕ) (slots : ℕ) (p : Mach) (well : Wel
         from_lines : (i : Instr) (next : List Instr) (a : File) (b : Locations) (around : Around) → Ending (i ∷ next) p.code → around.tries ≡ tries_at (i ∷ next) →
             (t : Bool) → is_idle i.op i.args i.results ≡ t → walks.Reached Q (cond t (L next) (lines_of number i.op i (L next))) around.tries → Typed number p end a →
             Rel (i ∷ next) (cond t (L next) (lines_of number i.op i (L next))) a b around.tries → (is_handler i.op ≡ false → around.raised ≡ None) → ValsWritten p (at_file (i ∷ next) a around) →
-            Arrive (written p i) (step c p (at_file (i ∷ next) a around)) (Continues (at_lines (cond t (L next) (lines_of number i.op i (L next))) b around))
+            Arrive (registers_written p i) (step c p (at_file (i ∷ next) a around)) (Continues (at_lines (cond t (L next) (lines_of number i.op i (L next))) b around))
         from_lines i next a b around e tries true idle reached typed rel calm vals =
             idle_step i.op i.args i.results (idle_of i.op i.args i.results idle) next a b around e tries reached typed rel calm
         from_lines i next a b around e tries false idle reached typed rel calm vals =
             let shape : L (i ∷ next) ≡ lines_of number i.op i (L next) = ap (λ t. cond t (L next) (lines_of number i.op i (L next))) idle in
-            subst (λ ys. Arrive (written p i) (step c p (at_file (i ∷ next) a around)) (Continues (at_lines ys b around))) shape
+            subst (λ ys. Arrive (registers_written p i) (step c p (at_file (i ∷ next) a around)) (Continues (at_lines ys b around))) shape
             (any_step i.op i.args i.results idle next a b around e tries (subst (λ ys. walks.Reached Q ys around.tries) (sym shape) reached) typed
             (subst (λ ys. Rel (i ∷ next) ys a b around.tries) (sym shape) rel) calm vals)
 
         entered_at : {h : ℕ} (i : Instr) (next : List Instr) (a : File) (b : Locations) (around : Around) → i.op ≡ mach.Mark (mark.Handler h) → Ending (i ∷ next) p.code → around.tries ≡ tries_at (i ∷ next) →
             walks.Reached Q (line_of number (lin.Flow flow.EnterTrap) i ∷ L next) around.tries → Typed number p end a → Rel (i ∷ next) (line_of number (lin.Flow flow.EnterTrap) i ∷ L next) a b around.tries →
             (is_handler i.op ≡ false → around.raised ≡ None) → ValsWritten p (at_file (i ∷ next) a around) →
-            Arrive (written p i) (step c p (at_file (i ∷ next) a around)) (Continues (at_lines (line_of number (lin.Flow flow.EnterTrap) i ∷ L next) b around))
+            Arrive (registers_written p i) (step c p (at_file (i ∷ next) a around)) (Continues (at_lines (line_of number (lin.Flow flow.EnterTrap) i ∷ L next) b around))
         entered_at i next a b around is e tries reached typed rel calm vals =
             goes_alone (calm_at c Q (line_of number (lin.Flow flow.EnterTrap) i) (L next) b around refl)
             (one_step i next a b around (lin.Flow flow.EnterTrap) e (subst (λ f. AsLine f (lin.Flow flow.EnterTrap)) (sym is) handler_line) tries reached typed rel calm)
@@ -789,20 +789,20 @@ module _ (c : Place) (number : ℕ → ℕ) (slots : ℕ) (p : Mach) (well : Wel
         next_same : (s : State) (t : lines.State) → Related s t → ValsWritten p s → Arrive (wrote_at p s.rest) (step c p s) (Continues t)
         next_same s t (related {rest = []} {ys = zs} {a = a} {b = b} {around = around} e l tries reached typed rel calm) vals = at_end around a (at_lines zs b around)
         next_same s t (related {rest = i ∷ next} {ys = ys} {a = a} {b = b} {around = around} e (whole same) tries reached typed rel calm) vals =
-            subst (λ ys. Arrive (written p i) (step c p (at_file (i ∷ next) a around)) (Continues (at_lines ys b around))) (sym same)
+            subst (λ ys. Arrive (registers_written p i) (step c p (at_file (i ∷ next) a around)) (Continues (at_lines ys b around))) (sym same)
             (from_lines i next a b around e tries (is_idle i.op i.args i.results) refl (subst (λ ys. walks.Reached Q ys around.tries) same reached) typed
             (subst (λ ys. Rel (i ∷ next) ys a b around.tries) same rel) calm vals)
         next_same s t (related {a = a} {b = b} {around = around} e (entering {i = i} {next = next} is same) tries reached typed rel calm) vals =
-            subst (λ ys. Arrive (written p i) (step c p (at_file (i ∷ next) a around)) (Continues (at_lines ys b around))) (sym same)
+            subst (λ ys. Arrive (registers_written p i) (step c p (at_file (i ∷ next) a around)) (Continues (at_lines ys b around))) (sym same)
             (entered_at i next a b around is e tries (subst (λ ys. walks.Reached Q ys around.tries) same reached) typed (subst (λ ys. Rel (i ∷ next) ys a b around.tries) same rel) calm vals)
 
     -- ---- at the entry
 
-    begun_with : {rs : List Reg} {vs : List Value} {d : File} → PutAll end (λ n. None) rs vs d → (n : ℕ) (x : Held) → d n ≡ Some x → Among n rs
+    begun_with : {rs : List Reg} {vs : List Value} {d : File} → PutAll end (λ n. None) rs vs d → (n : ℕ) (x : Held) → d n ≡ Some x → AmongRegisters n rs
     begun_with nil n x e = absurd (none-some x e)
     begun_with (cons {r = r} {v = v} {rs = rs} {d = d} fit ps) n x e = by (nat_eq r.number n) refl e (λ u. begun_with ps n x u)
       where
-        by : (t : Bool) → nat_eq r.number n ≡ t → cond t (Some (record { comp = r.comp; value = v })) (d n) ≡ Some x → (d n ≡ Some x → Among n rs) → Among n (r ∷ rs)
+        by : (t : Bool) → nat_eq r.number n ≡ t → cond t (Some (record { comp = r.comp; value = v })) (d n) ≡ Some x → (d n ≡ Some x → AmongRegisters n rs) → AmongRegisters n (r ∷ rs)
         by true s e go = first (eqb-true r.number n s)
         by false s e go = later (go e)
 
@@ -810,7 +810,7 @@ module _ (c : Place) (number : ℕ → ℕ) (slots : ℕ) (p : Mach) (well : Wel
     params_are r z = is_param (contains_of z)
 
     -- no two parameters have one place
-    params_apart : (r k : Reg) → IsIn r p.params → IsRegister p k → Among k.number p.params → Live p k.number p.code → nat_eq r.number k.number ≡ false → home number r.loc ≡ home number k.loc → ⊥
+    params_apart : (r k : Reg) → IsIn r p.params → IsRegister p k → AmongRegisters k.number p.params → Live p k.number p.code → nat_eq r.number k.number ≡ false → home number r.loc ≡ home number k.loc → ⊥
     params_apart r k z ki w v ne same =
         let at : r.loc ≡ k.loc = apart r k (params_are r z) ki same in
         let y = full.well.agree.apart r k (params_are r z) ki (one_way (eqb-false r.number k.number ne) (at_params (in_among z) v)) (not_unset r (placed r (params_are r z))) at in
@@ -820,7 +820,7 @@ module _ (c : Place) (number : ℕ → ℕ) (slots : ℕ) (p : Mach) (well : Wel
         let own_k : h.reg.origin ≡ h.reg.number = all_in (λ (r : Reg). r.origin ≡ r.number) well.params h.inside in
         eqb-false r.number k.number ne (sym own ∙ y.0 ∙ ap (λ (k : Reg). k.origin) (sym is_k) ∙ own_k ∙ h.same)
 
-    pub begins : (arguments : List Value) (memory : Memory) (doings : List Doing) (s : State) → start c p arguments memory ≡ Some s → Begins c p Q arguments memory doings s
+    pub begins : (arguments : List Value) (memory : Memory) (doings : List Doing) (s : State) → mach_start c p arguments memory ≡ Some s → LoweringBegins c p Q arguments memory doings s
     begins arguments memory doings s is = by (put_all end p.params arguments (λ n. None)) refl is
       where
         no_state : (s : State) → None ≡ Some s → ⊥
@@ -829,23 +829,23 @@ module _ (c : Place) (number : ℕ → ℕ) (slots : ℕ) (p : Mach) (well : Wel
         same_state : (x y : State) → Some x ≡ Some y → x ≡ y
         same_state x y e = cc
 
-        by : (o : Option File) → put_all end p.params arguments (λ n. None) ≡ o → begun p memory o ≡ Some s → Begins c p Q arguments memory doings s
+        by : (o : Option File) → put_all end p.params arguments (λ n. None) ≡ o → begin_mach p memory o ≡ Some s → LoweringBegins c p Q arguments memory doings s
         by None e g = absurd (no_state s g)
         by (Some a) e g =
             let puts = put_of end p.params arguments (λ n. None) a e in
             let y = puts_at number p end well.numbers placed (λ l. None) puts params_are in
-            let r : Related (at_file p.code a (entered memory)) (at_lines Q.code y.file (entered memory)) =
+            let r : Related (at_file p.code a (entry_around memory)) (at_lines Q.code y.file (entry_around memory)) =
             related all (whole refl) (sym well.nested.at_entry) walks.at_entry (typed_put number p end well.numbers placed puts params_are (λ r ri x e. absurd (none-some x e)))
             (λ k ki x v w e. y.at k ki x e
             (λ r v' pair ne same. absurd (params_apart r k (pair_in pair) ki (begun_with puts k.number x e) v ne same)) (λ free nowhere e. absurd (none-some x e)))
             (λ w. refl) in
-            subst (Begins c p Q arguments memory doings) (same_state (at_file p.code a (entered memory)) s g)
+            subst (LoweringBegins c p Q arguments memory doings) (same_state (at_file p.code a (entry_around memory)) s g)
             (record {
-              state = at_lines Q.code y.file (entered memory);
-              begins = ap (lines.begun Q memory) y.puts;
+              state = at_lines Q.code y.file (entry_around memory);
+              begins = ap (lines.begin_linear Q memory) y.puts;
               follows = λ n proper.
                   record {
-                    no_less = simulates c p Q Related closed Ahead ahead_of n (at_file p.code a (entered memory)) (at_lines Q.code y.file (entered memory)) (first_tally c doings) r proper;
-                    no_more = simulates c p Q Related closed Trails trails_of n (at_file p.code a (entered memory)) (at_lines Q.code y.file (entered memory)) (first_tally c doings) r proper;
+                    no_less = simulates c p Q Related closed Ahead ahead_of n (at_file p.code a (entry_around memory)) (at_lines Q.code y.file (entry_around memory)) (first_tally c doings) r proper;
+                    no_more = simulates c p Q Related closed Trails trails_of n (at_file p.code a (entry_around memory)) (at_lines Q.code y.file (entry_around memory)) (first_tally c doings) r proper;
                   };
             })

@@ -11,18 +11,18 @@ use Rattle.bs_words.specs.declared.types.Loc.TheVariants as loc
 use Rattle.bs_words.specs.declared.values.Value.{Value}
 use Rattle.bs_words.specs.declared.values.Value.TheVariants as value
 use Rattle.bs_words.proofs.Lists.{none_in, first_in, later_in, in_cons}
-use Rattle.mach_ir.specs.Meaning.{File, Held, put, clear, values, with_held, is_addr, unless_addr, Destroyed, Nothing, Temporaries, Everything, is_destroyed, is_at_one_of, same_colour, killed_by, killed_among}
-use Rattle.mach_ir.specs.Placed.{IsPlaced, in_colour, in_slot}
-use Rattle.mach_ir.specs.Walks.{Among, first, later, IsRegister}
+use Rattle.mach_ir.specs.Meaning.{File, Held, assign_register, clear_registers, values, with_held, is_addr, unless_addr, Destroyed, Nothing, Temporaries, Everything, is_destroyed, is_at_one_of, same_colour, killed_by, killed_among}
+use Rattle.mach_ir.specs.Placed.{HasColourOrSlot, in_colour, in_slot}
+use Rattle.mach_ir.specs.Walks.{AmongRegisters, first, later, IsRegister}
 use Rattle.mach_ir.specs.declared.reg.Reg.{Reg}
 use Rattle.mach_ir.specs.declared.mach.Mach.{Mach}
 use Rattle.lin_ir.specs.Meaning as lin
-use Rattle.lin_ir.specs.Meaning.{Locations, same_loc, as_type, unless_pointer, is_val, are_vals, is_named}
+use Rattle.lin_ir.specs.Meaning.{Locations, same_loc, as_type, unless_pointer, holds_val, are_vals, is_named_location}
 use Rattle.lin_ir.specs.declared.lin.Spot.{Spot}
 use Rattle.mach_laws.proofs.Among.{among_number}
 use Rattle.mach_laws.proofs.Files.{PutAll, nil, cons, put_other, put_same}
 use Rattle.lin_laws.proofs.Forms.{same_loc_is}
-use Rattle.linear_rules.specs.Lowered.{home, spot, spots}
+use Rattle.linear_rules.specs.Lowered.{home, spot_of_register, spots}
 
 -- ---- members
 
@@ -51,7 +51,7 @@ pub in_right : {A : Type 0} {x : A} (xs : List A) {ys : List A} → IsIn x ys �
 in_right [] z = z
 in_right (x ∷ xs) z = is_later (in_right xs z)
 
-pub in_among : {r : Reg} {rs : List Reg} → IsIn r rs → Among r.number rs
+pub in_among : {r : Reg} {rs : List Reg} → IsIn r rs → AmongRegisters r.number rs
 in_among is_first = first refl
 in_among (is_later i) = later (in_among i)
 
@@ -60,17 +60,17 @@ pub record HasNumber (n : ℕ) (rs : List Reg) : Type 0 where
   pub inside : IsIn reg rs
   pub same : reg.number ≡ n
 
-pub number_in : {n : ℕ} {rs : List Reg} → Among n rs → HasNumber n rs
+pub number_in : {n : ℕ} {rs : List Reg} → AmongRegisters n rs → HasNumber n rs
 number_in (first {r = r} e) = record { reg = r; inside = is_first; same = e }
 number_in (later a) = let h = number_in a in record { reg = h.reg; inside = is_later h.inside; same = h.same }
 
 -- ---- locations
 
-pub is_one_of : (l : Loc) (ls : List Loc) → is_named l ls ≡ true → IsIn l ls
+pub is_one_of : (l : Loc) (ls : List Loc) → is_named_location l ls ≡ true → IsIn l ls
 is_one_of l [] e = absurd (true≢false (sym e))
 is_one_of l (k ∷ ls) e = by (same_loc k l) refl e (λ q. is_one_of l ls q)
   where
-    by : (t : Bool) → same_loc k l ≡ t → t || is_named l ls ≡ true → (is_named l ls ≡ true → IsIn l ls) → IsIn l (k ∷ ls)
+    by : (t : Bool) → same_loc k l ≡ t → t || is_named_location l ls ≡ true → (is_named_location l ls ≡ true → IsIn l ls) → IsIn l (k ∷ ls)
     by true s e go = subst (λ k. IsIn l (k ∷ ls)) (sym (same_loc_is k l s)) is_first
     by false s e go = is_later (go e)
 
@@ -88,7 +88,7 @@ pair_in (pair_later p) = is_later (pair_in p)
 -- each number once
 pub data Once : List Reg → Type 0 where
   once_none : Once []
-  once_more : {r : Reg} {rs : List Reg} → (Among r.number rs → ⊥) → Once rs → Once (r ∷ rs)
+  once_more : {r : Reg} {rs : List Reg} → (AmongRegisters r.number rs → ⊥) → Once rs → Once (r ∷ rs)
 
 pub values_none : (vs : List Value) → None ≡ Some vs → ⊥
 values_none vs e = cc
@@ -115,16 +115,16 @@ single {a = a} w (cons {r = q} {v = u} f nil) e r v pair_first n ne =
 single w (cons {r = q} {v = u} f nil) e r v (pair_later z) n ne = elim z [ ]
 single w (cons {r = q} {v = u} f (cons {v = t} {vs = vs} g p)) e r v z n ne = absurd (tail_none u w t vs e)
 
-pub clear_keeps : (ks : List Reg) (a : File) (n : ℕ) (x : Held) → clear ks a n ≡ Some x → (a n ≡ Some x) × (Among n ks → ⊥)
+pub clear_keeps : (ks : List Reg) (a : File) (n : ℕ) (x : Held) → clear_registers ks a n ≡ Some x → (a n ≡ Some x) × (AmongRegisters n ks → ⊥)
 clear_keeps [] a n x e = (e, λ z. elim z [ ])
 clear_keeps (k ∷ ks) a n x e = by (nat_eq k.number n) refl e (λ q. clear_keeps ks a n x q)
   where
-    by : (t : Bool) → nat_eq k.number n ≡ t → cond t None (clear ks a n) ≡ Some x →
-        (clear ks a n ≡ Some x → (a n ≡ Some x) × (Among n ks → ⊥)) → (a n ≡ Some x) × (Among n (k ∷ ks) → ⊥)
+    by : (t : Bool) → nat_eq k.number n ≡ t → cond t None (clear_registers ks a n) ≡ Some x →
+        (clear_registers ks a n ≡ Some x → (a n ≡ Some x) × (AmongRegisters n ks → ⊥)) → (a n ≡ Some x) × (AmongRegisters n (k ∷ ks) → ⊥)
     by true t e old = absurd (none-some x e)
     by false t e old = let y = old e in (y.0, λ z. no y.1 z)
       where
-        no : (Among n ks → ⊥) → Among n (k ∷ ks) → ⊥
+        no : (AmongRegisters n ks → ⊥) → AmongRegisters n (k ∷ ks) → ⊥
         no free (first q) = true≢false (sym (eq-eqb k.number n q) ∙ t)
         no free (later z) = free z
 
@@ -147,13 +147,13 @@ past_some (Some h) x e = by (is_addr h.comp) refl e
     by true t e = absurd (none-some x e)
     by false t e = (e, ap (λ (z : Held). is_addr z.comp) (sym (same_Some h x e)) ∙ t)
 
-pub all_vals : (end : ℕ) (ls : List Loc) (b : Locations) → ((l : Loc) → IsIn l ls → is_val end (b l) ≡ true) → are_vals end ls b ≡ true
+pub all_vals : (end : ℕ) (ls : List Loc) (b : Locations) → ((l : Loc) → IsIn l ls → holds_val end (b l) ≡ true) → are_vals end ls b ≡ true
 all_vals end [] b h = refl
 all_vals end (l ∷ ls) b h = ap (λ t. t && are_vals end ls b) (h l is_first) ∙ all_vals end ls b (λ k z. h k (is_later z))
 
-pub named_of : (l : Loc) (ls : List Loc) → IsIn l ls → same_loc l l ≡ true → is_named l ls ≡ true
-named_of l (k ∷ ls) is_first e = ap (λ t. t || is_named l ls) e
-named_of l (k ∷ ls) (is_later i) e = or_right (same_loc k l) (is_named l ls) (named_of l ls i e)
+pub named_of : (l : Loc) (ls : List Loc) → IsIn l ls → same_loc l l ≡ true → is_named_location l ls ≡ true
+named_of l (k ∷ ls) is_first e = ap (λ t. t || is_named_location l ls) e
+named_of l (k ∷ ls) (is_later i) e = or_right (same_loc k l) (is_named_location l ls) (named_of l ls i e)
   where
     or_right : (t b : Bool) → b ≡ true → t || b ≡ true
     or_right true b e = refl
@@ -191,21 +191,21 @@ one_at l (r ∷ rs) e = by (same_colour l r.loc) refl e (λ q. one_at l rs q)
     by true t e old = record { reg = r; inside = is_first; same = colour_same l r.loc t }
     by false t e old = let y = old e in record { reg = y.reg; inside = is_later y.inside; same = y.same }
 
-among_cond : (n : ℕ) (t : Bool) (r : Reg) (rs : List Reg) → Among n rs → Among n (cond t (r ∷ rs) rs)
+among_cond : (n : ℕ) (t : Bool) (r : Reg) (rs : List Reg) → AmongRegisters n rs → AmongRegisters n (cond t (r ∷ rs) rs)
 among_cond n true r rs z = later z
 among_cond n false r rs z = z
 
 killed_in : (k : Reg) (rs : List Reg) (d : Destroyed) (results : List Reg) → IsIn k rs → is_destroyed d k.loc ≡ true → is_at_one_of k.loc results ≡ false →
-    Among k.number (killed_among rs d results)
+    AmongRegisters k.number (killed_among rs d results)
 killed_in k (r ∷ rs) d results is_first e f =
-    subst (λ t. Among k.number (cond (t && not (is_at_one_of k.loc results)) (k ∷ killed_among rs d results) (killed_among rs d results))) (sym e)
-    (subst (λ t. Among k.number (cond (not t) (k ∷ killed_among rs d results) (killed_among rs d results))) (sym f) (first refl))
+    subst (λ t. AmongRegisters k.number (cond (t && not (is_at_one_of k.loc results)) (k ∷ killed_among rs d results) (killed_among rs d results))) (sym e)
+    (subst (λ t. AmongRegisters k.number (cond (not t) (k ∷ killed_among rs d results) (killed_among rs d results))) (sym f) (first refl))
 killed_in k (r ∷ rs) d results (is_later z) e f =
     among_cond k.number (is_destroyed d r.loc && not (is_at_one_of r.loc results)) r (killed_among rs d results) (killed_in k rs d results z e f)
 killed_in k [] d results z e f = elim z [ ]
 
 pub killed_has : (k : Reg) (rs : List Reg) (d : Destroyed) (results : List Reg) → IsIn k rs → is_destroyed d k.loc ≡ true → is_at_one_of k.loc results ≡ false →
-    Among k.number (killed_by rs d results)
+    AmongRegisters k.number (killed_by rs d results)
 killed_has k rs Nothing results z e f = absurd (true≢false (sym e))
 killed_has k rs Temporaries results z e f = killed_in k rs Temporaries results z e f
 killed_has k rs Everything results z e f = killed_in k rs Everything results z e f
@@ -216,19 +216,19 @@ pub record Killed (n : ℕ) (rs : List Reg) (d : Destroyed) : Type 0 where
   pub inside : IsIn reg rs
   pub destroyed : is_destroyed d reg.loc ≡ true
 
-among_killed : (n : ℕ) (rs : List Reg) (d : Destroyed) (results : List Reg) → Among n (killed_among rs d results) → Killed n rs d
+among_killed : (n : ℕ) (rs : List Reg) (d : Destroyed) (results : List Reg) → AmongRegisters n (killed_among rs d results) → Killed n rs d
 among_killed n [] d results z = elim z [ ]
 among_killed n (r ∷ rs) d results z =
     by (is_destroyed d r.loc && not (is_at_one_of r.loc results)) refl z
     (λ y. let k = among_killed n rs d results y in record { reg = k.reg; number = k.number; inside = is_later k.inside; destroyed = k.destroyed })
   where
-    by : (b : Bool) → is_destroyed d r.loc && not (is_at_one_of r.loc results) ≡ b → Among n (cond b (r ∷ killed_among rs d results) (killed_among rs d results)) →
-        (Among n (killed_among rs d results) → Killed n (r ∷ rs) d) → Killed n (r ∷ rs) d
+    by : (b : Bool) → is_destroyed d r.loc && not (is_at_one_of r.loc results) ≡ b → AmongRegisters n (cond b (r ∷ killed_among rs d results) (killed_among rs d results)) →
+        (AmongRegisters n (killed_among rs d results) → Killed n (r ∷ rs) d) → Killed n (r ∷ rs) d
     by true e (first x) h = record { reg = r; number = x; inside = is_first; destroyed = (and_parts _ _ e).0 }
     by true e (later y) h = h y
     by false e y h = h y
 
-pub killed_of : (n : ℕ) (rs : List Reg) (d : Destroyed) (results : List Reg) → Among n (killed_by rs d results) → Killed n rs d
+pub killed_of : (n : ℕ) (rs : List Reg) (d : Destroyed) (results : List Reg) → AmongRegisters n (killed_by rs d results) → Killed n rs d
 killed_of n rs Nothing results z = elim z [ ]
 killed_of n rs Temporaries results z = among_killed n rs Temporaries results z
 killed_of n rs Everything results z = among_killed n rs Everything results z
@@ -237,21 +237,21 @@ killed_of n rs Everything results z = among_killed n rs Everything results z
 
 module _ (number : ℕ → ℕ) where
   -- a place that is a home
-  pub home_is_place : (r : Reg) → IsPlaced r → same_loc (home number r.loc) (home number r.loc) ≡ true
+  pub home_is_place : (r : Reg) → HasColourOrSlot r → same_loc (home number r.loc) (home number r.loc) ≡ true
   home_is_place r (in_colour n c e) = subst (λ l. same_loc (home number l) (home number l) ≡ true) (sym e) (eq-eqb n n refl)
   home_is_place r (in_slot e) = subst (λ l. same_loc (home number l) (home number l) ≡ true) (sym e) (eq-eqb (number r.origin) (number r.origin) refl)
 
   pub record SpotOf (s : Spot) (rs : List Reg) : Type 0 where
     pub reg : Reg
     pub inside : IsIn reg rs
-    pub same : spot number reg ≡ s
+    pub same : spot_of_register number reg ≡ s
 
   pub spot_of : (s : Spot) (rs : List Reg) → IsIn s (spots number rs) → SpotOf s rs
   spot_of s [] z = elim z [ ]
   spot_of s (r ∷ rs) is_first = record { reg = r; inside = is_first; same = refl }
   spot_of s (r ∷ rs) (is_later z) = let y = spot_of s rs z in record { reg = y.reg; inside = is_later y.inside; same = y.same }
 
-  pub in_spots : {r : Reg} {rs : List Reg} → IsIn r rs → IsIn (spot number r) (spots number rs)
+  pub in_spots : {r : Reg} {rs : List Reg} → IsIn r rs → IsIn (spot_of_register number r) (spots number rs)
   in_spots is_first = is_first
   in_spots (is_later i) = is_later (in_spots i)
 
@@ -266,26 +266,26 @@ module _ (number : ℕ → ℕ) where
       pub puts : lin.put_all end (spots number rs) vs b ≡ Some file
       pub at : (q : Reg) → IsRegister p q → (x : Held) → d q.number ≡ Some x →
           ((r : Reg) (v : Value) → Pair r v rs vs → nat_eq r.number q.number ≡ false → home number r.loc ≡ home number q.loc → v ≡ x.value) →
-          ((Among q.number rs → ⊥) → ((r : Reg) → IsIn r rs → home number r.loc ≡ home number q.loc → ⊥) → a q.number ≡ Some x → b (home number q.loc) ≡ Some x.value) →
+          ((AmongRegisters q.number rs → ⊥) → ((r : Reg) → IsIn r rs → home number r.loc ≡ home number q.loc → ⊥) → a q.number ≡ Some x → b (home number q.loc) ≡ Some x.value) →
           file (home number q.loc) ≡ Some x.value
 
-    module _ (numbers : (r q : Reg) → IsRegister p r → IsRegister p q → r.number ≡ q.number → r ≡ q) (placed : (r : Reg) → IsRegister p r → IsPlaced r) where
+    module _ (numbers : (r q : Reg) → IsRegister p r → IsRegister p q → r.number ≡ q.number → r ≡ q) (placed : (r : Reg) → IsRegister p r → HasColourOrSlot r) where
       pub puts_at : {a : File} {rs : List Reg} {vs : List Value} {d : File} (b : Locations) → PutAll end a rs vs d → ((r : Reg) → IsIn r rs → IsRegister p r) → Puts rs vs a d b
       puts_at b nil regs = record { file = b; puts = refl; at = λ n i x e h base. base (λ z. elim z [ ]) (λ r z. elim z [ ]) e }
       puts_at {a} b (cons {r = r} {v = v} {rs = rs} {vs = vs} {d = d} fit ps) regs = by (puts_at b ps (λ k z. regs k (is_later z)))
         where
-          by : Puts rs vs a d b → Puts (r ∷ rs) (v ∷ vs) a (put r v d) b
+          by : Puts rs vs a d b → Puts (r ∷ rs) (v ∷ vs) a (assign_register r v d) b
           by y =
               record {
-                file = lin.put (spot number r) v y.file;
-                puts = ap (λ o. lin.put_if (fits end (type_of_comp r.comp) v) (spot number r) v o) y.puts
-                    ∙ ap (λ t. lin.put_if t (spot number r) v (Some y.file)) fit;
+                file = lin.assign_spot (spot_of_register number r) v y.file;
+                puts = ap (λ o. lin.put_if (fits end (type_of_comp r.comp) v) (spot_of_register number r) v o) y.puts
+                    ∙ ap (λ t. lin.put_if t (spot_of_register number r) v (Some y.file)) fit;
                 at = λ q i x e h base. two q i x h base (nat_eq r.number q.number) (same_loc (home number r.loc) (home number q.loc)) refl refl e;
               }
             where
               two : (q : Reg) → IsRegister p q → (x : Held) →
                   ((k : Reg) (w : Value) → Pair k w (r ∷ rs) (v ∷ vs) → nat_eq k.number q.number ≡ false → home number k.loc ≡ home number q.loc → w ≡ x.value) →
-                  ((Among q.number (r ∷ rs) → ⊥) → ((k : Reg) → IsIn k (r ∷ rs) → home number k.loc ≡ home number q.loc → ⊥) → a q.number ≡ Some x → b (home number q.loc) ≡ Some x.value) →
+                  ((AmongRegisters q.number (r ∷ rs) → ⊥) → ((k : Reg) → IsIn k (r ∷ rs) → home number k.loc ≡ home number q.loc → ⊥) → a q.number ≡ Some x → b (home number q.loc) ≡ Some x.value) →
                   (s t : Bool) → nat_eq r.number q.number ≡ s → same_loc (home number r.loc) (home number q.loc) ≡ t →
                   cond s (Some (record { comp = r.comp; value = v })) (d q.number) ≡ Some x → cond t (Some v) (y.file (home number q.loc)) ≡ Some x.value
               two q i x h base true true s t e = ap (λ (z : Held). Some z.value) (same_Some (record { comp = r.comp; value = v }) x e)
@@ -297,7 +297,7 @@ module _ (number : ℕ → ℕ) where
                   y.at q i x e (λ k w z u same. h k w (pair_later z) u same)
                   (λ free none. base (λ z. not_here free z) (λ k z same. not_there none k z same))
                 where
-                  not_here : (Among q.number rs → ⊥) → Among q.number (r ∷ rs) → ⊥
+                  not_here : (AmongRegisters q.number rs → ⊥) → AmongRegisters q.number (r ∷ rs) → ⊥
                   not_here free (first same) = true≢false (sym (eq-eqb r.number q.number same) ∙ s)
                   not_here free (later z) = free z
 

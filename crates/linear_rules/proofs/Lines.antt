@@ -10,7 +10,7 @@ use Rattle.mach_ir.specs.Formed.{MarkHasForm, if_form, switch_form, try_form, ha
 use Rattle.mach_ir.specs.Forms.{HasForm}
 use Rattle.mach_ir.specs.Keeps as kept
 use Rattle.mach_ir.specs.Seats as seats
-use Rattle.mach_ir.specs.Seats.{Seats, Anywhere, InOrder, AfterFirst, AreSeated, in_order, after_first, argument_places, operand_seats, result_seats}
+use Rattle.mach_ir.specs.Seats.{Seats, Anywhere, InOrder, AfterFirst, AreSeated, in_order, after_first, argument_locations, operand_seats, result_seats}
 use Rattle.mach_ir.specs.declared.op.Callee.TheVariants as callee
 use Rattle.mach_ir.specs.declared.op.Calling.TheVariants as calling
 use Rattle.mach_ir.specs.declared.op.Leaving.TheVariants as leaving
@@ -23,7 +23,7 @@ use Rattle.mach_ir.specs.declared.mach.MachOp.TheVariants as mach
 use Rattle.mach_ir.specs.declared.mach.Instr.{Instr}
 use Rattle.mach_ir.specs.declared.mach.Mach.{Mach}
 use Rattle.lin_ir.specs.Formed as formed
-use Rattle.lin_ir.specs.Formed.{FlowHasForm, labels_in, lin_operand_seats, lin_result_seats, bare}
+use Rattle.lin_ir.specs.Formed.{FlowHasForm, labels_in, lin_operand_seats, lin_result_seats, bare_flow}
 use Rattle.lin_ir.specs.Keeps.{IsNamedIn}
 use Rattle.lin_ir.specs.declared.lin.Flow.{Flow}
 use Rattle.lin_ir.specs.declared.lin.Flow.TheVariants as flow
@@ -65,7 +65,7 @@ module _ (number : ℕ → ℕ) where
 
   pub data Source (code : List Instr) : Line → Type 0 where
     own_line : {i : Instr} (f : LinOp) → IsIn i code → AsLine i.op f → Source code (line_of number f i)
-    bare_line : {f : Flow} → IsBare f → Source code (bare f)
+    bare_line : {f : Flow} → IsBare f → Source code (bare_flow f)
 
   source_later : {i : Instr} {code : List Instr} {j : Line} → Source code j → Source (i ∷ code) j
   source_later (own_line f z a) = own_line f (is_later z) a
@@ -76,7 +76,7 @@ module _ (number : ℕ → ℕ) where
   pops_source (suc n) xs is_first go = bare_line a_pop
   pops_source (suc n) xs (is_later z) go = pops_source n xs z go
 
-  bare_one : {code : List Instr} {j : Line} {f : Flow} {xs : List Line} → IsBare f → IsIn j (bare f ∷ xs) → (IsIn j xs → Source code j) → Source code j
+  bare_one : {code : List Instr} {j : Line} {f : Flow} {xs : List Line} → IsBare f → IsIn j (bare_flow f ∷ xs) → (IsIn j xs → Source code j) → Source code j
   bare_one b is_first go = bare_line b
   bare_one b (is_later z) go = go z
 
@@ -90,7 +90,7 @@ module _ (number : ℕ → ℕ) where
     where
       by : (g : MachOp) (args results : List Reg) → IsIn j (lines_of number g (instr g args results) (L is)) → (IsIn j (L is) → Source (instr g args results ∷ is) j) → Source (instr g args results ∷ is) j
       by (mach.Op f) args results z go = own_one (lin.Op f) is_first op_line z go
-      by (mach.Mark (mark.Exit l k)) args results z go = pops_source k (bare (flow.Exit l) ∷ L is) z (λ z. bare_one an_exit z go)
+      by (mach.Mark (mark.Exit l k)) args results z go = pops_source k (bare_flow (flow.Exit l) ∷ L is) z (λ z. bare_one an_exit z go)
       by (mach.Mark (mark.If t l)) args results z go = own_one _ is_first if_line z go
       by (mach.Mark (mark.Else l m)) args results z go = bare_one a_jump z (λ z. bare_one a_label z go)
       by (mach.Mark (mark.Switch ls)) args results z go = own_one _ is_first switch_line z go
@@ -129,23 +129,23 @@ module _ (number : ℕ → ℕ) where
   forms_mark mach_formed.leave_form z = elim z [ ]
   forms_mark mach_formed.end_form z = elim z [ ]
 
-  forms_line : {i : Instr} {f : LinOp} → mach_formed.IsFormed i → AsLine i.op f → FormsLine f (mach_formed.comps i.args) (mach_formed.comps i.results)
+  forms_line : {i : Instr} {f : LinOp} → mach_formed.IsFormedInstruction i → AsLine i.op f → FormsLine f (mach_formed.comps i.args) (mach_formed.comps i.results)
   forms_line (formed_op h) op_line = forms_op h
   forms_line (formed_mark h) z = forms_mark h z
 
-  line_formed : {f : LinOp} {args results : List Comp} (xs rs : List Spot) → FormsLine f args results → formed.comps xs ≡ args → formed.comps rs ≡ results → formed.IsFormed (record { op = f; args = xs; results = rs })
+  line_formed : {f : LinOp} {args results : List Comp} (xs rs : List Spot) → FormsLine f args results → formed.comps xs ≡ args → formed.comps rs ≡ results → formed.IsFormedLine (record { op = f; args = xs; results = rs })
   line_formed xs rs (forms_op {f = f} h) e u = formed.formed_op (subst (λ ts. HasForm f ts (formed.comps rs)) (sym e) (subst (HasForm f _) (sym u) h))
   line_formed xs rs (forms_flow {f = f} h) e u = formed.formed_flow (subst (λ ts. FlowHasForm f ts (formed.comps rs)) (sym e) (subst (FlowHasForm f _) (sym u) h))
 
-  bare_formed : {f : Flow} → IsBare f → formed.IsFormed (bare f)
+  bare_formed : {f : Flow} → IsBare f → formed.IsFormedLine (bare_flow f)
   bare_formed a_label = formed.formed_flow formed.label_form
   bare_formed a_jump = formed.formed_flow formed.jump_form
   bare_formed an_exit = formed.formed_flow formed.exit_form
   bare_formed a_pop = formed.formed_flow formed.pop_form
 
-  pub source_formed : {code : List Instr} {j : Line} → All mach_formed.IsFormed code → Source code j → formed.IsFormed j
+  pub source_formed : {code : List Instr} {j : Line} → All mach_formed.IsFormedInstruction code → Source code j → formed.IsFormedLine j
   source_formed forms (own_line {i = i} f z a) =
-      line_formed (spots number i.args) (spots number i.results) (forms_line (all_in mach_formed.IsFormed forms z) a) (comps_same i.args) (comps_same i.results)
+      line_formed (spots number i.args) (spots number i.results) (forms_line (all_in mach_formed.IsFormedInstruction forms z) a) (comps_same i.args) (comps_same i.results)
   source_formed forms (bare_line b) = bare_formed b
 
   -- ---- seats
@@ -208,8 +208,8 @@ module _ (number : ℕ → ℕ) where
   results_machine (op.Calling f) = refl
   results_machine (op.Leaving f) = refl
 
-  pub params_seated : (rs : List Reg) → AreSeated (InOrder argument_places) (seats.places_of rs) → AreSeated (InOrder argument_places) (formed.places_of (spots number rs))
-  params_seated rs h = subst (AreSeated (InOrder argument_places)) (sym (places_same rs)) (seated_home refl h)
+  pub params_seated : (rs : List Reg) → AreSeated (InOrder argument_locations) (seats.places_of rs) → AreSeated (InOrder argument_locations) (formed.places_of (spots number rs))
+  params_seated rs h = subst (AreSeated (InOrder argument_locations)) (sym (places_same rs)) (seated_home refl h)
 
   operands_line : {g : MachOp} {f : LinOp} (ls : List Loc) → AsLine g f → AreSeated (seats.mach_operand_seats g) ls → AreSeated (lin_operand_seats f) (map (home number) ls)
   operands_line ls (op_line {f = f}) h = seated_home (operands_machine f) h
@@ -285,7 +285,7 @@ module _ (number : ℕ → ℕ) where
     where
       by : (g : MachOp) (args results : List Reg) → labels_in (L is) ≡ mach_formed.labels_in is → labels_in (lines_of number g (instr g args results) (L is)) ≡ mach_formed.labels_in (instr g args results ∷ is)
       by (mach.Op f) args results h = h
-      by (mach.Mark (mark.Exit l k)) args results h = pops_labels k (bare (flow.Exit l) ∷ L is) ∙ h
+      by (mach.Mark (mark.Exit l k)) args results h = pops_labels k (bare_flow (flow.Exit l) ∷ L is) ∙ h
       by (mach.Mark (mark.If t l)) args results h = h
       by (mach.Mark (mark.Else l m)) args results h = ap (λ ls. l ∷ ls) h
       by (mach.Mark (mark.Switch ls)) args results h = h
@@ -319,7 +319,7 @@ module _ (number : ℕ → ℕ) where
       by : (g : MachOp) (args results : List Reg) → length (lines_of number g (instr g args results) (L is)) ≤ 2 + tries_ended_by g + length (L is)
       by (mach.Op f) args results = omega arith
       by (mach.Mark (mark.Exit l k)) args results =
-          pops_few k (length (L is)) (length (pops number k (bare (flow.Exit l) ∷ L is))) (pops_length number k (bare (flow.Exit l) ∷ L is))
+          pops_few k (length (L is)) (length (pops number k (bare_flow (flow.Exit l) ∷ L is))) (pops_length number k (bare_flow (flow.Exit l) ∷ L is))
       by (mach.Mark (mark.If t l)) args results = omega arith
       by (mach.Mark (mark.Else l m)) args results = omega arith
       by (mach.Mark (mark.Switch ls)) args results = omega arith

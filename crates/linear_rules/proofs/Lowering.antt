@@ -7,7 +7,7 @@ use Rattle.bs_words.specs.declared.types.Loc.TheVariants as loc
 use Rattle.mach_ir.specs.Formed as mach_formed
 use Rattle.mach_ir.specs.Formed.{WellFormed}
 use Rattle.mach_ir.specs.Keeps.{NamesSymbol, NamesExternal}
-use Rattle.mach_ir.specs.Placed.{IsPlaced, in_colour, in_slot, FullyPlaced, colours}
+use Rattle.mach_ir.specs.Placed.{HasColourOrSlot, in_colour, in_slot, FullyPlaced, colour_numbers}
 use Rattle.mach_ir.specs.Seats as seats
 use Rattle.mach_ir.specs.Sizes.{Size, HasSize}
 use Rattle.mach_ir.specs.Walks.{IsRegister, is_param, is_colour, is_in_code}
@@ -18,15 +18,15 @@ use Rattle.lin_ir.specs.Descriptors.{NoAddrLive}
 use Rattle.lin_ir.specs.Formed as formed
 use Rattle.lin_ir.specs.Formed.{IsHome, IsSelfMove, labels_in}
 use Rattle.lin_ir.specs.Meaning.{passes_frame}
-use Rattle.lin_ir.specs.Walks.{Stands, Traps, by_walk, unreached, Reached, LiveAcross, TrapsBalance}
+use Rattle.lin_ir.specs.Walks.{StandsAsLine, Traps, by_walk, unreached, Reached, LiveAcross, TrapsBalance}
 use Rattle.lin_ir.specs.declared.lin.Line.{Line}
 use Rattle.lin_ir.specs.declared.lin.Lin.{Lin}
 use Rattle.lin_ir.specs.declared.lin.Spot.{Spot}
 use Rattle.lin_laws.proofs.Forms.{not_slot}
 use Rattle.linear_rules.specs.Forward.{GoesForward}
 use Rattle.linear_rules.specs.Keeps.{NoAddrReached, OneTraps, KeepsReached}
-use Rattle.linear_rules.specs.Kept.{Does}
-use Rattle.linear_rules.specs.Lowered.{home, is_among, slots_of, limit_of, slot_number, slot_count, lowered}
+use Rattle.linear_rules.specs.Kept.{LoweringSimulation}
+use Rattle.linear_rules.specs.Lowered.{home, is_among_numbers, slots_of_function, limit_above, slot_number, slot_count, lowered}
 use Rattle.linear_rules.specs.Sizes.{tries_ended}
 use Rattle.linear_rules.proofs.Homes.{IsIn, is_first, is_later, in_of, in_map}
 use Rattle.linear_rules.proofs.Slots.{slot_occurs_in_code, slot_occurs_in_params, numbers_apart, numbers_below, count_within, slots_low}
@@ -43,18 +43,18 @@ colour_machine (n ∷ ns) (is_later z) = colour_machine ns z
 
 module _ (p : Mach) (well : WellFormed p) (full : FullyPlaced p) where
   -- the slot of a register occurs
-  slot_occurs : (k : ℕ) (r : Reg) → IsRegister p r → r.loc ≡ loc.Slot k → is_among k (slots_of p) ≡ true
+  slot_occurs : (k : ℕ) (r : Reg) → IsRegister p r → r.loc ≡ loc.Slot k → is_among_numbers k (slots_of_function p) ≡ true
   slot_occurs k r (is_param c) e = slot_occurs_in_params p k r c e
   slot_occurs k r (is_in_code c) e = slot_occurs_in_code p k r c e
   slot_occurs k r (is_colour c) e =
-      let z : IsIn r.loc (map loc.Machine colours) = subst (IsIn r.loc) full.well.colours.each (in_map (λ (r : Reg). r.loc) (in_of r p.colours c)) in
-      let y = colour_machine colours z in absurd (not_slot y.0 k (sym y.1 ∙ e))
+      let z : IsIn r.loc (map loc.Machine colour_numbers) = subst (IsIn r.loc) full.well.colours.each (in_map (λ (r : Reg). r.loc) (in_of r p.colours c)) in
+      let y = colour_machine colour_numbers z in absurd (not_slot y.0 k (sym y.1 ∙ e))
 
   -- registers whose homes are the same are at one place
   homes_apart : (r k : Reg) → IsRegister p r → IsRegister p k → home (slot_number p) r.loc ≡ home (slot_number p) k.loc → r.loc ≡ k.loc
   homes_apart r k ri ki same = by (full.places r ri) (full.places k ki)
     where
-      by : IsPlaced r → IsPlaced k → r.loc ≡ k.loc
+      by : HasColourOrSlot r → HasColourOrSlot k → r.loc ≡ k.loc
       by (in_colour m c e) (in_colour n d u) = e ∙ sym (ap (home (slot_number p)) e) ∙ same ∙ ap (home (slot_number p)) u ∙ sym u
       by (in_colour m c e) (in_slot u) = absurd (not_slot m (slot_number p k.origin) (sym (ap (home (slot_number p)) e) ∙ same ∙ ap (home (slot_number p)) u))
       by (in_slot e) (in_colour n d u) = absurd (not_slot n (slot_number p r.origin) (sym (ap (home (slot_number p)) u) ∙ sym same ∙ ap (home (slot_number p)) e))
@@ -68,12 +68,12 @@ module _ (p : Mach) (well : WellFormed p) (full : FullyPlaced p) where
   homes : (r : Reg) → IsRegister p r → IsHome (lowered p) (home (slot_number p) r.loc)
   homes r ri = by (full.places r ri)
     where
-      by : IsPlaced r → IsHome (lowered p) (home (slot_number p) r.loc)
+      by : HasColourOrSlot r → IsHome (lowered p) (home (slot_number p) r.loc)
       by (in_colour n c e) = subst (λ l. IsHome (lowered p) (home (slot_number p) l)) (sym e) (formed.is_colour c)
       by (in_slot e) = subst (λ l. IsHome (lowered p) (home (slot_number p) l)) (sym e) (formed.is_slot (numbers_below p r.origin (slot_occurs r.origin r ri e)))
 
   -- The lowered function does what the Mach function does, wherever that is not stuck.
-  pub lowered_does : Does p (lowered p)
+  pub lowered_does : LoweringSimulation p (lowered p)
   lowered_does c arguments memory doings s e =
       begins c (slot_number p) (slot_count p) p well full homes_apart arguments memory doings s e
 
@@ -120,7 +120,7 @@ module _ (p : Mach) (well : WellFormed p) (full : FullyPlaced p) where
       }
 
 -- where each frame point is reached by some walk, no addr is live after any
-pub no_addr_live : (m : Lin) → ((i : Line) (next : List Line) → Stands i next m.code → passes_frame i.op ≡ true → (tries : List ℕ) × Reached m (i ∷ next) tries) → NoAddrReached m → NoAddrLive m
+pub no_addr_live : (m : Lin) → ((i : Line) (next : List Line) → StandsAsLine i next m.code → passes_frame i.op ≡ true → (tries : List ℕ) × Reached m (i ∷ next) tries) → NoAddrReached m → NoAddrLive m
 no_addr_live m reached h = record { none = λ i next s frame l v. by (reached i next s frame) h.none frame v.traps v.across }
   where
     by : {i : Line} {next : List Line} {l : Loc} {tries : List ℕ} → (tries : List ℕ) × Reached m (i ∷ next) tries →
@@ -132,10 +132,10 @@ no_addr_live m reached h = record { none = λ i next s frame l v. by (reached i 
 -- ---- sizes
 
 -- every slot is below the bound on origins
-pub slots_below : (p : Mach) → FullyPlaced p → (s : Size) → HasSize p s → limit_of (slots_of p) ≤ s.registers
+pub slots_below : (p : Mach) → FullyPlaced p → (s : Size) → HasSize p s → limit_above (slots_of_function p) ≤ s.registers
 slots_below p full s size = slots_low p s.registers (λ k r ri e. by k r (full.places r ri) e (size.origins r ri))
   where
-    by : (k : ℕ) (r : Reg) → IsPlaced r → r.loc ≡ loc.Slot k → r.origin < s.registers → k < s.registers
+    by : (k : ℕ) (r : Reg) → HasColourOrSlot r → r.loc ≡ loc.Slot k → r.origin < s.registers → k < s.registers
     by k r (in_colour n c e) u lt = absurd (not_slot n k (sym e ∙ u))
     by k r (in_slot e) u lt = subst (λ n. n < s.registers) (same_slot e u) lt
 

@@ -4,7 +4,7 @@ use Rattle.std.proofs.lemmas.Bool.{true≢false, eqb-true, and_parts}
 use Rattle.std.proofs.lemmas.List.Elements.{All-head, All-tail}
 use Rattle.bs_words.specs.declared.types.Comp.{Comp}
 use Rattle.bs_words.proofs.Lists.{pairs_here, pairs_later}
-use Rattle.mach_ir.specs.Formed.{MarkHasForm, exit_form, if_form, else_form, switch_form, case_form, catch_form, with_form, try_form, leave_form, handler_form, end_form, IsFormed, formed_op, formed_mark, labels_in, HasPlace, place_here, place_below, HasHandler, handler_here, handler_below}
+use Rattle.mach_ir.specs.Formed.{MarkHasForm, exit_form, if_form, else_form, switch_form, case_form, catch_form, with_form, try_form, leave_form, handler_form, end_form, IsFormedInstruction, formed_op, formed_mark, labels_in, LabelOccursIn, place_here, place_below, HasHandler, handler_here, handler_below}
 use Rattle.mach_ir.specs.Meaning.{has_label, is_handler_of, after_label, from_handler, tries_past, destroyed_by, killed_by}
 use Rattle.mach_ir.specs.Walks.{InCode, in_args, in_results, further}
 use Rattle.mach_ir.specs.declared.op.Op.TheVariants as op
@@ -19,7 +19,7 @@ use Rattle.mach_ir.specs.declared.mach.Instr.{Instr}
 use Rattle.mach_laws.specs.Expand.{Ending, all, more}
 use Rattle.mach_laws.proofs.Instructions.{instr, no_comps}
 use Rattle.mach_laws.proofs.Places.{comp_is}
-use Rattle.lin_ir.specs.Formed.{bare}
+use Rattle.lin_ir.specs.Formed.{bare_flow}
 use Rattle.lin_ir.specs.Meaning as lines
 use Rattle.lin_ir.specs.declared.lin.Flow.TheVariants as flow
 use Rattle.lin_ir.specs.declared.lin.LinOp.{LinOp}
@@ -123,7 +123,7 @@ bare_form leave_form e = (refl, refl)
 bare_form handler_form e = absurd (true≢false (sym e))
 bare_form end_form e = (refl, refl)
 
-pub bare_empty : {i : Instr} → IsFormed i → is_bare i.op ≡ true → (i.args ≡ []) × (i.results ≡ [])
+pub bare_empty : {i : Instr} → IsFormedInstruction i → is_bare i.op ≡ true → (i.args ≡ []) × (i.results ≡ [])
 bare_empty (formed_op h) e = absurd (true≢false (sym e))
 bare_empty (formed_mark {args = args} {results = results} h) e =
     let y = bare_form h e in (no_comps args y.0, no_comps results y.1)
@@ -144,7 +144,7 @@ bare_kills (mach.Mark (mark.End l)) rs results e = refl
 
 -- ---- labels
 
-pub place_split : {l : ℕ} {i : Instr} {is : List Instr} → HasPlace l (i ∷ is) → (has_label l i.op ≡ true) ⊎ HasPlace l is
+pub place_split : {l : ℕ} {i : Instr} {is : List Instr} → LabelOccursIn l (i ∷ is) → (has_label l i.op ≡ true) ⊎ LabelOccursIn l is
 place_split (place_here e) = inl e
 place_split (place_below h) = inr h
 
@@ -198,7 +198,7 @@ handler_first l (mach.Mark (mark.Leave k end)) args results is e = absurd (true�
 handler_first l (mach.Mark (mark.Handler k)) args results is e = is_at k l (labels_in is) e
 handler_first l (mach.Mark (mark.End k)) args results is e = absurd (true≢false (sym e))
 
-pub place_label : {l : ℕ} (code : List Instr) → HasPlace l code → IsIn l (labels_in code)
+pub place_label : {l : ℕ} (code : List Instr) → LabelOccursIn l code → IsIn l (labels_in code)
 place_label {l} (i ∷ is) (place_here e) = label_first l i.op i.args i.results is e
 place_label (i ∷ is) (place_below h) = labels_more i.op i.args i.results is (place_label is h)
 place_label [] h = elim h [ ]
@@ -248,31 +248,31 @@ module _ (number : ℕ → ℕ) where
   skips P h go = ⊎_elim (λ e. absurd (true≢false (sym e))) go h
 
   -- the place of a label is that of its line
-  pub label_lowered : (l : ℕ) (code : List Instr) → HasPlace l code → AllPairs Differ (labels_in code) → lines.after_label l (L code) ≡ L (after_label l code)
+  pub label_lowered : (l : ℕ) (code : List Instr) → LabelOccursIn l code → AllPairs Differ (labels_in code) → lines.after_label l (L code) ≡ L (after_label l code)
   label_lowered l [] h once = elim h [ ]
   label_lowered l (i ∷ is) h once =
       self (is_idle i.op i.args i.results) refl (place_split h) (λ h. label_lowered l is h (once_later i.op i.args i.results is once))
     where
-      by : (f : MachOp) (args results : List Reg) → AllPairs Differ (labels_in (instr f args results ∷ is)) → (has_label l f ≡ true) ⊎ HasPlace l is →
-          (HasPlace l is → lines.after_label l (L is) ≡ L (after_label l is)) →
+      by : (f : MachOp) (args results : List Reg) → AllPairs Differ (labels_in (instr f args results ∷ is)) → (has_label l f ≡ true) ⊎ LabelOccursIn l is →
+          (LabelOccursIn l is → lines.after_label l (L is) ≡ L (after_label l is)) →
           lines.after_label l (lines_of number f (instr f args results) (L is)) ≡ L (cond (has_label l f) is (after_label l is))
-      by (mach.Op f) args results once h go = skips (HasPlace l is) h go
-      by (mach.Mark (mark.Exit k n)) args results once h go = pops_label l n (bare (flow.Exit k) ∷ L is) ∙ skips (HasPlace l is) h go
-      by (mach.Mark (mark.If t k)) args results once h go = skips (HasPlace l is) h go
-      by (mach.Mark (mark.Else k end)) args results once h go = label_at (nat_eq k l) (HasPlace l is) is (after_label l is) (lines.after_label l (L is)) h go
-      by (mach.Mark (mark.Switch ks)) args results once h go = skips (HasPlace l is) h go
-      by (mach.Mark (mark.Case ns k end)) args results once h go = label_at (nat_eq k l) (HasPlace l is) is (after_label l is) (lines.after_label l (L is)) h go
-      by (mach.Mark mark.Catch) args results once h go = skips (HasPlace l is) h go
-      by (mach.Mark (mark.With k end)) args results once h go = label_at (nat_eq k l) (HasPlace l is) is (after_label l is) (lines.after_label l (L is)) h go
-      by (mach.Mark (mark.Try k)) args results once h go = skips (HasPlace l is) h go
-      by (mach.Mark (mark.Leave k end)) args results once h go = skips (HasPlace l is) h go
+      by (mach.Op f) args results once h go = skips (LabelOccursIn l is) h go
+      by (mach.Mark (mark.Exit k n)) args results once h go = pops_label l n (bare_flow (flow.Exit k) ∷ L is) ∙ skips (LabelOccursIn l is) h go
+      by (mach.Mark (mark.If t k)) args results once h go = skips (LabelOccursIn l is) h go
+      by (mach.Mark (mark.Else k end)) args results once h go = label_at (nat_eq k l) (LabelOccursIn l is) is (after_label l is) (lines.after_label l (L is)) h go
+      by (mach.Mark (mark.Switch ks)) args results once h go = skips (LabelOccursIn l is) h go
+      by (mach.Mark (mark.Case ns k end)) args results once h go = label_at (nat_eq k l) (LabelOccursIn l is) is (after_label l is) (lines.after_label l (L is)) h go
+      by (mach.Mark mark.Catch) args results once h go = skips (LabelOccursIn l is) h go
+      by (mach.Mark (mark.With k end)) args results once h go = label_at (nat_eq k l) (LabelOccursIn l is) is (after_label l is) (lines.after_label l (L is)) h go
+      by (mach.Mark (mark.Try k)) args results once h go = skips (LabelOccursIn l is) h go
+      by (mach.Mark (mark.Leave k end)) args results once h go = skips (LabelOccursIn l is) h go
       by (mach.Mark (mark.Handler k)) args results once h go =
-          skips (HasPlace l is) h
+          skips (LabelOccursIn l is) h
           (λ h. ap (λ t. cond t (line_of number (lin.Flow flow.EnterTrap) (instr (mach.Mark (mark.Handler k)) args results) ∷ L is) (lines.after_label l (L is)))
           (differ_test k l (labels_in is) once (place_label is h)) ∙ go h)
-      by (mach.Mark (mark.End k)) args results once h go = label_at (nat_eq k l) (HasPlace l is) is (after_label l is) (lines.after_label l (L is)) h go
+      by (mach.Mark (mark.End k)) args results once h go = label_at (nat_eq k l) (LabelOccursIn l is) is (after_label l is) (lines.after_label l (L is)) h go
 
-      self : (t : Bool) → is_idle i.op i.args i.results ≡ t → (has_label l i.op ≡ true) ⊎ HasPlace l is → (HasPlace l is → lines.after_label l (L is) ≡ L (after_label l is)) →
+      self : (t : Bool) → is_idle i.op i.args i.results ≡ t → (has_label l i.op ≡ true) ⊎ LabelOccursIn l is → (LabelOccursIn l is → lines.after_label l (L is) ≡ L (after_label l is)) →
           lines.after_label l (cond t (L is) (lines_of number i.op i (L is))) ≡ L (cond (has_label l i.op) is (after_label l is))
       self true e h go =
           let w = idle_label l (idle_of i.op i.args i.results e) in
@@ -309,7 +309,7 @@ module _ (number : ℕ → ℕ) where
           (HasHandler h is → EntryOf h is) → EntryOf h (instr f args results ∷ is)
       by (mach.Op f) args results e once z go =
           skips (HasHandler h is) z (λ z. further_entry refl (ap (λ t. lines.after_label h (cond t (L is) (line_of number (lin.Op f) (instr (mach.Op f) args results) ∷ L is))) e) (go z))
-      by (mach.Mark (mark.Exit k n)) args results e once z go = skips (HasHandler h is) z (λ z. further_entry refl (pops_label h n (bare (flow.Exit k) ∷ L is)) (go z))
+      by (mach.Mark (mark.Exit k n)) args results e once z go = skips (HasHandler h is) z (λ z. further_entry refl (pops_label h n (bare_flow (flow.Exit k) ∷ L is)) (go z))
       by (mach.Mark (mark.If t k)) args results e once z go = skips (HasHandler h is) z (λ z. further_entry refl refl (go z))
       by (mach.Mark (mark.Else k end)) args results e once z go =
           skips (HasHandler h is) z (λ z. further_entry refl (past_label k h is (differ_test k h (labels_in is) once (handler_label is z))) (go z))

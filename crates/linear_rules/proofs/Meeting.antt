@@ -7,9 +7,9 @@ use Rattle.bs_words.specs.declared.types.Loc.{Loc}
 use Rattle.bs_words.specs.declared.types.Loc.TheVariants as loc
 use Rattle.bs_words.proofs.Lists.{none_in}
 use Rattle.mach_ir.specs.Acts.{Target, On, At}
-use Rattle.mach_ir.specs.Formed.{HasPlace, tries_left, WellFormed}
+use Rattle.mach_ir.specs.Formed.{LabelOccursIn, tries_left, WellFormed}
 use Rattle.mach_ir.specs.Meaning.{after_label, from_handler, code_at, tries_past, tries_at, Destroyed, Nothing, Temporaries, Everything, destroyed_by, is_destroyed, killed_by}
-use Rattle.mach_ir.specs.Walks.{Among, first, later, Writes, OneOf, this, other, targets, may_raise, goes, raises, Reached, at_entry, by_step, by_raise, Live, read, LiveAcross, across_step, across_raise, IsRegister, is_in_code, is_colour}
+use Rattle.mach_ir.specs.Walks.{AmongRegisters, first, later, Writes, OneOf, this, other, targets, may_raise, goes, raises, Reached, at_entry, by_step, by_raise, Live, read, LiveAcross, across_step, across_raise, IsRegister, is_in_code, is_colour}
 use Rattle.mach_ir.specs.Walks as mach_walks
 use Rattle.mach_ir.specs.Placed.{FullyPlaced}
 use Rattle.mach_ir.specs.declared.reg.Reg.{Reg}
@@ -26,7 +26,7 @@ use Rattle.lin_ir.specs.declared.lin.LinOp.{LinOp}
 use Rattle.lin_ir.specs.declared.lin.Line.{Line}
 use Rattle.lin_ir.specs.declared.lin.Spot.{Spot}
 use Rattle.lin_ir.specs.declared.lin.Lin.{Lin}
-use Rattle.linear_rules.specs.Lowered.{home, spot, spots, line_of, lowered_code}
+use Rattle.linear_rules.specs.Lowered.{home, spot_of_register, spots, line_of, lowered_code}
 use Rattle.linear_rules.proofs.Homes.{IsIn, is_first, in_of, contains_of, in_among, number_in, killed_of, spot_of, in_spots}
 use Rattle.linear_rules.proofs.Marks.{args_in_code, results_in_code, AsLine, op_line, if_line, switch_line, try_line, handler_line, is_bare, IsIdle, idles, bare_empty, bare_kills}
 use Rattle.linear_rules.proofs.Standing.{same_targets, same_raises, same_destroyed, q, formed_at, label_q, at_target, handler_of, marked, StandsFor, one_line, via, onto, idle_before, label_before, pop_before, exit_to, jump_to, is_at, stands_at, stands_entry}
@@ -54,9 +54,9 @@ module _ (number : ℕ → ℕ) (slots : ℕ) (p : Mach) (well : WellFormed p) (
 
   pub bare_writes : {i : Instr} {next : List Instr} → Ending (i ∷ next) p.code → is_bare i.op ≡ true → (n : ℕ) → Writes p i n → ⊥
   bare_writes {i} e b n w =
-      ⊎_elim (λ z. none (subst (Among n) (bare_empty (formed_at number slots p well e) b).1 z)) (λ z. none (subst (Among n) (bare_kills i.op p.colours i.results b) z)) (split_among n i.results (killed_by p.colours (destroyed_by i.op) i.results) w)
+      ⊎_elim (λ z. none (subst (AmongRegisters n) (bare_empty (formed_at number slots p well e) b).1 z)) (λ z. none (subst (AmongRegisters n) (bare_kills i.op p.colours i.results b) z)) (split_among n i.results (killed_by p.colours (destroyed_by i.op) i.results) w)
     where
-      none : Among n [] → ⊥
+      none : AmongRegisters n [] → ⊥
       none z = elim z [ ]
 
   -- a line writes the places of what its instruction writes
@@ -64,13 +64,13 @@ module _ (number : ℕ → ℕ) (slots : ℕ) (p : Mach) (well : WellFormed p) (
   at_place {i} f e z r is free w =
       ⊎_elim in_results of_colours (split_among r.number i.results (killed_by p.colours (destroyed_by i.op) i.results) w)
     where
-      in_results : Among r.number i.results → ⊥
+      in_results : AmongRegisters r.number i.results → ⊥
       in_results a =
           let h = number_in a in
           let same : h.reg ≡ r = well.numbers h.reg r (is_in_code (results_in_code e h.inside)) is h.same in
-          free (inl (r.comp, contains_of (subst (λ (k : Reg). IsIn (spot number k) (spots number i.results)) same (in_spots number h.inside))))
+          free (inl (r.comp, contains_of (subst (λ (k : Reg). IsIn (spot_of_register number k) (spots number i.results)) same (in_spots number h.inside))))
 
-      of_colours : Among r.number (killed_by p.colours (destroyed_by i.op) i.results) → ⊥
+      of_colours : AmongRegisters r.number (killed_by p.colours (destroyed_by i.op) i.results) → ⊥
       of_colours a =
           let k = killed_of r.number p.colours (destroyed_by i.op) i.results a in
           let same : k.reg ≡ r = well.numbers k.reg r (is_colour (contains_of k.inside)) is k.number in
@@ -87,7 +87,7 @@ module _ (number : ℕ → ℕ) (slots : ℕ) (p : Mach) (well : WellFormed p) (
           home_destroyed loc.Unset s = s
 
   read_of : {l : Loc} {t : Comp} (rs : List Reg) → ((r : Reg) → IsIn r rs → IsRegister p r) → IsIn (record { loc = l; comp = t }) (spots number rs) →
-      (r : Reg) × IsRegister p r × (home number r.loc ≡ l) × (r.comp ≡ t) × Among r.number rs
+      (r : Reg) × IsRegister p r × (home number r.loc ≡ l) × (r.comp ≡ t) × AmongRegisters r.number rs
   read_of {l} {t} rs regs z =
       let y = spot_of number (record { loc = l; comp = t }) rs z in
       (y.reg, regs y.reg y.inside, ap (λ (s : Spot). s.loc) y.same, ap (λ (s : Spot). s.comp) y.same, in_among y.inside)
@@ -95,7 +95,7 @@ module _ (number : ℕ → ℕ) (slots : ℕ) (p : Mach) (well : WellFormed p) (
   pub idle_on : {f : MachOp} {args results : List Reg} → IsIdle f args results → OneOf On (targets f)
   idle_on (idles e u) = this
 
-  idle_kills : {f : MachOp} {args results : List Reg} (n : ℕ) (rs ks : List Reg) → IsIdle f args results → Among n (killed_by ks (destroyed_by f) rs) → ⊥
+  idle_kills : {f : MachOp} {args results : List Reg} (n : ℕ) (rs ks : List Reg) → IsIdle f args results → AmongRegisters n (killed_by ks (destroyed_by f) rs) → ⊥
   idle_kills n rs ks (idles e u) z = elim z [ ]
 
   record IdleRegs (args results : List Reg) : Type 0 where
@@ -130,7 +130,7 @@ module _ (number : ℕ → ℕ) (slots : ℕ) (p : Mach) (well : WellFormed p) (
                 is = arg;
                 place = ap (home number) r.place ∙ ap (λ (k : Reg). home number k.loc) same ∙ m.place;
                 type = r.type ∙ ap (λ (k : Reg). k.comp) same ∙ m.type;
-                live = read (subst (Among r.from.number) (sym r.args_are) (first refl));
+                live = read (subst (AmongRegisters r.from.number) (sym r.args_are) (first refl));
               }
           two false s =
               record {
@@ -139,12 +139,12 @@ module _ (number : ℕ → ℕ) (slots : ℕ) (p : Mach) (well : WellFormed p) (
                 place = m.place;
                 type = m.type;
                 live = mach_walks.on
-                    (λ z. ⊎_elim (λ x. out (subst (Among m.reg.number) r.results_are x)) (idle_kills m.reg.number i.results p.colours w)
+                    (λ z. ⊎_elim (λ x. out (subst (AmongRegisters m.reg.number) r.results_are x)) (idle_kills m.reg.number i.results p.colours w)
                     (split_among m.reg.number i.results (killed_by p.colours (destroyed_by i.op) i.results) z))
                     (goes On (idle_on w)) m.live;
               }
             where
-              out : Among m.reg.number (r.to ∷ []) → ⊥
+              out : AmongRegisters m.reg.number (r.to ∷ []) → ⊥
               out (first u) = true≢false (sym (eq-eqb r.to.number m.reg.number u) ∙ s)
               out (later z) = elim z [ ]
 
@@ -196,7 +196,7 @@ module _ (number : ℕ → ℕ) (slots : ℕ) (p : Mach) (well : WellFormed p) (
   stand_to {next = next} f e z same t o =
       stands_at number slots p well (code_at p.code next t) _ _ (ending_at t e) (at_target number slots p well e t o) (ap (walks.tries_after f) same ∙ traps_to f e z t o)
 
-  pub stand_label : (l : ℕ) {tries : List ℕ} → HasPlace l p.code → tries ≡ tries_at (after_label l p.code) → Stand (after_label l p.code) (lines.after_label l Q.code) tries
+  pub stand_label : (l : ℕ) {tries : List ℕ} → LabelOccursIn l p.code → tries ≡ tries_at (after_label l p.code) → Stand (after_label l p.code) (lines.after_label l Q.code) tries
   stand_label l h same = stands_at number slots p well (after_label l p.code) _ _ (ending_label l p.code) (label_q number slots p well l h) same
 
   pub stand_handler : {i : Instr} {next : List Instr} {tries left : List ℕ} {h : ℕ} → Ending (i ∷ next) p.code → tries ≡ tries_at (i ∷ next) → tries ≡ h ∷ left → may_raise i.op ≡ true →
@@ -204,7 +204,7 @@ module _ (number : ℕ → ℕ) (slots : ℕ) (p : Mach) (well : WellFormed p) (
   stand_handler {i} {next} {left = left} {h = h} e same t r =
       stands_entry number slots p well h (handler_of number slots p well (i ∷ next) e (sym same ∙ t)) left (sym (well.nested.at_handler i next (stands_of e) r h left (sym same ∙ t)))
 
-  read_met : {l : Loc} {t : Comp} {j : Line} {rest : List Instr} {ys : List Line} {tries : List ℕ} → Stand rest (j ∷ ys) tries → walks.ReadsAs l t j → IsMet l t rest
+  read_met : {l : Loc} {t : Comp} {j : Line} {rest : List Instr} {ys : List Line} {tries : List ℕ} → Stand rest (j ∷ ys) tries → walks.ReadsLocationAs l t j → IsMet l t rest
   read_met {l} {t} (one_line {i = i} f e z same u) r =
       let y = read_of i.args (λ k c. is_in_code (args_in_code e c)) (in_of (record { loc = l; comp = t }) (spots number i.args) r) in
       record { reg = y.0; is = y.1; place = y.2; type = y.3; live = read y.4 }

@@ -4,7 +4,7 @@ use Rattle.std.proofs.lemmas.Bool.{true≢false, eq-eqb}
 use Rattle.std.specs.List.{Contains}
 use Rattle.bs_words.specs.declared.types.Loc.TheVariants as loc
 use Rattle.bs_words.proofs.Lists.{head_same}
-use Rattle.mach_ir.specs.Placed.{IsPlaced, in_colour, in_slot}
+use Rattle.mach_ir.specs.Placed.{HasColourOrSlot, in_colour, in_slot}
 use Rattle.mach_ir.specs.Walks.{InCode, in_args, in_results, further}
 use Rattle.mach_ir.specs.declared.op.CopyKind.{CopyKind}
 use Rattle.mach_ir.specs.declared.op.Op.{Op}
@@ -85,11 +85,11 @@ module _ (number : ℕ → ℕ) where
 
   -- ---- an operation's line
 
-  placed_same : (r k : Reg) → IsPlaced r → r.loc ≡ k.loc → same_loc r.loc k.loc ≡ true
+  placed_same : (r k : Reg) → HasColourOrSlot r → r.loc ≡ k.loc → same_loc r.loc k.loc ≡ true
   placed_same r k (in_colour n c e) same = ap (λ l. same_loc l k.loc) e ∙ ap (same_loc (loc.Machine n)) (sym same ∙ e) ∙ eq-eqb n n refl
   placed_same r k (in_slot e) same = ap (λ l. same_loc l k.loc) e ∙ ap (same_loc (loc.Slot r.origin)) (sym same ∙ e) ∙ eq-eqb r.origin r.origin refl
 
-  pub changes : (code : List Instr) → ((r k : Reg) → InCode r code → InCode k code → home number r.loc ≡ home number k.loc → r.loc ≡ k.loc) → ((r : Reg) → InCode r code → IsPlaced r) →
+  pub changes : (code : List Instr) → ((r k : Reg) → InCode r code → InCode k code → home number r.loc ≡ home number k.loc → r.loc ≡ k.loc) → ((r : Reg) → InCode r code → HasColourOrSlot r) →
       (j : Line) → IsIn j (L code) → (from to : Spot) → IsSelfMove j from to → from.comp ≢ to.comp
   changes [] apart placed j z from to m e = elim z [ ]
   changes (i ∷ is) apart placed j z from to m e =

@@ -14,7 +14,7 @@ use Rattle.bs_words.specs.declared.values.Kind.{Kind}
 use Rattle.bs_words.specs.declared.values.Kind.TheVariants as kind
 use Rattle.bs_words.specs.declared.values.Value.{Value}
 use Rattle.bs_words.specs.declared.values.Value.TheVariants as value
-use Rattle.mach_ir.specs.Acts.{Around, Target, opposite, as_condition, truth_of, branches}
+use Rattle.mach_ir.specs.Acts.{Around, Target, opposite, as_condition, truth_of, goes_by_test}
 use Rattle.mach_ir.specs.Forms as forms
 use Rattle.mach_ir.specs.Forms.{IsRight, IsTested}
 use Rattle.mach_ir.specs.declared.op.Right.{Right}
@@ -130,7 +130,7 @@ truth_opposite ns (test.Unsigned f (right.Constant w)) (x ∷ []) = compare_oppo
 truth_opposite ns (test.Unsigned f (right.Constant w)) (x ∷ y ∷ vs) = refl
 
 -- a branch on the opposite test goes where the test says
-pub branch_opposite : (a : Around) (holds fails : Target) (o : Option Bool) → branches a fails holds (opposite o) ≡ branches a holds fails o
+pub branch_opposite : (a : Around) (holds fails : Target) (o : Option Bool) → goes_by_test a fails holds (opposite o) ≡ goes_by_test a holds fails o
 branch_opposite a holds fails (Some true) = refl
 branch_opposite a holds fails (Some false) = refl
 branch_opposite a holds fails None = refl

@@ -11,7 +11,7 @@ use Rattle.mach_ir.specs.declared.mach.Instr.{Instr}
 use Rattle.mach_laws.specs.Expand.{Ending, all, more}
 use Rattle.mach_laws.proofs.Places.{ending_next}
 use Rattle.mach_laws.proofs.Instructions.{instr}
-use Rattle.lin_ir.specs.Formed.{bare}
+use Rattle.lin_ir.specs.Formed.{bare_flow}
 use Rattle.lin_ir.specs.declared.lin.Flow.TheVariants as flow
 use Rattle.lin_ir.specs.declared.lin.LinOp.TheVariants as lin
 use Rattle.lin_ir.specs.declared.lin.Line.{Line}
@@ -51,7 +51,7 @@ module _ (number : ℕ → ℕ) where
 
   lines_longer : (f : MachOp) (i : Instr) (xs : List Line) → length xs ≤ length (lines_of number f i xs)
   lines_longer (mach.Op f) i xs = omega arith
-  lines_longer (mach.Mark (mark.Exit l n)) i xs = let e = pops_length n (bare (flow.Exit l) ∷ xs) in omega (arith, e)
+  lines_longer (mach.Mark (mark.Exit l n)) i xs = let e = pops_length n (bare_flow (flow.Exit l) ∷ xs) in omega (arith, e)
   lines_longer (mach.Mark (mark.If t l)) i xs = omega arith
   lines_longer (mach.Mark (mark.Else l end)) i xs = omega arith
   lines_longer (mach.Mark (mark.Switch ls)) i xs = omega arith
@@ -147,7 +147,7 @@ module _ (number : ℕ → ℕ) where
       by (mach.Op f) args results e w ih =
           at_first e 1 (ap (λ t. length (cond t (L next) (line_of number (lin.Op f) (instr (mach.Op f) args results) ∷ L next))) w ∙ one (length (L next))) positive refl
       by (mach.Mark (mark.Exit l k)) args results e w ih =
-          at_first e (suc k) (pops_length k (bare (flow.Exit l) ∷ L next) ∙ shifted k (length (L next))) (positive_more k) (no_drop (suc k) (tries_at next))
+          at_first e (suc k) (pops_length k (bare_flow (flow.Exit l) ∷ L next) ∙ shifted k (length (L next))) (positive_more k) (no_drop (suc k) (tries_at next))
       by (mach.Mark (mark.If t l)) args results e w ih = at_first e 1 (one (length (L next))) positive refl
       by (mach.Mark (mark.Else l end)) args results e w ih = at_first e 2 (two (length (L next))) positive_two refl
       by (mach.Mark (mark.Switch ls)) args results e w ih = at_first e 1 (one (length (L next))) positive refl

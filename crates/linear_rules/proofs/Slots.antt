@@ -10,13 +10,13 @@ use Rattle.mach_ir.specs.Walks.{InCode, in_args, in_results, further, IsRegister
 use Rattle.mach_ir.specs.declared.reg.Reg.{Reg}
 use Rattle.mach_ir.specs.declared.mach.Instr.{Instr}
 use Rattle.mach_ir.specs.declared.mach.Mach.{Mach}
-use Rattle.linear_rules.specs.Lowered.{slot_of, slots_of_regs, slots_of_code, slots_of, is_among, count_below, limit_of, slot_number, slot_count}
+use Rattle.linear_rules.specs.Lowered.{with_slot_of, slots_of_regs, slots_of_code, slots_of_function, is_among_numbers, count_below, limit_above, slot_number, slot_count}
 
 -- ---- counting
 
 module _ (ns : List ℕ) where
   count_step : (k : ℕ) → count_below ns k ≤ count_below ns (suc k)
-  count_step k = by (is_among k ns)
+  count_step k = by (is_among_numbers k ns)
     where
       by : (t : Bool) → count_below ns k ≤ cond t (suc (count_below ns k)) (count_below ns k)
       by true = omega arith
@@ -32,15 +32,15 @@ module _ (ns : List ℕ) where
       two : count_below ns k ≤ count_below ns n → count_below ns k ≤ count_below ns (suc n)
       two a = let b = count_step n in omega (arith, a, b)
 
-  pub count_next : (k : ℕ) → is_among k ns ≡ true → count_below ns (suc k) ≡ suc (count_below ns k)
+  pub count_next : (k : ℕ) → is_among_numbers k ns ≡ true → count_below ns (suc k) ≡ suc (count_below ns k)
   count_next k e = ap (λ t. cond t (suc (count_below ns k)) (count_below ns k)) e
 
   -- a number that occurs comes before those above it
-  pub count_strict : (k n : ℕ) → is_among k ns ≡ true → k < n → count_below ns k < count_below ns n
+  pub count_strict : (k n : ℕ) → is_among_numbers k ns ≡ true → k < n → count_below ns k < count_below ns n
   count_strict k n e lt =
       let a = count_rises (suc k) n lt in let b = count_next k e in omega (arith, a, b)
 
-  pub count_injective : (k n : ℕ) → is_among k ns ≡ true → is_among n ns ≡ true → count_below ns k ≡ count_below ns n → k ≡ n
+  pub count_injective : (k n : ℕ) → is_among_numbers k ns ≡ true → is_among_numbers n ns ≡ true → count_below ns k ≡ count_below ns n → k ≡ n
   count_injective k n e f same = by (order k n)
     where
       order : (k n : ℕ) → (k < n) ⊎ ((n < k) ⊎ (k ≡ n))
@@ -51,21 +51,21 @@ module _ (ns : List ℕ) where
           (λ o. ⊎_elim (λ lt. let a = count_strict n k f lt in absurd (omega (arith, a, same))) (λ e. e) o) o
 
   -- each number below the count is that of one which occurs
-  pub count_onto : (n m : ℕ) → m < count_below ns n → (k : ℕ) × (is_among k ns ≡ true) × (count_below ns k ≡ m)
+  pub count_onto : (n m : ℕ) → m < count_below ns n → (k : ℕ) × (is_among_numbers k ns ≡ true) × (count_below ns k ≡ m)
   count_onto zero m lt = absurd (omega (arith, lt))
-  count_onto (suc n) m lt = by (is_among n ns) refl lt (λ le. count_onto n m le)
+  count_onto (suc n) m lt = by (is_among_numbers n ns) refl lt (λ le. count_onto n m le)
     where
       last : (a m : ℕ) → m < suc a → (m < a) ⊎ (a ≡ m)
       last a m lt = ⊎_elim (λ b. inl b.1) (λ b. let u = b.1 in inr (omega (arith, u, lt))) (leb_tells (suc m) a)
 
-      by : (t : Bool) → is_among n ns ≡ t → m < cond t (suc (count_below ns n)) (count_below ns n) → (m < count_below ns n → (k : ℕ) × (is_among k ns ≡ true) × (count_below ns k ≡ m)) →
-          (k : ℕ) × (is_among k ns ≡ true) × (count_below ns k ≡ m)
+      by : (t : Bool) → is_among_numbers n ns ≡ t → m < cond t (suc (count_below ns n)) (count_below ns n) → (m < count_below ns n → (k : ℕ) × (is_among_numbers k ns ≡ true) × (count_below ns k ≡ m)) →
+          (k : ℕ) × (is_among_numbers k ns ≡ true) × (count_below ns k ≡ m)
       by false e lt go = go lt
       by true e lt go = ⊎_elim (λ lt. go lt) (λ same. (n, e, same)) (last (count_below ns n) m lt)
 
   pub count_least : (k : ℕ) → count_below ns k ≤ k
   count_least zero = omega arith
-  count_least (suc k) = by (is_among k ns) (count_least k)
+  count_least (suc k) = by (is_among_numbers k ns) (count_least k)
     where
       by : (t : Bool) → count_below ns k ≤ k → cond t (suc (count_below ns k)) (count_below ns k) ≤ suc k
       by true le = omega (arith, le)
@@ -77,47 +77,47 @@ above_first n l = omega arith
 pub above_later : (k n l : ℕ) → k < l → k < max (suc n) l
 above_later k n l lt = omega (arith, lt)
 
-pub among_below : (k : ℕ) (ns : List ℕ) → is_among k ns ≡ true → k < limit_of ns
+pub among_below : (k : ℕ) (ns : List ℕ) → is_among_numbers k ns ≡ true → k < limit_above ns
 among_below k [] e = absurd (true≢false (sym e))
 among_below k (n ∷ ns) e = by (nat_eq n k) refl e (λ q. among_below k ns q)
   where
-    by : (t : Bool) → nat_eq n k ≡ t → t || is_among k ns ≡ true → (is_among k ns ≡ true → k < limit_of ns) → k < max (suc n) (limit_of ns)
-    by true s e go = subst (λ m. m < max (suc n) (limit_of ns)) (eqb-true n k s) (above_first n (limit_of ns))
-    by false s e go = above_later k n (limit_of ns) (go e)
+    by : (t : Bool) → nat_eq n k ≡ t → t || is_among_numbers k ns ≡ true → (is_among_numbers k ns ≡ true → k < limit_above ns) → k < max (suc n) (limit_above ns)
+    by true s e go = subst (λ m. m < max (suc n) (limit_above ns)) (eqb-true n k s) (above_first n (limit_above ns))
+    by false s e go = above_later k n (limit_above ns) (go e)
 
 limit_low : (n l m : ℕ) → n < m → l ≤ m → max (suc n) l ≤ m
 limit_low n l m lt le = omega (arith, lt, le)
 
-limit_few : (ns : List ℕ) (m : ℕ) → ((k : ℕ) → is_among k ns ≡ true → k < m) → limit_of ns ≤ m
+limit_few : (ns : List ℕ) (m : ℕ) → ((k : ℕ) → is_among_numbers k ns ≡ true → k < m) → limit_above ns ≤ m
 limit_few [] m h = omega arith
 limit_few (n ∷ ns) m h =
-    limit_low n (limit_of ns) m (h n (ap (λ t. t || is_among n ns) (eq-eqb n n refl))) (limit_few ns m (λ k e. h k (by k (nat_eq n k) e)))
+    limit_low n (limit_above ns) m (h n (ap (λ t. t || is_among_numbers n ns) (eq-eqb n n refl))) (limit_few ns m (λ k e. h k (by k (nat_eq n k) e)))
   where
-    by : (k : ℕ) (t : Bool) → is_among k ns ≡ true → t || is_among k ns ≡ true
+    by : (k : ℕ) (t : Bool) → is_among_numbers k ns ≡ true → t || is_among_numbers k ns ≡ true
     by k true e = refl
     by k false e = e
 
 -- ---- which slots occur
 
-slot_first : (k : ℕ) (l : Loc) (ks : List ℕ) → l ≡ loc.Slot k → is_among k (slot_of l ks) ≡ true
-slot_first k l ks e = subst (λ l. is_among k (slot_of l ks) ≡ true) (sym e) (ap (λ t. t || is_among k ks) (eq-eqb k k refl))
+slot_first : (k : ℕ) (l : Loc) (ks : List ℕ) → l ≡ loc.Slot k → is_among_numbers k (with_slot_of l ks) ≡ true
+slot_first k l ks e = subst (λ l. is_among_numbers k (with_slot_of l ks) ≡ true) (sym e) (ap (λ t. t || is_among_numbers k ks) (eq-eqb k k refl))
 
-slot_later : (k : ℕ) (l : Loc) (ks : List ℕ) → is_among k ks ≡ true → is_among k (slot_of l ks) ≡ true
-slot_later k (loc.Slot n) ks e = or_right (nat_eq n k) (is_among k ks) e
+slot_later : (k : ℕ) (l : Loc) (ks : List ℕ) → is_among_numbers k ks ≡ true → is_among_numbers k (with_slot_of l ks) ≡ true
+slot_later k (loc.Slot n) ks e = or_right (nat_eq n k) (is_among_numbers k ks) e
 slot_later k (loc.Machine n) ks e = e
 slot_later k loc.Unset ks e = e
 
-pub regs_pass : (k : ℕ) (rs : List Reg) (ks : List ℕ) → is_among k ks ≡ true → is_among k (slots_of_regs rs ks) ≡ true
+pub regs_pass : (k : ℕ) (rs : List Reg) (ks : List ℕ) → is_among_numbers k ks ≡ true → is_among_numbers k (slots_of_regs rs ks) ≡ true
 regs_pass k [] ks e = e
 regs_pass k (r ∷ rs) ks e = slot_later k r.loc (slots_of_regs rs ks) (regs_pass k rs ks e)
 
-pub regs_have : (k : ℕ) (rs : List Reg) (ks : List ℕ) (r : Reg) → Contains rs r → r.loc ≡ loc.Slot k → is_among k (slots_of_regs rs ks) ≡ true
+pub regs_have : (k : ℕ) (rs : List Reg) (ks : List ℕ) (r : Reg) → Contains rs r → r.loc ≡ loc.Slot k → is_among_numbers k (slots_of_regs rs ks) ≡ true
 regs_have k [] ks r c e = absurd (none_in r c)
 regs_have k (q ∷ rs) ks r c e =
     ⊎_elim (λ same. slot_first k q.loc (slots_of_regs rs ks) (ap (λ (x : Reg). x.loc) same ∙ e))
     (λ d. slot_later k q.loc (slots_of_regs rs ks) (regs_have k rs ks r d e)) (in_cons q r rs c)
 
-code_has : (k : ℕ) (r : Reg) (code : List Instr) → InCode r code → r.loc ≡ loc.Slot k → is_among k (slots_of_code code) ≡ true
+code_has : (k : ℕ) (r : Reg) (code : List Instr) → InCode r code → r.loc ≡ loc.Slot k → is_among_numbers k (slots_of_code code) ≡ true
 code_has k r (i ∷ is) (in_args c) e = regs_have k i.args (slots_of_regs i.results (slots_of_code is)) r c e
 code_has k r (i ∷ is) (in_results c) e = regs_pass k i.args (slots_of_regs i.results (slots_of_code is)) (regs_have k i.results (slots_of_code is) r c e)
 code_has k r (i ∷ is) (further c) e = regs_pass k i.args (slots_of_regs i.results (slots_of_code is)) (regs_pass k i.results (slots_of_code is) (code_has k r is c e))
@@ -129,23 +129,23 @@ record FromSlot (k : ℕ) (rs : List Reg) : Type 0 where
   among : Contains rs reg
   stands : reg.loc ≡ loc.Slot k
 
-slot_split : (k : ℕ) (l : Loc) (ks : List ℕ) → is_among k (slot_of l ks) ≡ true → (l ≡ loc.Slot k) ⊎ (is_among k ks ≡ true)
+slot_split : (k : ℕ) (l : Loc) (ks : List ℕ) → is_among_numbers k (with_slot_of l ks) ≡ true → (l ≡ loc.Slot k) ⊎ (is_among_numbers k ks ≡ true)
 slot_split k (loc.Slot n) ks e = by (nat_eq n k) refl e
   where
-    by : (t : Bool) → nat_eq n k ≡ t → t || is_among k ks ≡ true → (loc.Slot n ≡ loc.Slot k) ⊎ (is_among k ks ≡ true)
+    by : (t : Bool) → nat_eq n k ≡ t → t || is_among_numbers k ks ≡ true → (loc.Slot n ≡ loc.Slot k) ⊎ (is_among_numbers k ks ≡ true)
     by true s e = inl (ap loc.Slot (eqb-true n k s))
     by false s e = inr e
 slot_split k (loc.Machine n) ks e = inr e
 slot_split k loc.Unset ks e = inr e
 
-regs_split : (k : ℕ) (rs : List Reg) (ks : List ℕ) → is_among k (slots_of_regs rs ks) ≡ true → FromSlot k rs ⊎ (is_among k ks ≡ true)
+regs_split : (k : ℕ) (rs : List Reg) (ks : List ℕ) → is_among_numbers k (slots_of_regs rs ks) ≡ true → FromSlot k rs ⊎ (is_among_numbers k ks ≡ true)
 regs_split k [] ks e = inr e
 regs_split k (r ∷ rs) ks e =
     ⊎_elim (λ s. inl (record { reg = r; among = first_in r rs; stands = s }))
     (λ u. ⊎_elim (λ y. inl (record { reg = y.reg; among = later_in r y.reg rs y.among; stands = y.stands })) inr (regs_split k rs ks u))
     (slot_split k r.loc (slots_of_regs rs ks) e)
 
-code_split : (k : ℕ) (code : List Instr) → is_among k (slots_of_code code) ≡ true → (r : Reg) × InCode r code × (r.loc ≡ loc.Slot k)
+code_split : (k : ℕ) (code : List Instr) → is_among_numbers k (slots_of_code code) ≡ true → (r : Reg) × InCode r code × (r.loc ≡ loc.Slot k)
 code_split k [] e = absurd (true≢false (sym e))
 code_split k (i ∷ is) e =
     ⊎_elim (λ y. (y.reg, in_args y.among, y.stands))
@@ -154,33 +154,33 @@ code_split k (i ∷ is) e =
 
 module _ (m : Mach) where
   -- a slot that occurs is that of a parameter, an operand or a result
-  pub slot_stands : (k : ℕ) → is_among k (slots_of m) ≡ true → (r : Reg) × (Contains m.params r ⊎ InCode r m.code) × (r.loc ≡ loc.Slot k)
+  pub slot_stands : (k : ℕ) → is_among_numbers k (slots_of_function m) ≡ true → (r : Reg) × (Contains m.params r ⊎ InCode r m.code) × (r.loc ≡ loc.Slot k)
   slot_stands k e =
       ⊎_elim (λ y. (y.reg, inl y.among, y.stands)) (λ u. let y = code_split k m.code u in (y.0, inr y.1, y.2))
       (regs_split k m.params (slots_of_code m.code) e)
 
   -- there are no more slots than the number above them all
-  pub count_within : slot_count m ≤ limit_of (slots_of m)
-  count_within = count_least (slots_of m) (limit_of (slots_of m))
+  pub count_within : slot_count m ≤ limit_above (slots_of_function m)
+  count_within = count_least (slots_of_function m) (limit_above (slots_of_function m))
 
   -- where each register's slot is below a number, so are all
-  pub slots_low : (n : ℕ) → ((k : ℕ) (r : Reg) → IsRegister m r → r.loc ≡ loc.Slot k → k < n) → limit_of (slots_of m) ≤ n
+  pub slots_low : (n : ℕ) → ((k : ℕ) (r : Reg) → IsRegister m r → r.loc ≡ loc.Slot k → k < n) → limit_above (slots_of_function m) ≤ n
   slots_low n h =
-      limit_few (slots_of m) n (λ k e. ⊎_elim (λ y. h k y.reg (is_param y.among) y.stands) (λ u. let y = code_split k m.code u in h k y.0 (is_in_code y.1) y.2) (regs_split k m.params (slots_of_code m.code) e))
+      limit_few (slots_of_function m) n (λ k e. ⊎_elim (λ y. h k y.reg (is_param y.among) y.stands) (λ u. let y = code_split k m.code u in h k y.0 (is_in_code y.1) y.2) (regs_split k m.params (slots_of_code m.code) e))
 
-  pub slot_occurs_in_code : (k : ℕ) (r : Reg) → InCode r m.code → r.loc ≡ loc.Slot k → is_among k (slots_of m) ≡ true
+  pub slot_occurs_in_code : (k : ℕ) (r : Reg) → InCode r m.code → r.loc ≡ loc.Slot k → is_among_numbers k (slots_of_function m) ≡ true
   slot_occurs_in_code k r c e = regs_pass k m.params (slots_of_code m.code) (code_has k r m.code c e)
 
-  pub slot_occurs_in_params : (k : ℕ) (r : Reg) → Contains m.params r → r.loc ≡ loc.Slot k → is_among k (slots_of m) ≡ true
+  pub slot_occurs_in_params : (k : ℕ) (r : Reg) → Contains m.params r → r.loc ≡ loc.Slot k → is_among_numbers k (slots_of_function m) ≡ true
   slot_occurs_in_params k r c e = regs_have k m.params (slots_of_code m.code) r c e
 
   -- slots that occur get numbers of their own, below the count
-  pub numbers_apart : (k n : ℕ) → is_among k (slots_of m) ≡ true → is_among n (slots_of m) ≡ true → slot_number m k ≡ slot_number m n → k ≡ n
-  numbers_apart k n e f same = count_injective (slots_of m) k n e f same
+  pub numbers_apart : (k n : ℕ) → is_among_numbers k (slots_of_function m) ≡ true → is_among_numbers n (slots_of_function m) ≡ true → slot_number m k ≡ slot_number m n → k ≡ n
+  numbers_apart k n e f same = count_injective (slots_of_function m) k n e f same
 
-  pub numbers_below : (k : ℕ) → is_among k (slots_of m) ≡ true → slot_number m k < slot_count m
-  numbers_below k e = count_strict (slots_of m) k (limit_of (slots_of m)) e (among_below k (slots_of m) e)
+  pub numbers_below : (k : ℕ) → is_among_numbers k (slots_of_function m) ≡ true → slot_number m k < slot_count m
+  numbers_below k e = count_strict (slots_of_function m) k (limit_above (slots_of_function m)) e (among_below k (slots_of_function m) e)
 
   -- and each number below the count is that of one
-  pub numbers_onto : (n : ℕ) → n < slot_count m → (k : ℕ) × (is_among k (slots_of m) ≡ true) × (slot_number m k ≡ n)
-  numbers_onto n lt = count_onto (slots_of m) (limit_of (slots_of m)) n lt
+  pub numbers_onto : (n : ℕ) → n < slot_count m → (k : ℕ) × (is_among_numbers k (slots_of_function m) ≡ true) × (slot_number m k ≡ n)
+  numbers_onto n lt = count_onto (slots_of_function m) (limit_above (slots_of_function m)) n lt

@@ -1,7 +1,7 @@
 -- Which place of the Mach code each reached place of the lines stands for; what is live there is live in both.
 use Rattle.std.proofs.Common.{◌≡◌, ℕ, zero, suc, ◌+◌, ◌-◌, ◌<◌, ◌≤◌, Bool, true, false, cond, List, [], ◌∷◌, length, refl, sym, ap, ◌∙◌, subst, arith}
 use Rattle.mach_ir.specs.Acts.{Target, On, At, drop_tries}
-use Rattle.mach_ir.specs.Formed.{IsFormed, HasPlace, HasHandler, handler_below, tries_left, WellFormed}
+use Rattle.mach_ir.specs.Formed.{IsFormedInstruction, LabelOccursIn, HasHandler, handler_below, tries_left, WellFormed}
 use Rattle.mach_ir.specs.Meaning.{after_label, from_handler, code_at, tries_past, tries_at, destroyed_by}
 use Rattle.mach_ir.specs.Walks.{OneOf, this, targets, may_raise}
 use Rattle.mach_ir.specs.declared.reg.Reg.{Reg}
@@ -13,7 +13,7 @@ use Rattle.mach_ir.specs.declared.mach.Mach.{Mach}
 use Rattle.mach_laws.specs.Expand.{Ending, all, more}
 use Rattle.mach_laws.proofs.Places.{ending_next, ending_from_handler, stands_of}
 use Rattle.mach_laws.proofs.Instructions.{instr}
-use Rattle.lin_ir.specs.Formed.{bare}
+use Rattle.lin_ir.specs.Formed.{bare_flow}
 use Rattle.lin_ir.specs.Meaning as lines
 use Rattle.lin_ir.specs.Walks as walks
 use Rattle.lin_ir.specs.declared.lin.Flow.TheVariants as flow
@@ -21,7 +21,7 @@ use Rattle.lin_ir.specs.declared.lin.LinOp.{LinOp}
 use Rattle.lin_ir.specs.declared.lin.LinOp.TheVariants as lin
 use Rattle.lin_ir.specs.declared.lin.Line.{Line}
 use Rattle.lin_ir.specs.declared.lin.Lin.{Lin}
-use Rattle.linear_rules.specs.Lowered.{is_idle, line_of, pops, lines_of, lowered_code, numbered}
+use Rattle.linear_rules.specs.Lowered.{is_idle, line_of, pops, lines_of, lowered_code, lowered_with_numbers}
 use Rattle.linear_rules.proofs.Homes.{IsIn, is_first, is_later}
 use Rattle.linear_rules.proofs.Marks.{all_in, in_ending, AsLine, op_line, if_line, switch_line, try_line, handler_line, is_bare, IsIdle, idle_of, idle_tries, label_lowered, EntryOf, entry_of}
 use Rattle.linear_rules.proofs.Places.{drop_more, place_tries, before_place, at_left, pops_length}
@@ -55,18 +55,18 @@ same_destroyed handler_line = refl
 -- how many lines a bare instruction has, and which tries are round each
 module _ (number : ℕ → ℕ) (slots : ℕ) (p : Mach) (well : WellFormed p) where
   abbrev pub q : Lin
-  q = numbered number slots p
+  q = lowered_with_numbers number slots p
 
   abbrev L : List Instr → List Line
   L = lowered_code number
 
-  pub formed_at : {i : Instr} {next : List Instr} → Ending (i ∷ next) p.code → IsFormed i
-  formed_at e = all_in IsFormed well.instrs (in_ending e)
+  pub formed_at : {i : Instr} {next : List Instr} → Ending (i ∷ next) p.code → IsFormedInstruction i
+  formed_at e = all_in IsFormedInstruction well.instrs (in_ending e)
 
-  pub label_of : {i : Instr} {next : List Instr} → Ending (i ∷ next) p.code → (l : ℕ) → OneOf (At l) (targets i.op) → HasPlace l p.code
+  pub label_of : {i : Instr} {next : List Instr} → Ending (i ∷ next) p.code → (l : ℕ) → OneOf (At l) (targets i.op) → LabelOccursIn l p.code
   label_of {i} {next} e l o = well.labels.named i next (stands_of e) l o
 
-  pub label_q : (l : ℕ) → HasPlace l p.code → lines.after_label l q.code ≡ L (after_label l p.code)
+  pub label_q : (l : ℕ) → LabelOccursIn l p.code → lines.after_label l q.code ≡ L (after_label l p.code)
   label_q l h = label_lowered number l p.code h well.labels_once
 
   pub at_target : {i : Instr} {next : List Instr} → Ending (i ∷ next) p.code → (t : Target) → OneOf t (targets i.op) → lines.code_at q.code (L next) t ≡ L (code_at p.code next t)
@@ -118,14 +118,14 @@ module _ (number : ℕ → ℕ) (slots : ℕ) (p : Mach) (well : WellFormed p) w
         StandsFor next ys tries → StandsFor (i ∷ next) ys tries
     idle_before : {i : Instr} {next : List Instr} {ys : List Line} {tries : List ℕ} → Ending (i ∷ next) p.code → IsIdle i.op i.args i.results →
         StandsFor next ys tries → StandsFor (i ∷ next) ys tries
-    label_before : {l : ℕ} {rest : List Instr} {ys : List Line} {tries : List ℕ} → IsAt (bare (flow.Label l) ∷ ys) tries → StandsFor rest ys tries →
-        StandsFor rest (bare (flow.Label l) ∷ ys) tries
-    pop_before : {rest : List Instr} {ys : List Line} {tries : List ℕ} → IsAt (bare flow.PopTrap ∷ ys) tries → 0 < length tries → StandsFor rest ys (drop_tries 1 tries) →
-        StandsFor rest (bare flow.PopTrap ∷ ys) tries
-    exit_to : {l : ℕ} {ys : List Line} {tries : List ℕ} → HasPlace l p.code → tries ≡ tries_at (after_label l p.code) → IsAt (bare (flow.Exit l) ∷ ys) tries →
-        StandsFor (after_label l p.code) (bare (flow.Exit l) ∷ ys) tries
-    jump_to : {l : ℕ} {ys : List Line} {tries : List ℕ} → HasPlace l p.code → tries ≡ tries_at (after_label l p.code) → IsAt (bare (flow.Jump l) ∷ ys) tries →
-        StandsFor (after_label l p.code) (bare (flow.Jump l) ∷ ys) tries
+    label_before : {l : ℕ} {rest : List Instr} {ys : List Line} {tries : List ℕ} → IsAt (bare_flow (flow.Label l) ∷ ys) tries → StandsFor rest ys tries →
+        StandsFor rest (bare_flow (flow.Label l) ∷ ys) tries
+    pop_before : {rest : List Instr} {ys : List Line} {tries : List ℕ} → IsAt (bare_flow flow.PopTrap ∷ ys) tries → 0 < length tries → StandsFor rest ys (drop_tries 1 tries) →
+        StandsFor rest (bare_flow flow.PopTrap ∷ ys) tries
+    exit_to : {l : ℕ} {ys : List Line} {tries : List ℕ} → LabelOccursIn l p.code → tries ≡ tries_at (after_label l p.code) → IsAt (bare_flow (flow.Exit l) ∷ ys) tries →
+        StandsFor (after_label l p.code) (bare_flow (flow.Exit l) ∷ ys) tries
+    jump_to : {l : ℕ} {ys : List Line} {tries : List ℕ} → LabelOccursIn l p.code → tries ≡ tries_at (after_label l p.code) → IsAt (bare_flow (flow.Jump l) ∷ ys) tries →
+        StandsFor (after_label l p.code) (bare_flow (flow.Jump l) ∷ ys) tries
 
   pub is_at : {rest : List Instr} {ys : List Line} {tries : List ℕ} → StandsFor rest ys tries → IsAt ys tries
   is_at (at_end e) = e
@@ -194,15 +194,15 @@ module _ (number : ℕ → ℕ) (slots : ℕ) (p : Mach) (well : WellFormed p) w
           shorter m k a b c le x y = omega (arith, le, x, y)
 
           xs : List Line
-          xs = bare (flow.Exit l) ∷ L next
+          xs = bare_flow (flow.Exit l) ∷ L next
 
-          left : (m : ℕ) → m ≤ k → IsAt (pops number m (bare (flow.Exit l) ∷ L next)) (drop_tries (k - m) (tries_at next))
+          left : (m : ℕ) → m ≤ k → IsAt (pops number m (bare_flow (flow.Exit l) ∷ L next)) (drop_tries (k - m) (tries_at next))
           left m le =
               ap (λ n. drop_tries n (tries_at next)) (sym (minus_both k m))
-              ∙ sym (at_left number e (suc m) (length (pops number m (bare (flow.Exit l) ∷ L next)))
-              (pops_length number m (bare (flow.Exit l) ∷ L next) ∙ shifted m (length (L next))) (omega arith)
-              (shorter m k (length (pops number m (bare (flow.Exit l) ∷ L next))) (length (pops number k (bare (flow.Exit l) ∷ L next))) (length (L next)) le
-              (pops_length number m (bare (flow.Exit l) ∷ L next)) (pops_length number k (bare (flow.Exit l) ∷ L next))))
+              ∙ sym (at_left number e (suc m) (length (pops number m (bare_flow (flow.Exit l) ∷ L next)))
+              (pops_length number m (bare_flow (flow.Exit l) ∷ L next) ∙ shifted m (length (L next))) (omega arith)
+              (shorter m k (length (pops number m (bare_flow (flow.Exit l) ∷ L next))) (length (pops number k (bare_flow (flow.Exit l) ∷ L next))) (length (L next)) le
+              (pops_length number m (bare_flow (flow.Exit l) ∷ L next)) (pops_length number k (bare_flow (flow.Exit l) ∷ L next))))
       by (mach.Mark (mark.If t l)) args results e w at s = one_line _ e if_line refl at
       by (mach.Mark (mark.Else l end)) args results e w at s = via end e refl this (jump_to (label_of e end this) (sym (marked e end this)) at)
       by (mach.Mark (mark.Switch ls)) args results e w at s = one_line _ e switch_line refl at
@@ -214,7 +214,7 @@ module _ (number : ℕ → ℕ) (slots : ℕ) (p : Mach) (well : WellFormed p) w
           via end e refl this
           (pop_before at (some_one (length (tries_at next)))
           (jump_to (label_of e end this) (sym (marked e end this))
-          (sym (at_left number e 1 (length (bare (flow.Jump end) ∷ L next)) (one (length (L next))) (omega arith) (less (length (L next)))))))
+          (sym (at_left number e 1 (length (bare_flow (flow.Jump end) ∷ L next)) (one (length (L next))) (omega arith) (less (length (L next)))))))
         where
           some_one : (k : ℕ) → 0 < suc k
           some_one k = omega arith

@@ -8,10 +8,10 @@ use Rattle.bs_words.specs.declared.types.Loc.{Loc}
 use Rattle.bs_words.specs.declared.types.Loc.TheVariants as loc
 use Rattle.mach_ir.specs.Acts.{Target, On, At}
 use Rattle.mach_ir.specs.Formed as mach_formed
-use Rattle.mach_ir.specs.Formed.{HasPlace, HasHandler, WellFormed}
-use Rattle.mach_ir.specs.Forms.{results_of}
+use Rattle.mach_ir.specs.Formed.{LabelOccursIn, HasHandler, WellFormed}
+use Rattle.mach_ir.specs.Forms.{results_of_type}
 use Rattle.mach_ir.specs.Meaning.{tries_at, tries_past, is_handler_of, passes_frame}
-use Rattle.mach_ir.specs.Placed.{FullyPlaced, colours}
+use Rattle.mach_ir.specs.Placed.{FullyPlaced, colour_numbers}
 use Rattle.mach_ir.specs.Walks.{OneOf, other, targets, IsRegister, is_in_code, is_param, is_colour, InCode, Reached, by_step, goes, LiveAcross}
 use Rattle.mach_ir.specs.Walks as mach_walks
 use Rattle.mach_ir.specs.declared.op.Leaving.TheVariants as leaving
@@ -27,10 +27,10 @@ use Rattle.mach_laws.specs.Expand.{Ending, all, more}
 use Rattle.mach_laws.proofs.Places.{ending_next, stands_of}
 use Rattle.mach_laws.proofs.Instructions.{instr}
 use Rattle.lin_ir.specs.Formed as formed
-use Rattle.lin_ir.specs.Formed.{IsHome, IsLocation, is_home, Locates, SpareIsPassing, NamesLabel, goes_to, pushes, EntersAt, enters_here, enters_below, labels_in, is_exit, bare}
+use Rattle.lin_ir.specs.Formed.{IsHome, IsLocation, is_home, Locates, SpareIsPassing, NamesLabel, goes_to, pushes, EntersAt, enters_here, enters_below, labels_in, is_exit, bare_flow}
 use Rattle.lin_ir.specs.Meaning as lines
 use Rattle.lin_ir.specs.Walks as walks
-use Rattle.lin_ir.specs.Walks.{Stands, here, below, Traps, by_walk, unreached, TrapsBalance}
+use Rattle.lin_ir.specs.Walks.{StandsAsLine, here, below, Traps, by_walk, unreached, TrapsBalance}
 use Rattle.lin_ir.specs.declared.lin.Flow.{Flow}
 use Rattle.lin_ir.specs.declared.lin.Flow.TheVariants as flow
 use Rattle.lin_ir.specs.declared.lin.LinOp.{LinOp}
@@ -41,7 +41,7 @@ use Rattle.lin_ir.specs.declared.lin.Spot.{Spot}
 use Rattle.lin_laws.proofs.Forms.{same_machine}
 use Rattle.linear_rules.specs.Forward.{GoesForward}
 use Rattle.linear_rules.specs.Keeps.{NoAddrReached, OneTraps}
-use Rattle.linear_rules.specs.Lowered.{is_among, home, spots, is_idle, line_of, pops, lines_of, lowered_code}
+use Rattle.linear_rules.specs.Lowered.{is_among_numbers, home, spots, is_idle, line_of, pops, lines_of, lowered_code}
 use Rattle.linear_rules.proofs.Homes.{IsIn, is_first, is_later, in_of, contains_of, spot_of, split_in, in_right}
 use Rattle.linear_rules.proofs.Marks.{Differ, AsLine, op_line, if_line, switch_line, try_line, handler_line, idle_of, idle_handler, place_label, handler_label, handler_split}
 use Rattle.linear_rules.proofs.Standing.{q, handler_round, handler_ending, StandsFor, one_line, via, onto, idle_before, label_before, pop_before, exit_to, jump_to}
@@ -74,11 +74,11 @@ pub tail_in : {j : Line} {ys zs : List Line} → Tail (j ∷ ys) zs → IsIn j z
 tail_in tail_all = is_first
 tail_in (tail_more t) = is_later (tail_in t)
 
-pub tail_stands : {j : Line} {ys zs : List Line} → Tail (j ∷ ys) zs → Stands j ys zs
+pub tail_stands : {j : Line} {ys zs : List Line} → Tail (j ∷ ys) zs → StandsAsLine j ys zs
 tail_stands tail_all = here
 tail_stands (tail_more t) = below (tail_stands t)
 
-pub stands_tail : {j : Line} {ys zs : List Line} → Stands j ys zs → Tail (j ∷ ys) zs
+pub stands_tail : {j : Line} {ys zs : List Line} → StandsAsLine j ys zs → Tail (j ∷ ys) zs
 stands_tail here = tail_all
 stands_tail (below s) = tail_more (stands_tail s)
 
@@ -97,13 +97,13 @@ module _ (m : Lin) where
   reached_tail (walks.by_step r (walks.goes t o)) = tail_target (reached_tail r) t
   reached_tail (walks.by_raise r (walks.raises {h = h} e)) = tail_label h m.code
 
-  pub reached_stands : {j : Line} {ys : List Line} {tries : List ℕ} → walks.Reached m (j ∷ ys) tries → Stands j ys m.code
+  pub reached_stands : {j : Line} {ys : List Line} {tries : List ℕ} → walks.Reached m (j ∷ ys) tries → StandsAsLine j ys m.code
   reached_stands r = tail_stands (reached_tail r)
 
   pub record IsRead (l : Loc) (t : Comp) : Type 0 where
     pub line : Line
     pub inside : IsIn line m.code
-    pub reads : walks.ReadsAs l t line
+    pub reads : walks.ReadsLocationAs l t line
 
   -- what is live is read by some line
   pub live_read : {l : Loc} {t : Comp} {ys : List Line} {tries : List ℕ} → walks.Live m l t ys tries → Tail ys m.code → IsRead l t
@@ -111,9 +111,9 @@ module _ (m : Lin) where
   live_read (walks.on free (walks.goes t o) v) w = live_read v (tail_target w t)
   live_read (walks.aside (walks.raises {h = h} e) v) w = live_read v (tail_label h m.code)
 
-in_is_among : {k : ℕ} {ks : List ℕ} → IsIn k ks → is_among k ks ≡ true
-in_is_among {k} (is_first {xs = xs}) = ap (λ t. t || is_among k xs) (eq-eqb k k refl)
-in_is_among {k} (is_later {y = y} {xs = xs} i) = or_right (nat_eq y k) (is_among k xs) (in_is_among i)
+in_is_among : {k : ℕ} {ks : List ℕ} → IsIn k ks → is_among_numbers k ks ≡ true
+in_is_among {k} (is_first {xs = xs}) = ap (λ t. t || is_among_numbers k xs) (eq-eqb k k refl)
+in_is_among {k} (is_later {y = y} {xs = xs} i) = or_right (nat_eq y k) (is_among_numbers k xs) (in_is_among i)
   where
     or_right : (t b : Bool) → b ≡ true → t || b ≡ true
     or_right true b e = refl
@@ -125,7 +125,7 @@ not_machine k n e = cc
 -- t0 is no home
 pub not_spare : {m : Lin} {l : Loc} → IsHome m l → l ≡ formed.spare → ⊥
 not_spare (formed.is_colour {n = n} c) e =
-    true≢false (sym (in_is_among (subst (λ n. IsIn n colours) (same_machine n 5 e) (in_of n colours c))))
+    true≢false (sym (in_is_among (subst (λ n. IsIn n colour_numbers) (same_machine n 5 e) (in_of n colour_numbers c))))
 not_spare (formed.is_slot {k = k} lt) e = not_machine k 5 e
 
 module _ (number : ℕ → ℕ) (slots : ℕ) (p : Mach) (well : WellFormed p) (full : FullyPlaced p) where
@@ -140,7 +140,7 @@ module _ (number : ℕ → ℕ) (slots : ℕ) (p : Mach) (well : WellFormed p) (
   -- A label that a line names comes later; or the line is an exit.
   data Leading (l : ℕ) (j : Line) (ys : List Line) : Type 0 where
     comes_later : IsIn l (labels_in ys) → Leading l j ys
-    by_exit : is_exit j.op ≡ true → HasPlace l p.code → Leading l j ys
+    by_exit : is_exit j.op ≡ true → LabelOccursIn l p.code → Leading l j ys
 
   pop_names : {l : ℕ} {A : Type 0} → NamesLabel l (lin.Flow flow.PopTrap) → A
   pop_names (goes_to (other o)) = elim o [ ]
@@ -170,7 +170,7 @@ module _ (number : ℕ → ℕ) (slots : ℕ) (p : Mach) (well : WellFormed p) (
       out : (k l : ℕ) → lin.Flow (flow.Exit k) ≡ lin.Flow (flow.PushTrap l) → ⊥
       out k l e = cc
 
-  place_in_lines : {l : ℕ} (next : List Instr) → HasPlace l next → IsIn l (labels_in (L next))
+  place_in_lines : {l : ℕ} (next : List Instr) → LabelOccursIn l next → IsIn l (labels_in (L next))
   place_in_lines {l} next h = subst (IsIn l) (sym (labels_same number next)) (place_label next h)
 
   handler_in_lines : {l : ℕ} (next : List Instr) → HasHandler l next → IsIn l (labels_in (L next))
@@ -216,46 +216,46 @@ module _ (number : ℕ → ℕ) (slots : ℕ) (p : Mach) (well : WellFormed p) (
   line_not_exit try_line = refl
   line_not_exit handler_line = refl
 
-  own_stands : {i : Instr} {next : List Instr} {l : ℕ} {j : Line} {ys : List Line} (f : LinOp) → Ending (i ∷ next) p.code → AsLine i.op f → Stands j ys (line_of number f i ∷ L next) → NamesLabel l j.op →
-      (Stands j ys (L next) → NamesLabel l j.op → Leading l j ys) → Leading l j ys
+  own_stands : {i : Instr} {next : List Instr} {l : ℕ} {j : Line} {ys : List Line} (f : LinOp) → Ending (i ∷ next) p.code → AsLine i.op f → StandsAsLine j ys (line_of number f i ∷ L next) → NamesLabel l j.op →
+      (StandsAsLine j ys (L next) → NamesLabel l j.op → Leading l j ys) → Leading l j ys
   own_stands f e z here n go = comes_later (own_leads f e z (line_not_exit z) n)
   own_stands f e z (below s) n go = go s n
 
-  label_stands : {k l : ℕ} {j : Line} {ys xs : List Line} → Stands j ys (bare (flow.Label k) ∷ xs) → NamesLabel l j.op → (Stands j ys xs → NamesLabel l j.op → Leading l j ys) → Leading l j ys
+  label_stands : {k l : ℕ} {j : Line} {ys xs : List Line} → StandsAsLine j ys (bare_flow (flow.Label k) ∷ xs) → NamesLabel l j.op → (StandsAsLine j ys xs → NamesLabel l j.op → Leading l j ys) → Leading l j ys
   label_stands here n go = label_names n
   label_stands (below s) n go = go s n
 
-  pop_stands : {l : ℕ} {j : Line} {ys xs : List Line} → Stands j ys (bare flow.PopTrap ∷ xs) → NamesLabel l j.op → (Stands j ys xs → NamesLabel l j.op → Leading l j ys) → Leading l j ys
+  pop_stands : {l : ℕ} {j : Line} {ys xs : List Line} → StandsAsLine j ys (bare_flow flow.PopTrap ∷ xs) → NamesLabel l j.op → (StandsAsLine j ys xs → NamesLabel l j.op → Leading l j ys) → Leading l j ys
   pop_stands here n go = pop_names n
   pop_stands (below s) n go = go s n
 
-  pops_stands : {l : ℕ} {j : Line} {ys : List Line} (k : ℕ) (xs : List Line) → Stands j ys (pops number k xs) → NamesLabel l j.op → (Stands j ys xs → NamesLabel l j.op → Leading l j ys) → Leading l j ys
+  pops_stands : {l : ℕ} {j : Line} {ys : List Line} (k : ℕ) (xs : List Line) → StandsAsLine j ys (pops number k xs) → NamesLabel l j.op → (StandsAsLine j ys xs → NamesLabel l j.op → Leading l j ys) → Leading l j ys
   pops_stands zero xs s n go = go s n
   pops_stands (suc k) xs s n go = pop_stands s n (λ s n. pops_stands k xs s n go)
 
   -- a jump whose label comes later
-  jump_stands : {k l : ℕ} {j : Line} {ys xs : List Line} → ((l : ℕ) → OneOf (At l) (At k ∷ []) → IsIn l (labels_in xs)) → Stands j ys (bare (flow.Jump k) ∷ xs) → NamesLabel l j.op →
-      (Stands j ys xs → NamesLabel l j.op → Leading l j ys) → Leading l j ys
+  jump_stands : {k l : ℕ} {j : Line} {ys xs : List Line} → ((l : ℕ) → OneOf (At l) (At k ∷ []) → IsIn l (labels_in xs)) → StandsAsLine j ys (bare_flow (flow.Jump k) ∷ xs) → NamesLabel l j.op →
+      (StandsAsLine j ys xs → NamesLabel l j.op → Leading l j ys) → Leading l j ys
   jump_stands {k} {l} forward here n go = comes_later (forward l (jump_to_label k l n))
   jump_stands forward (below s) n go = go s n
 
-  exit_stands : {k l : ℕ} {j : Line} {ys xs : List Line} → ((l : ℕ) → OneOf (At l) (At k ∷ []) → HasPlace l p.code) → Stands j ys (bare (flow.Exit k) ∷ xs) → NamesLabel l j.op →
-      (Stands j ys xs → NamesLabel l j.op → Leading l j ys) → Leading l j ys
+  exit_stands : {k l : ℕ} {j : Line} {ys xs : List Line} → ((l : ℕ) → OneOf (At l) (At k ∷ []) → LabelOccursIn l p.code) → StandsAsLine j ys (bare_flow (flow.Exit k) ∷ xs) → NamesLabel l j.op →
+      (StandsAsLine j ys xs → NamesLabel l j.op → Leading l j ys) → Leading l j ys
   exit_stands {k} {l} place here n go = by_exit refl (place l (exit_to_label k l n))
   exit_stands place (below s) n go = go s n
 
   ahead : {i : Instr} {next : List Instr} → Ending (i ∷ next) p.code → mach_formed.is_exit i.op ≡ false → (l : ℕ) → OneOf (At l) (targets i.op) → IsIn l (labels_in (L next))
   ahead {i} {next} e alone l o = place_in_lines next (well.labels.forward i next (stands_of e) l o alone)
 
-  leading : (rest : List Instr) → Ending rest p.code → (j : Line) (ys : List Line) (l : ℕ) → Stands j ys (L rest) → NamesLabel l j.op → Leading l j ys
+  leading : (rest : List Instr) → Ending rest p.code → (j : Line) (ys : List Line) (l : ℕ) → StandsAsLine j ys (L rest) → NamesLabel l j.op → Leading l j ys
   leading [] e j ys l s n = elim s [ ]
   leading (i ∷ next) e j ys l s n = self (is_idle i.op i.args i.results) s n (λ s n. leading next (ending_next e) j ys l s n)
     where
-      by : (g : MachOp) (args results : List Reg) → Ending (instr g args results ∷ next) p.code → Stands j ys (lines_of number g (instr g args results) (L next)) → NamesLabel l j.op →
-          (Stands j ys (L next) → NamesLabel l j.op → Leading l j ys) → Leading l j ys
+      by : (g : MachOp) (args results : List Reg) → Ending (instr g args results ∷ next) p.code → StandsAsLine j ys (lines_of number g (instr g args results) (L next)) → NamesLabel l j.op →
+          (StandsAsLine j ys (L next) → NamesLabel l j.op → Leading l j ys) → Leading l j ys
       by (mach.Op f) args results e s n go = own_stands (lin.Op f) e op_line s n go
       by (mach.Mark (mark.Exit m k)) args results e s n go =
-          pops_stands k (bare (flow.Exit m) ∷ L next) s n
+          pops_stands k (bare_flow (flow.Exit m) ∷ L next) s n
           (λ s n. exit_stands (λ l o. well.labels.named (instr (mach.Mark (mark.Exit m k)) args results) next (stands_of e) l o) s n go)
       by (mach.Mark (mark.If t m)) args results e s n go = own_stands _ e if_line s n go
       by (mach.Mark (mark.Else k m)) args results e s n go = jump_stands (λ l o. is_later (ahead e refl l o)) s n (λ s n. label_stands s n go)
@@ -268,7 +268,7 @@ module _ (number : ℕ → ℕ) (slots : ℕ) (p : Mach) (well : WellFormed p) (
       by (mach.Mark (mark.Handler m)) args results e s n go = label_stands s n (λ s n. own_stands (lin.Flow flow.EnterTrap) e handler_line s n go)
       by (mach.Mark (mark.End m)) args results e s n go = label_stands s n go
 
-      self : (t : Bool) → Stands j ys (cond t (L next) (lines_of number i.op i (L next))) → NamesLabel l j.op → (Stands j ys (L next) → NamesLabel l j.op → Leading l j ys) → Leading l j ys
+      self : (t : Bool) → StandsAsLine j ys (cond t (L next) (lines_of number i.op i (L next))) → NamesLabel l j.op → (StandsAsLine j ys (L next) → NamesLabel l j.op → Leading l j ys) → Leading l j ys
       self true s n go = go s n
       self false s n go = by i.op i.args i.results e s n go
 
@@ -287,7 +287,7 @@ module _ (number : ℕ → ℕ) (slots : ℕ) (p : Mach) (well : WellFormed p) (
 
       by : (g : MachOp) (args results : List Reg) → (is_handler_of h g ≡ true) ⊎ HasHandler h is → (HasHandler h is → EntersAt h (L is)) → EntersAt h (lines_of number g (instr g args results) (L is))
       by (mach.Op f) args results z go = skips (HasHandler h is) z (λ z. enters_below (go z))
-      by (mach.Mark (mark.Exit l k)) args results z go = skips (HasHandler h is) z (λ z. pops_enter k (bare (flow.Exit l) ∷ L is) (enters_below (go z)))
+      by (mach.Mark (mark.Exit l k)) args results z go = skips (HasHandler h is) z (λ z. pops_enter k (bare_flow (flow.Exit l) ∷ L is) (enters_below (go z)))
       by (mach.Mark (mark.If t l)) args results z go = skips (HasHandler h is) z (λ z. enters_below (go z))
       by (mach.Mark (mark.Else l m)) args results z go = skips (HasHandler h is) z (λ z. enters_below (enters_below (go z)))
       by (mach.Mark (mark.Switch ls)) args results z go = skips (HasHandler h is) z (λ z. enters_below (go z))
@@ -515,7 +515,7 @@ module _ (number : ℕ → ℕ) (slots : ℕ) (p : Mach) (well : WellFormed p) (
         flow_not : (f : Flow) → lin.Flow f ≡ lin.Op (op.Leaving leaving.Return) → ⊥
         flow_not f e = cc
 
-    source_returns : {j : Line} → Source number p.code j → j.op ≡ lin.Op (op.Leaving leaving.Return) → formed.comps j.args ≡ results_of p.result
+    source_returns : {j : Line} → Source number p.code j → j.op ≡ lin.Op (op.Leaving leaving.Return) → formed.comps j.args ≡ results_of_type p.result
     source_returns (own_line {i = i} f z a) e = comps_same number i.args ∙ well.returns i (contains_of z) (returns_same a e)
     source_returns (bare_line {f = f} b) e = absurd (flow_not f e)
       where
@@ -525,12 +525,12 @@ module _ (number : ℕ → ℕ) (slots : ℕ) (p : Mach) (well : WellFormed p) (
     named_label : (j : Line) → Contains Q.code j → (l : ℕ) → NamesLabel l j.op → Contains (labels_in Q.code) l
     named_label j c l n = by (somewhere j Q.code (in_of j Q.code c))
       where
-        somewhere : (j : Line) (code : List Line) → IsIn j code → (ys : List Line) × Stands j ys code
+        somewhere : (j : Line) (code : List Line) → IsIn j code → (ys : List Line) × StandsAsLine j ys code
         somewhere j (k ∷ ks) is_first = (ks, here)
         somewhere j (k ∷ ks) (is_later z) = let y = somewhere j ks z in (y.0, below y.1)
         somewhere j [] z = elim z [ ]
 
-        by : (ys : List Line) × Stands j ys Q.code → Contains (labels_in Q.code) l
+        by : (ys : List Line) × StandsAsLine j ys Q.code → Contains (labels_in Q.code) l
         by y = two (leading p.code all j y.0 l y.1 n)
           where
             two : Leading l j y.0 → Contains (labels_in Q.code) l
@@ -584,7 +584,7 @@ module _ (number : ℕ → ℕ) (slots : ℕ) (p : Mach) (well : WellFormed p) (
     pub well_formed : formed.WellFormed Q
     well_formed =
         record {
-          forms = all_of formed.IsFormed Q.code (λ j z. source_formed number well.instrs (source number p.code z));
+          forms = all_of formed.IsFormedLine Q.code (λ j z. source_formed number well.instrs (source number p.code z));
           returns = λ j c e. source_returns (line_source c) e;
           params = all_of (λ (s : Spot). IsHome Q s.loc) Q.params (λ s z. locates p.params (λ r u. is_param (contains_of u)) s z);
           locations = all_of (λ (j : Line). Locates Q j.args × Locates Q j.results) Q.code

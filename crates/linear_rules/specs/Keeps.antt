@@ -13,7 +13,7 @@ use Rattle.lin_ir.specs.Walks.{Reached, LiveAcross}
 use Rattle.lin_ir.specs.Keeps.{IsNamedIn}
 use Rattle.lin_ir.specs.declared.lin.Line.{Line}
 use Rattle.lin_ir.specs.declared.lin.Lin.{Lin}
-use Rattle.linear_rules.specs.Kept.{Does}
+use Rattle.linear_rules.specs.Kept.{LoweringSimulation}
 
 -- Each frame point that some walk reaches names exactly what is live after it as val.
 pub record NamesReached (m : Lin) (named : NamedAt) : Type 0 where
@@ -36,7 +36,7 @@ pub record NoAddrReached (m : Lin) : Type 0 where
 pub record KeepsReached (p : Mach) (q : Lin) : Type 0 where
   pub name : q.name ≡ p.name
   pub result : q.result ≡ p.result
-  pub does : Does p q
+  pub does : LoweringSimulation p q
   pub symbols : (name : List ℕ) → IsNamedIn (NamesSymbol name) q →
       kept.IsNamedIn (NamesSymbol name) p
   pub externals : (row : External) → IsNamedIn (NamesExternal row) q →

@@ -18,7 +18,7 @@ use Rattle.mach_ir.specs.declared.mach.MachOp.{MachOp}
 use Rattle.mach_ir.specs.declared.mach.MachOp.TheVariants as mach
 use Rattle.mach_ir.specs.declared.mach.Instr.{Instr}
 use Rattle.mach_ir.specs.declared.mach.Mach.{Mach}
-use Rattle.lin_ir.specs.Formed.{bare}
+use Rattle.lin_ir.specs.Formed.{bare_flow}
 use Rattle.lin_ir.specs.Meaning.{same_loc}
 use Rattle.lin_ir.specs.declared.lin.Spot.{Spot}
 use Rattle.lin_ir.specs.declared.lin.Flow.TheVariants as flow
@@ -30,44 +30,44 @@ use Rattle.mach_ir.specs.Places.{same_comp}
 
 -- ---- slots
 
-abbrev pub slot_of : Loc → List ℕ → List ℕ
-slot_of (loc.Slot k) ks = k ∷ ks
-slot_of (loc.Machine n) ks = ks
-slot_of loc.Unset ks = ks
+abbrev pub with_slot_of : Loc → List ℕ → List ℕ
+with_slot_of (loc.Slot k) ks = k ∷ ks
+with_slot_of (loc.Machine n) ks = ks
+with_slot_of loc.Unset ks = ks
 
 abbrev pub slots_of_regs : List Reg → List ℕ → List ℕ
 slots_of_regs [] ks = ks
-slots_of_regs (r ∷ rs) ks = slot_of r.loc (slots_of_regs rs ks)
+slots_of_regs (r ∷ rs) ks = with_slot_of r.loc (slots_of_regs rs ks)
 
 abbrev pub slots_of_code : List Instr → List ℕ
 slots_of_code [] = []
 slots_of_code (i ∷ is) = slots_of_regs i.args (slots_of_regs i.results (slots_of_code is))
 
 -- the slots that occur in a function, some of them more than once
-abbrev pub slots_of : Mach → List ℕ
-slots_of m = slots_of_regs m.params (slots_of_code m.code)
+abbrev pub slots_of_function : Mach → List ℕ
+slots_of_function m = slots_of_regs m.params (slots_of_code m.code)
 
-abbrev pub is_among : ℕ → List ℕ → Bool
-is_among k [] = false
-is_among k (n ∷ ns) = nat_eq n k || is_among k ns
+abbrev pub is_among_numbers : ℕ → List ℕ → Bool
+is_among_numbers k [] = false
+is_among_numbers k (n ∷ ns) = nat_eq n k || is_among_numbers k ns
 
 -- how many of these numbers, each counted once, are below k
 abbrev pub count_below : List ℕ → ℕ → ℕ
 count_below ns zero = 0
-count_below ns (suc k) = cond (is_among k ns) (suc (count_below ns k)) (count_below ns k)
+count_below ns (suc k) = cond (is_among_numbers k ns) (suc (count_below ns k)) (count_below ns k)
 
 -- above all these numbers
-abbrev pub limit_of : List ℕ → ℕ
-limit_of [] = 0
-limit_of (n ∷ ns) = max (suc n) (limit_of ns)
+abbrev pub limit_above : List ℕ → ℕ
+limit_above [] = 0
+limit_above (n ∷ ns) = max (suc n) (limit_above ns)
 
 -- Each slot gets the number of those that occur below it: they are numbered from 0 on, one for each
 -- that occurs.
 abbrev pub slot_number : Mach → ℕ → ℕ
-slot_number m k = count_below (slots_of m) k
+slot_number m k = count_below (slots_of_function m) k
 
 abbrev pub slot_count : Mach → ℕ
-slot_count m = count_below (slots_of m) (limit_of (slots_of m))
+slot_count m = count_below (slots_of_function m) (limit_above (slots_of_function m))
 
 -- ---- tests
 
@@ -105,11 +105,11 @@ module _ (number : ℕ → ℕ) where
   home (loc.Machine n) = loc.Machine n
   home loc.Unset = loc.Unset
 
-  abbrev pub spot : Reg → Spot
-  spot r = record { loc = home r.loc; comp = r.comp }
+  abbrev pub spot_of_register : Reg → Spot
+  spot_of_register r = record { loc = home r.loc; comp = r.comp }
 
   abbrev pub spots : List Reg → List Spot
-  spots rs = map spot rs
+  spots rs = map spot_of_register rs
 
   -- a line with the operands and results of an instruction
   abbrev pub line_of : LinOp → Instr → Line
@@ -117,25 +117,25 @@ module _ (number : ℕ → ℕ) where
 
   abbrev pub pops : ℕ → List Line → List Line
   pops zero next = next
-  pops (suc n) next = bare flow.PopTrap ∷ pops n next
+  pops (suc n) next = bare_flow flow.PopTrap ∷ pops n next
 
   -- A branch goes where its test holds, and the true part of an `if` comes next: so its test is the
   -- opposite one.
   abbrev pub lines_of_mark : Mark → Instr → List Line → List Line
-  lines_of_mark (mark.Exit l n) i next = pops n (bare (flow.Exit l) ∷ next)
+  lines_of_mark (mark.Exit l n) i next = pops n (bare_flow (flow.Exit l) ∷ next)
   lines_of_mark (mark.If t l) i next =
       line_of (lin.Flow (flow.Branch (opposite_test t) l)) i ∷ next
-  lines_of_mark (mark.Else l end) i next = bare (flow.Jump end) ∷ bare (flow.Label l) ∷ next
+  lines_of_mark (mark.Else l end) i next = bare_flow (flow.Jump end) ∷ bare_flow (flow.Label l) ∷ next
   lines_of_mark (mark.Switch labels) i next = line_of (lin.Flow (flow.Switch labels)) i ∷ next
   lines_of_mark (mark.Case indexes l end) i next =
-      bare (flow.Jump end) ∷ bare (flow.Label l) ∷ next
+      bare_flow (flow.Jump end) ∷ bare_flow (flow.Label l) ∷ next
   lines_of_mark mark.Catch i next = next
-  lines_of_mark (mark.With l end) i next = bare (flow.Jump end) ∷ bare (flow.Label l) ∷ next
+  lines_of_mark (mark.With l end) i next = bare_flow (flow.Jump end) ∷ bare_flow (flow.Label l) ∷ next
   lines_of_mark (mark.Try l) i next = line_of (lin.Flow (flow.PushTrap l)) i ∷ next
-  lines_of_mark (mark.Leave l end) i next = bare flow.PopTrap ∷ bare (flow.Jump end) ∷ next
+  lines_of_mark (mark.Leave l end) i next = bare_flow flow.PopTrap ∷ bare_flow (flow.Jump end) ∷ next
   lines_of_mark (mark.Handler l) i next =
-      bare (flow.Label l) ∷ line_of (lin.Flow flow.EnterTrap) i ∷ next
-  lines_of_mark (mark.End l) i next = bare (flow.Label l) ∷ next
+      bare_flow (flow.Label l) ∷ line_of (lin.Flow flow.EnterTrap) i ∷ next
+  lines_of_mark (mark.End l) i next = bare_flow (flow.Label l) ∷ next
 
   abbrev pub lines_of : MachOp → Instr → List Line → List Line
   lines_of (mach.Op f) i next = line_of (lin.Op f) i ∷ next
@@ -150,8 +150,8 @@ module _ (number : ℕ → ℕ) where
   lowered_code (i ∷ is) = lowered_one i (lowered_code is)
 
 -- with these numbers for its slots
-abbrev pub numbered : (ℕ → ℕ) → ℕ → Mach → Lin
-numbered number slots m =
+abbrev pub lowered_with_numbers : (ℕ → ℕ) → ℕ → Mach → Lin
+lowered_with_numbers number slots m =
     record {
       name = m.name;
       params = spots number m.params;
@@ -161,4 +161,4 @@ numbered number slots m =
     }
 
 abbrev pub lowered : Mach → Lin
-lowered m = numbered (slot_number m) (slot_count m) m
+lowered m = lowered_with_numbers (slot_number m) (slot_count m) m

@@ -6,7 +6,7 @@ use Rattle.mach_ir.specs.declared.mach.MachOp.{MachOp}
 use Rattle.mach_ir.specs.declared.mach.MachOp.TheVariants as mach
 use Rattle.mach_ir.specs.declared.mach.Instr.{Instr}
 use Rattle.mach_ir.specs.declared.mach.Mach.{Mach}
-use Rattle.linear_rules.specs.Lowered.{slots_of, limit_of}
+use Rattle.linear_rules.specs.Lowered.{slots_of_function, limit_above}
 
 abbrev pub tries_ended_by : MachOp → ℕ
 tries_ended_by (mach.Op f) = 0
@@ -21,7 +21,7 @@ tries_ended (i ∷ is) = tries_ended_by i.op + tries_ended is
 -- There are numbers for all that the function becomes as it is lowered and made tidy.
 pub record HasLineRoom (p : Mach) : Type 0 where
   -- for its slots, after those of the registers
-  pub slots : limit_of (slots_of p) + 32 < number_limit
+  pub slots : limit_above (slots_of_function p) + 32 < number_limit
   -- for its lines, and for its labels with two new ones for each line: once loops are turned round, an
   -- instruction has become at most five lines, and an exit one more for each try that it ends
   pub labels : p.labels + 2 * (5 * length p.code + tries_ended p.code) + 2 < number_limit

@@ -4,7 +4,7 @@ use Rattle.std.proofs.lemmas.Bool.{cases_lt}
 use Rattle.std.proofs.lemmas.List.{get_or_default, length-drop}
 use Rattle.std.specs.Option.{unwrap_or, option_map}
 use Rattle.std.specs.Prelude.{slice_index_or}
-use Rattle.lin_ir.specs.Formed.{bare}
+use Rattle.lin_ir.specs.Formed.{bare_flow}
 use Rattle.lin_ir.specs.Meaning.{has_label, after_label}
 use Rattle.lin_ir.specs.declared.lin.Flow.{Flow}
 use Rattle.lin_ir.specs.declared.lin.Flow.TheVariants as flow
@@ -13,9 +13,9 @@ use Rattle.lin_ir.specs.declared.lin.Line.{Line}
 use Rattle.lin_ir.specs.declared.lin.Lin.{Lin}
 use Rattle.lin_ir.specs.declared.lin.Spot.{Spot}
 use Rattle.lin_laws.proofs.Places.{ends_label, place_is}
-use Rattle.lin_flow.specs.Labels.{place_in, AreLabelsOf}
+use Rattle.lin_flow.specs.Labels.{line_of_label, AreLabelsOf}
 use Rattle.lin_flow.specs.declared.labels.Labels.{Labels}
-use Rattle.tidy_rules.specs.Redirecting.{is_label, first_goes, leads_to, leaves_to, next_label, followed, last_label, last_exit}
+use Rattle.tidy_rules.specs.Redirecting.{is_label_line, first_goes, leads_to, leaves_to, next_label, followed, final_label, last_exit}
 use Rattle.tidy_rules.proofs.Following.{line, label_is}
 use Rattle.unused_lines.proofs.Between.{drop_line}
 use Rattle.linear_tidy.specs.Targets.{first_line, target_in, exit_in, AreTargets}
@@ -30,15 +30,15 @@ no_lines (i ∷ is) e = absurd (omega (arith, e))
 pub first_past : (code : List Line) (k : ℕ) → length code ≤ k → first_line (drop k code) ≡ None
 first_past code k le = let e = length-drop k code in no_lines (drop k code) (omega (arith, e, le))
 
-pub first_later : (code : List Line) (k : ℕ) (i : Line) → k < length code → i ≡ get_or code k i → (l : ℕ) × (i ≡ bare (flow.Label l)) →
+pub first_later : (code : List Line) (k : ℕ) (i : Line) → k < length code → i ≡ get_or code k i → (l : ℕ) × (i ≡ bare_flow (flow.Label l)) →
     first_line (drop k code) ≡ first_line (drop (k + 1) code)
 first_later code k i lt e label = ap first_line (drop_line code k i lt e ∙ ap (λ j. j ∷ drop (k + 1) code) label.1)
 
-pub first_here : (code : List Line) (k : ℕ) (i : Line) → k < length code → i ≡ get_or code k i → ((l : ℕ) × (i ≡ bare (flow.Label l)) → ⊥) →
+pub first_here : (code : List Line) (k : ℕ) (i : Line) → k < length code → i ≡ get_or code k i → ((l : ℕ) × (i ≡ bare_flow (flow.Label l)) → ⊥) →
     first_line (drop k code) ≡ Some i
-first_here code k i lt e other = ap first_line (drop_line code k i lt e) ∙ by (is_label i.op i.args i.results) refl
+first_here code k i lt e other = ap first_line (drop_line code k i lt e) ∙ by (is_label_line i.op i.args i.results) refl
   where
-    by : (b : Bool) → is_label i.op i.args i.results ≡ b → cond b (first_line (drop (k + 1) code)) (Some i) ≡ Some i
+    by : (b : Bool) → is_label_line i.op i.args i.results ≡ b → cond b (first_line (drop (k + 1) code)) (Some i) ≡ Some i
     by true s = absurd (other (label_is i.op i.args i.results s))
     by false s = refl
 
@@ -50,7 +50,7 @@ module _ (told : LinOp → (args results : List Spot) → Option ℕ) where
 
   told_of_first : (code : List Line) → told_of (first_line code) ≡ first_goes told code
   told_of_first [] = refl
-  told_of_first (i ∷ next) = by (is_label i.op i.args i.results) (told_of_first next)
+  told_of_first (i ∷ next) = by (is_label_line i.op i.args i.results) (told_of_first next)
     where
       by : (b : Bool) → told_of (first_line next) ≡ first_goes told next →
           told_of (cond b (first_line next) (Some i)) ≡ cond b (first_goes told next) (told i.op i.args i.results)
@@ -61,8 +61,8 @@ module _ (told : LinOp → (args results : List Spot) → Option ℕ) where
   told_nowhere code first e none = ap told_of (sym none ∙ e) ∙ told_of_first code
 
   -- of a line there it is said where it goes, which another answer says too
-  module _ (goes : ℕ → Flow) (is : (l : ℕ) (f : LinOp) (args results : List Spot) → told f args results ≡ Some l → line f args results ≡ bare (goes l)) (back : (l : ℕ) → told_of (Some (bare (goes l))) ≡ Some l) where
-    told_is : (i : Line) (o : Option ℕ) → ((l : ℕ) → (o ≡ Some l) ↔ (i ≡ bare (goes l))) → o ≡ told i.op i.args i.results
+  module _ (goes : ℕ → Flow) (is : (l : ℕ) (f : LinOp) (args results : List Spot) → told f args results ≡ Some l → line f args results ≡ bare_flow (goes l)) (back : (l : ℕ) → told_of (Some (bare_flow (goes l))) ≡ Some l) where
+    told_is : (i : Line) (o : Option ℕ) → ((l : ℕ) → (o ≡ Some l) ↔ (i ≡ bare_flow (goes l))) → o ≡ told i.op i.args i.results
     told_is i (Some l) exact = sym (ap (λ i. told_of (Some i)) ((exact l).0 refl) ∙ back l)
     told_is i None exact = by (told i.op i.args i.results) refl
       where
@@ -71,28 +71,28 @@ module _ (told : LinOp → (args results : List Spot) → Option ℕ) where
         by (Some l) e = (exact l).1 (is l i.op i.args i.results e)
 
     pub told_there : (code : List Line) (first : Option Line) (i : Line) (o : Option ℕ) → first ≡ first_line code → first ≡ Some i →
-        ((l : ℕ) → (o ≡ Some l) ↔ (i ≡ bare (goes l))) → o ≡ first_goes told code
+        ((l : ℕ) → (o ≡ Some l) ↔ (i ≡ bare_flow (goes l))) → o ≡ first_goes told code
     told_there code first i o e some exact = told_is i o exact ∙ ap told_of (sym some ∙ e) ∙ told_of_first code
 
 -- ---- one jump after the other
 
 -- the code after a label, by the places of labels
-after_is : (m : Lin) (labels : Labels) (slice : List Line) (l place : ℕ) → AreLabelsOf m labels → slice ≡ m.code → place ≡ place_in labels l →
+after_is : (m : Lin) (labels : Labels) (slice : List Line) (l place : ℕ) → AreLabelsOf m labels → slice ≡ m.code → place ≡ line_of_label labels l →
     drop place slice ≡ after_label l m.code
 after_is m labels slice l place table same at =
     ap (drop place) same ∙ ap (λ p. drop p m.code) (at ∙ table.each l) ∙ place_is m (ends_label l m.code)
 
 -- the label to which one jumps from a label
 pub next_is : (m : Lin) (labels : Labels) (slice : List Line) (l place : ℕ) (o : Option ℕ) → AreLabelsOf m labels → slice ≡ m.code →
-    place ≡ place_in labels l → o ≡ leads_to (drop place slice) → next_label m l ≡ unwrap_or o l
+    place ≡ line_of_label labels l → o ≡ leads_to (drop place slice) → next_label m l ≡ unwrap_or o l
 next_is m labels slice l place o table same at e =
     ap (λ o. unwrap_or o l) (sym (e ∙ ap leads_to (after_is m labels slice l place table same at)))
 
 -- and the exit there
 pub exit_is_at : (m : Lin) (labels : Labels) (slice : List Line) (l last place : ℕ) (o : Option ℕ) → AreLabelsOf m labels → slice ≡ m.code →
-    last ≡ last_label m l → place ≡ place_in labels last → o ≡ leaves_to (drop place slice) → option_map (last_label m) o ≡ last_exit m l
+    last ≡ final_label m l → place ≡ line_of_label labels last → o ≡ leaves_to (drop place slice) → option_map (final_label m) o ≡ last_exit m l
 exit_is_at m labels slice l last place o table same is at e =
-    ap (option_map (last_label m))
+    ap (option_map (final_label m))
     (e ∙ ap leaves_to (after_is m labels slice last place table same at) ∙ ap (λ k. leaves_to (after_label k m.code)) is)
 
 followed_stays : (m : Lin) (n l : ℕ) → next_label m l ≡ l → followed m n l ≡ l
@@ -159,33 +159,33 @@ abbrev pub none_told : ℕ → Option ℕ
 none_told l = None
 
 pub record TargetsSoFar (m : Lin) (t : Targets) (k : ℕ) : Type 0 where
-  pub to : HasSoFar m k (target_in t) (last_label m) own
+  pub to : HasSoFar m k (target_in t) (final_label m) own
   pub exits : HasSoFar m k (exit_in t) (last_exit m) none_told
 
 pub targets_begun : (m : Lin) (t : Targets) → ((l : ℕ) → target_in t l ≡ l) → ((l : ℕ) → exit_in t l ≡ None) → TargetsSoFar m t 0
 targets_begun m t to exits = record {
-  to = has_begun m (target_in t) (last_label m) own to;
+  to = has_begun m (target_in t) (final_label m) own to;
   exits = has_begun m (exit_in t) (last_exit m) none_told exits;
 }
 
 pub targets_more : (m : Lin) (old new : Targets) (k : ℕ) (i : Line) → i ≡ get_or m.code k i →
-    ((l : ℕ) → target_in new l ≡ cond (has_label l i.op) (last_label m l) (target_in old l)) →
+    ((l : ℕ) → target_in new l ≡ cond (has_label l i.op) (final_label m l) (target_in old l)) →
     ((l : ℕ) → exit_in new l ≡ cond (has_label l i.op) (last_exit m l) (exit_in old l)) → TargetsSoFar m old k → TargetsSoFar m new (k + 1)
 targets_more m old new k i at to exits h = record {
-  to = has_more m (target_in old) (target_in new) (last_label m) own k i at to h.to;
+  to = has_more m (target_in old) (target_in new) (final_label m) own k i at to h.to;
   exits = has_more m (exit_in old) (exit_in new) (last_exit m) none_told k i at exits h.exits;
 }
 
-stays_nowhere : (m : Lin) (l : ℕ) → after_label l m.code ≡ [] → last_label m l ≡ l
+stays_nowhere : (m : Lin) (l : ℕ) → after_label l m.code ≡ [] → final_label m l ≡ l
 stays_nowhere m l none = followed_stays m (length m.code) l (ap (λ is. unwrap_or (leads_to is) l) none)
 
 exits_nowhere : (m : Lin) (l : ℕ) → after_label l m.code ≡ [] → None ≡ last_exit m l
 exits_nowhere m l none =
-    sym (ap (λ k. option_map (last_label m) (leaves_to (after_label k m.code))) (stays_nowhere m l none)
-    ∙ ap (λ is. option_map (last_label m) (leaves_to is)) none)
+    sym (ap (λ k. option_map (final_label m) (leaves_to (after_label k m.code))) (stays_nowhere m l none)
+    ∙ ap (λ is. option_map (final_label m) (leaves_to is)) none)
 
 pub targets_all : (m : Lin) (t : Targets) (k : ℕ) → length m.code ≤ k → TargetsSoFar m t k → AreTargets m t
 targets_all m t k le h = record {
-  to = has_all m (target_in t) (last_label m) own k le (λ l none. sym (stays_nowhere m l none)) h.to;
+  to = has_all m (target_in t) (final_label m) own k le (λ l none. sym (stays_nowhere m l none)) h.to;
   exits = has_all m (exit_in t) (last_exit m) none_told k le (exits_nowhere m) h.exits;
 }

@@ -7,16 +7,16 @@ use Rattle.bs_words.specs.declared.types.Loc.{Loc}
 use Rattle.bs_words.proofs.Lists.{none_in}
 use Rattle.mach_ir.specs.Acts.{Target, On, At}
 use Rattle.mach_ir.specs.Walks.{OneOf, this, other}
-use Rattle.lin_ir.specs.Formed.{IsSelfMove, is_self_move, bare}
+use Rattle.lin_ir.specs.Formed.{IsSelfMove, is_self_move, bare_flow}
 use Rattle.lin_ir.specs.Meaning.{after_label, code_at}
 use Rattle.lin_ir.specs.Walks as walks
-use Rattle.lin_ir.specs.Walks.{targets, may_raise, tries_after, Stands, here, below, Writes, ReadsAs, Reached, at_entry, by_step, by_raise, Live, read, on, aside}
+use Rattle.lin_ir.specs.Walks.{targets, may_raise, tries_after, StandsAsLine, here, below, Writes, ReadsLocationAs, Reached, at_entry, by_step, by_raise, Live, read, on, aside}
 use Rattle.lin_ir.specs.declared.lin.Flow.TheVariants as flow
 use Rattle.lin_ir.specs.declared.lin.Line.{Line}
 use Rattle.lin_ir.specs.declared.lin.Lin.{Lin}
 use Rattle.lin_ir.specs.declared.lin.Spot.{Spot}
 use Rattle.linear_rules.proofs.Walked.{Tail, tail_next, tail_stands, reached_tail}
-use Rattle.tidy_rules.specs.Leaving.{LabelsBetween, none_between, label_between, IsUseless, unreached, unread, skipped, without}
+use Rattle.tidy_rules.specs.Leaving.{LabelsBetween, none_between, label_between, IsUseless, unreached, unread, skipped, without_lines}
 use Rattle.tidy_rules.proofs.Leaving.{rest, self_goes, target_rest, handler_rest}
 use Rattle.tidy_rules.proofs.Shape.{landing_stays}
 use Rattle.tidy_rules.specs.Regular.{IsReadBehind}
@@ -31,20 +31,20 @@ jump_to : (k : ℕ) (t : Target) → OneOf t (At k ∷ []) → t ≡ At k
 jump_to k t this = refl
 jump_to k t (other o) = elim o [ ]
 
-module _ (m : Lin) (goes : ℕ → Bool) (each : (i : Line) (next : List Line) → Stands i next m.code → goes (length next) ≡ true → IsUseless m i next) where
+module _ (m : Lin) (goes : ℕ → Bool) (each : (i : Line) (next : List Line) → StandsAsLine i next m.code → goes (length next) ≡ true → IsUseless m i next) where
   abbrev R : Lin
   R = rest m goes each
 
   abbrev K : List Line → List Line
-  K = without goes
+  K = without_lines goes
 
   past_labels : {a b : List Line} {tries : List ℕ} → Tail a m.code → LabelsBetween a b → Reached R (K a) tries → Reached R (K b) tries
   past_labels w none_between r = r
   past_labels {tries = tries} w (label_between {l = l} {next = next} p) r =
       past_labels (tail_next w) p
       (by_step
-      (subst (λ b. Reached R (cond b (K next) (bare (flow.Label l) ∷ K next)) tries)
-      (landing_stays m goes each (bare (flow.Label l)) next (tail_stands w) refl) r) (walks.goes On this))
+      (subst (λ b. Reached R (cond b (K next) (bare_flow (flow.Label l) ∷ K next)) tries)
+      (landing_stays m goes each (bare_flow (flow.Label l)) next (tail_stands w) refl) r) (walks.goes On this))
 
   module _ (i : Line) (next : List Line) (tries : List ℕ) (r : Reached m (i ∷ next) tries) (k : Reached R (K (i ∷ next)) tries) where
     tail : Tail (i ∷ next) m.code
@@ -98,28 +98,28 @@ module _ (m : Lin) (goes : ℕ → Bool) (each : (i : Line) (next : List Line) �
 
   -- ---- what is live, where no move of a location to itself goes
 
-  module _ (still : (i : Line) (next : List Line) → Stands i next m.code → goes (length next) ≡ true → IsNoSelfMove i) where
+  module _ (still : (i : Line) (next : List Line) → StandsAsLine i next m.code → goes (length next) ≡ true → IsNoSelfMove i) where
     past_live : {l : Loc} {t : Comp} {a b : List Line} {tries : List ℕ} → Tail a m.code → LabelsBetween a b → Live R l t (K b) tries → Live R l t (K a) tries
     past_live w none_between v = v
     past_live {l} {t} {tries = tries} w (label_between {l = k} {next = next} p) v =
-        subst (λ b. Live R l t (cond b (K next) (bare (flow.Label k) ∷ K next)) tries)
-        (sym (landing_stays m goes each (bare (flow.Label k)) next (tail_stands w) refl))
+        subst (λ b. Live R l t (cond b (K next) (bare_flow (flow.Label k) ∷ K next)) tries)
+        (sym (landing_stays m goes each (bare_flow (flow.Label k)) next (tail_stands w) refl))
         (on (label_unwritten k l) (walks.goes On this) (past_live (tail_next w) p v))
 
     module _ (l : Loc) (t : Comp) (i : Line) (next : List Line) (tries : List ℕ) (r : Reached m (i ∷ next) tries) where
       as_stays : (b : Bool) → goes (length next) ≡ b → Live R l t (cond b (K next) (i ∷ K next)) tries → Live R l t (K (i ∷ next)) tries
       as_stays b s = subst (λ b. Live R l t (cond b (K next) (i ∷ K next)) tries) (sym s)
 
-      stands : Stands i next m.code
+      stands : StandsAsLine i next m.code
       stands = tail_stands (reached_tail m r)
 
-      read_gone : ReadsAs l t i → goes (length next) ≡ true → IsUseless m i next → ⊥
+      read_gone : ReadsLocationAs l t i → goes (length next) ≡ true → IsUseless m i next → ⊥
       read_gone x s (unreached n out) = out tries r
       read_gone x s (unread {from = from} {to = to} z dead) = still i next stands s from to z
       read_gone x s (skipped same past) =
           none_in (record { loc = l; comp = t }) (subst (λ (j : Line). Contains j.args (record { loc = l; comp = t })) same x)
 
-      read_stays : ReadsAs l t i → (b : Bool) → goes (length next) ≡ b → Live R l t (K (i ∷ next)) tries
+      read_stays : ReadsLocationAs l t i → (b : Bool) → goes (length next) ≡ b → Live R l t (K (i ∷ next)) tries
       read_stays x true s = absurd (read_gone x s (each i next stands s))
       read_stays x false s = as_stays false s (read x)
 
@@ -173,24 +173,24 @@ module _ (m : Lin) (goes : ℕ → Bool) (each : (i : Line) (next : List Line) �
 
 pub record Was (goes : ℕ → Bool) (j : Line) (js code : List Line) : Type 0 where
   pub next : List Line
-  pub stands : Stands j next code
+  pub stands : StandsAsLine j next code
   pub stays : goes (length next) ≡ false
-  pub same : without goes next ≡ js
+  pub same : without_lines goes next ≡ js
 
 module _ (goes : ℕ → Bool) where
-  first_was : {i j : Line} {ks js : List Line} (next : List Line) → without goes next ≡ ks → goes (length next) ≡ false → Stands j js (i ∷ ks) →
-      (Stands j js ks → Was goes j js (i ∷ next)) → Was goes j js (i ∷ next)
+  first_was : {i j : Line} {ks js : List Line} (next : List Line) → without_lines goes next ≡ ks → goes (length next) ≡ false → StandsAsLine j js (i ∷ ks) →
+      (StandsAsLine j js ks → Was goes j js (i ∷ next)) → Was goes j js (i ∷ next)
   first_was next e stays here ih = record { next = next; stands = here; stays = stays; same = e }
   first_was next e stays (below s) ih = ih s
 
-  pub was : {j : Line} {js : List Line} (code : List Line) → Stands j js (without goes code) → Was goes j js code
+  pub was : {j : Line} {js : List Line} (code : List Line) → StandsAsLine j js (without_lines goes code) → Was goes j js code
   was [] s = elim s [ ]
   was {j} {js} (i ∷ next) s = by (goes (length next)) refl s (was next)
     where
       lower : Was goes j js next → Was goes j js (i ∷ next)
       lower y = record { next = y.next; stands = below y.stands; stays = y.stays; same = y.same }
 
-      by : (b : Bool) → goes (length next) ≡ b → Stands j js (cond b (without goes next) (i ∷ without goes next)) →
-          (Stands j js (without goes next) → Was goes j js next) → Was goes j js (i ∷ next)
+      by : (b : Bool) → goes (length next) ≡ b → StandsAsLine j js (cond b (without_lines goes next) (i ∷ without_lines goes next)) →
+          (StandsAsLine j js (without_lines goes next) → Was goes j js next) → Was goes j js (i ∷ next)
       by true e s ih = lower (ih s)
       by false e s ih = first_was next refl e s (λ s. lower (ih s))

@@ -5,7 +5,7 @@ use Rattle.std.proofs.lemmas.List.{append-nil, length-drop, length-map, length-r
 use Rattle.std.proofs.lemmas.List.Elements.{All-nil, All-cons, All-head, All-tail, All-append}
 use Rattle.std.specs.List.{All}
 use Rattle.std.specs.Option.{option_map}
-use Rattle.lin_ir.specs.Formed.{label_of, labels_in, bare}
+use Rattle.lin_ir.specs.Formed.{label_of, labels_in, bare_flow}
 use Rattle.lin_ir.specs.Meaning.{has_label, after_label}
 use Rattle.lin_ir.specs.declared.lin.Flow.TheVariants as flow
 use Rattle.lin_ir.specs.declared.lin.LinOp.{LinOp}
@@ -15,16 +15,16 @@ use Rattle.lin_ir.specs.declared.lin.Lin.{Lin}
 use Rattle.lin_ir.specs.declared.lin.Spot.{Spot}
 use Rattle.lin_laws.specs.Graph.{HaveNumbers, AreNumbered}
 use Rattle.lin_laws.proofs.Places.{ends_label, place_is, after_within}
-use Rattle.lin_flow.specs.Labels.{place_in, AreLabelsOf}
+use Rattle.lin_flow.specs.Labels.{line_of_label, AreLabelsOf}
 use Rattle.lin_flow.specs.declared.labels.Labels.{Labels}
 use Rattle.tidy_rules.specs.Leaving.{with_code}
-use Rattle.linear_rules.specs.Lowered.{opposite_test, limit_of}
+use Rattle.linear_rules.specs.Lowered.{opposite_test, limit_above}
 use Rattle.tidy_rules.specs.Turning.{Head, Turn, branch_line, turned_line, turned_lines, tested_again, label_put, label_here, label_on, head_by, head_at, stands_first, exit_head, turn_for, line_turn, turn_at, is_on, is_led_to, opened_at, turned_all}
 use Rattle.tidy_rules.specs.Redirecting.{exits_to}
 use Rattle.tidy_rules.proofs.Following.{exit_is}
 use Rattle.bs_words.proofs.Lists.{head_same, tail_same}
 use Rattle.unused_lines.proofs.Between.{drop_line}
-use Rattle.linear_tidy.specs.Loops.{turn_view, turns_in, is_opened, opened_in, first_of, others_of, turned_by, turns_of, AreChanges}
+use Rattle.linear_tidy.specs.Loops.{turn_view, turns_in, is_opened, opened_in, first_turn, others_of, turned_by, turns_of, AreChanges}
 use Rattle.linear_tidy.specs.declared.turning.Changes.{Changes}
 
 -- ---- at a place
@@ -71,21 +71,21 @@ if_ok P Q (Err e) f h = h
 
 -- ---- the first free label
 
-pub free_begun : (code : List Line) → max 0 (limit_of (labels_in code)) ≡ limit_of (labels_in code)
+pub free_begun : (code : List Line) → max 0 (limit_above (labels_in code)) ≡ limit_above (labels_in code)
 free_begun code = omega arith
 
 pub free_more : (code : List Line) (k free above : ℕ) (i : Line) → k < length code → i ≡ get_or code k i →
-    ((ls : List ℕ) → max above (limit_of ls) ≡ max free (limit_of (label_of i.op ++ ls))) →
-    max free (limit_of (labels_in (drop k code))) ≡ limit_of (labels_in code) →
-    max above (limit_of (labels_in (drop (k + 1) code))) ≡ limit_of (labels_in code)
+    ((ls : List ℕ) → max above (limit_above ls) ≡ max free (limit_above (label_of i.op ++ ls))) →
+    max free (limit_above (labels_in (drop k code))) ≡ limit_above (labels_in code) →
+    max above (limit_above (labels_in (drop (k + 1) code))) ≡ limit_above (labels_in code)
 free_more code k free above i lt e more h =
-    more (labels_in (drop (k + 1) code)) ∙ sym (ap (λ is. max free (limit_of (labels_in is))) (drop_line code k i lt e)) ∙ h
+    more (labels_in (drop (k + 1) code)) ∙ sym (ap (λ is. max free (limit_above (labels_in is))) (drop_line code k i lt e)) ∙ h
 
 pub free_all : (code : List Line) (k free : ℕ) → length code ≤ k →
-    max free (limit_of (labels_in (drop k code))) ≡ limit_of (labels_in code) → free ≡ limit_of (labels_in code)
+    max free (limit_above (labels_in (drop k code))) ≡ limit_above (labels_in code) → free ≡ limit_above (labels_in code)
 free_all code k free le h =
     let none : max free 0 ≡ free = omega arith in
-    sym none ∙ sym (ap (λ is. max free (limit_of (labels_in is))) (all_dropped code k le)) ∙ h
+    sym none ∙ sym (ap (λ is. max free (limit_above (labels_in is))) (all_dropped code k le)) ∙ h
 
 -- ---- where an exit leads
 
@@ -108,7 +108,7 @@ exit_told m free (lin.Flow flow.PopTrap) args results next = refl
 exit_told m free (lin.Flow flow.EnterTrap) args results next = refl
 exit_told m free (lin.Op f) args results next = refl
 
-pub no_exit : (m : Lin) (free : ℕ) (i : Line) (next : List Line) (o : Option ℕ) → ((l : ℕ) → (o ≡ Some l) ↔ (i ≡ bare (flow.Exit l))) →
+pub no_exit : (m : Lin) (free : ℕ) (i : Line) (next : List Line) (o : Option ℕ) → ((l : ℕ) → (o ≡ Some l) ↔ (i ≡ bare_flow (flow.Exit l))) →
     o ≡ None → None ≡ exit_head m free i.op i.args i.results next
 unfolding exit_by
 no_exit m free i next o told none =
@@ -119,20 +119,20 @@ no_exit m free i next o told none =
     by (Some l) e = absurd (let some = (told l).1 (exit_is l i.op i.args i.results e) in cc)
 
 -- of an exit it is said where the label leads
-pub exit_there : (m : Lin) (free l : ℕ) (i : Line) (next : List Line) (o : Option ℕ) → ((l : ℕ) → (o ≡ Some l) ↔ (i ≡ bare (flow.Exit l))) →
+pub exit_there : (m : Lin) (free l : ℕ) (i : Line) (next : List Line) (o : Option ℕ) → ((l : ℕ) → (o ≡ Some l) ↔ (i ≡ bare_flow (flow.Exit l))) →
     o ≡ Some l → exit_head m free i.op i.args i.results next ≡ cond (stands_first l next) None (head_at free (after_label l m.code))
 exit_there m free l i next o told some =
     ap (λ (i : Line). exit_head m free i.op i.args i.results next) ((told l).0 some)
 
 -- the code after a label, by the table of places
-pub after_place : (m : Lin) (labels : Labels) (l place : ℕ) → AreLabelsOf m labels → place ≡ place_in labels l →
+pub after_place : (m : Lin) (labels : Labels) (l place : ℕ) → AreLabelsOf m labels → place ≡ line_of_label labels l →
     drop place m.code ≡ after_label l m.code
 after_place m labels l place table at = ap (λ p. drop p m.code) (at ∙ table.each l) ∙ place_is m (ends_label l m.code)
 
 -- ---- which label the test keeps
 
 pub keeps_by_place : (m : Lin) (labels : Labels) (l place k : ℕ) (i : Line) (next : List Line) → AreLabelsOf m labels →
-    place ≡ place_in labels l → drop k m.code ≡ i ∷ next → nat_le place (k + 1) ≡ nat_le (length next) (length (after_label l m.code))
+    place ≡ line_of_label labels l → drop k m.code ≡ i ∷ next → nat_le place (k + 1) ≡ nat_le (length next) (length (after_label l m.code))
 keeps_by_place m labels l place k i next table at e =
     let there : place ≡ length m.code - length (after_label l m.code) = at ∙ table.each l in
     let le = after_within l m.code in
@@ -231,17 +231,17 @@ same_labels : (opens others : ℕ → Option ℕ) (turns : List (Option Turn)) (
     turned_by opens turns code ≡ turned_by others turns code
 same_labels opens others turns [] same = refl
 same_labels opens others turns (i ∷ next) same =
-    ap (λ o. turned_line (first_of turns) o i ++ turned_by opens (others_of turns) next) (same (length (others_of turns)))
-    ∙ ap (λ is. turned_line (first_of turns) (others (length (others_of turns))) i ++ is) (same_labels opens others (others_of turns) next same)
+    ap (λ o. turned_line (first_turn turns) o i ++ turned_by opens (others_of turns) next) (same (length (others_of turns)))
+    ∙ ap (λ is. turned_line (first_turn turns) (others (length (others_of turns))) i ++ is) (same_labels opens others (others_of turns) next same)
 
 -- there are numbers for the labels of all lines
-pub change_room : (m : Lin) (free : ℕ) (c : Changes) → free ≡ limit_of (labels_in m.code) → AreChanges m free m.code c →
-    suc (limit_of (labels_in m.code) + 2 * length m.code) < 4294967296 → suc (free + 2 * length (turns_in c)) < 4294967296
+pub change_room : (m : Lin) (free : ℕ) (c : Changes) → free ≡ limit_above (labels_in m.code) → AreChanges m free m.code c →
+    suc (limit_above (labels_in m.code) + 2 * length m.code) < 4294967296 → suc (free + 2 * length (turns_in c)) < 4294967296
 change_room m free c is are room =
     let len : length (turns_in c) ≡ length m.code = ap length are.turns ∙ length_turns m free m.code in
     omega (arith, is, len, room)
 
-pub all_changed : (m : Lin) (free : ℕ) (c : Changes) (code : List Line) → free ≡ limit_of (labels_in m.code) → AreChanges m free m.code c →
+pub all_changed : (m : Lin) (free : ℕ) (c : Changes) (code : List Line) → free ≡ limit_above (labels_in m.code) → AreChanges m free m.code c →
     code ≡ turned_by (opened_in c free) (turns_in c) m.code → with_code m code ≡ turned_all m
 all_changed m free c code is h made =
     ap (with_code m)
@@ -258,15 +258,15 @@ pub changed_begun : (opens : ℕ → Option ℕ) (turns : List (Option Turn)) (m
 changed_begun opens turns made rest none = ap (λ is. is ++ turned_by opens turns rest) none
 
 pub changed_more : (opens : ℕ → Option ℕ) (all old new : List (Option Turn)) (made more yielded rest : List Line) (i : Line) (first : Option Turn)
-    (label : Option ℕ) → new ≡ others_of old → first ≡ first_of old → label ≡ opens (length new) → more ≡ made ++ turned_line first label i →
+    (label : Option ℕ) → new ≡ others_of old → first ≡ first_turn old → label ≡ opens (length new) → more ≡ made ++ turned_line first label i →
     made ++ turned_by opens old (i ∷ rest) ≡ turned_by opens all (yielded ++ i ∷ rest) →
     more ++ turned_by opens new rest ≡ turned_by opens all ((yielded ++ i ∷ []) ++ rest)
 changed_more opens all old new made more yielded rest i first label others is put made_more h =
     ap (λ is. is ++ turned_by opens new rest) made_more
     ∙ append_assoc made (turned_line first label i) (turned_by opens new rest)
     ∙ ap (λ t. made ++ (turned_line t label i ++ turned_by opens new rest)) is
-    ∙ ap (λ o. made ++ (turned_line (first_of old) o i ++ turned_by opens new rest)) put
-    ∙ ap (λ ts. made ++ (turned_line (first_of old) (opens (length ts)) i ++ turned_by opens ts rest)) others
+    ∙ ap (λ o. made ++ (turned_line (first_turn old) o i ++ turned_by opens new rest)) put
+    ∙ ap (λ ts. made ++ (turned_line (first_turn old) (opens (length ts)) i ++ turned_by opens ts rest)) others
     ∙ h ∙ ap (turned_by opens all) (sym (append_assoc yielded (i ∷ []) rest))
 
 pub changed_all : (opens : ℕ → Option ℕ) (all turns : List (Option Turn)) (made yielded : List Line) →
@@ -325,19 +325,19 @@ module _ (P : List Spot → Type 0) (none : P []) where
 
   put_all : (o : Option ℕ) → All Args (label_put o)
   put_all None = All-nil Args
-  put_all (Some l) = All-cons Args (bare (flow.Label l)) [] none (All-nil Args)
+  put_all (Some l) = All-cons Args (bare_flow (flow.Label l)) [] none (All-nil Args)
 
   again_all : (keeps : Bool) (h : Head) → P h.args → All Args (tested_again keeps h)
   again_all true h p =
-      All-cons Args (branch_line h.test h.to h.args) (bare (flow.Jump h.on) ∷ []) p (All-cons Args (bare (flow.Jump h.on)) [] none (All-nil Args))
+      All-cons Args (branch_line h.test h.to h.args) (bare_flow (flow.Jump h.on) ∷ []) p (All-cons Args (bare_flow (flow.Jump h.on)) [] none (All-nil Args))
   again_all false h p =
-      All-cons Args (branch_line (opposite_test h.test) h.on h.args) (bare (flow.Jump h.to) ∷ []) p
-      (All-cons Args (bare (flow.Jump h.to)) [] none (All-nil Args))
+      All-cons Args (branch_line (opposite_test h.test) h.on h.args) (bare_flow (flow.Jump h.to) ∷ []) p
+      (All-cons Args (bare_flow (flow.Jump h.to)) [] none (All-nil Args))
 
   turn_all : (t : Turn) (o : Option ℕ) (i : Line) → P t.head.args → All Args (turned_line (Some t) o i)
   turn_all t o i p =
-      All-cons Args (bare (flow.Exit t.here)) (bare (flow.Label t.here) ∷ tested_again t.keeps t.head) none
-      (All-cons Args (bare (flow.Label t.here)) (tested_again t.keeps t.head) none (again_all t.keeps t.head p))
+      All-cons Args (bare_flow (flow.Exit t.here)) (bare_flow (flow.Label t.here) ∷ tested_again t.keeps t.head) none
+      (All-cons Args (bare_flow (flow.Label t.here)) (tested_again t.keeps t.head) none (again_all t.keeps t.head p))
 
   line_all : (m : Lin) (free : ℕ) (o : Option ℕ) (i : Line) (next : List Line) → All Args m.code → P i.args →
       All Args (turned_line (line_turn m free i next) o i)
@@ -367,33 +367,33 @@ module _ (P : List Spot → Type 0) (none : P []) where
 
   put_results : (o : Option ℕ) → All Results (label_put o)
   put_results None = All-nil Results
-  put_results (Some l) = All-cons Results (bare (flow.Label l)) [] none (All-nil Results)
+  put_results (Some l) = All-cons Results (bare_flow (flow.Label l)) [] none (All-nil Results)
 
   again_results : (keeps : Bool) (h : Head) → All Results (tested_again keeps h)
   again_results true h =
-      All-cons Results (branch_line h.test h.to h.args) (bare (flow.Jump h.on) ∷ []) none
-      (All-cons Results (bare (flow.Jump h.on)) [] none (All-nil Results))
+      All-cons Results (branch_line h.test h.to h.args) (bare_flow (flow.Jump h.on) ∷ []) none
+      (All-cons Results (bare_flow (flow.Jump h.on)) [] none (All-nil Results))
   again_results false h =
-      All-cons Results (branch_line (opposite_test h.test) h.on h.args) (bare (flow.Jump h.to) ∷ []) none
-      (All-cons Results (bare (flow.Jump h.to)) [] none (All-nil Results))
+      All-cons Results (branch_line (opposite_test h.test) h.on h.args) (bare_flow (flow.Jump h.to) ∷ []) none
+      (All-cons Results (bare_flow (flow.Jump h.to)) [] none (All-nil Results))
 
   line_results : (t : Option Turn) (o : Option ℕ) (i : Line) → P i.results → All Results (turned_line t o i)
   line_results None o i p = All-cons Results i (label_put o) p (put_results o)
   line_results (Some t) o i p =
-      All-cons Results (bare (flow.Exit t.here)) (bare (flow.Label t.here) ∷ tested_again t.keeps t.head) none
-      (All-cons Results (bare (flow.Label t.here)) (tested_again t.keeps t.head) none (again_results t.keeps t.head))
+      All-cons Results (bare_flow (flow.Exit t.here)) (bare_flow (flow.Label t.here) ∷ tested_again t.keeps t.head) none
+      (All-cons Results (bare_flow (flow.Label t.here)) (tested_again t.keeps t.head) none (again_results t.keeps t.head))
 
   pub turned_results : (opens : ℕ → Option ℕ) (turns : List (Option Turn)) (code : List Line) → All Results code →
       All Results (turned_by opens turns code)
   turned_results opens turns [] here = here
   turned_results opens turns (i ∷ next) here =
-      All-append Results (turned_line (first_of turns) (opens (length (others_of turns))) i) (turned_by opens (others_of turns) next)
-      (line_results (first_of turns) (opens (length (others_of turns))) i (All-head Results i next here))
+      All-append Results (turned_line (first_turn turns) (opens (length (others_of turns))) i) (turned_by opens (others_of turns) next)
+      (line_results (first_turn turns) (opens (length (others_of turns))) i (All-head Results i next here))
       (turned_results opens (others_of turns) next (All-tail Results i next here))
 
 pub turned_numbered : (m : Lin) → AreNumbered m → AreNumbered (turned_all m)
 turned_numbered m h =
-    let free = limit_of (labels_in m.code) in
+    let free = limit_above (labels_in m.code) in
     let opens = opened_at m free in
     let same = turned_same m free opens m.code in
     record {

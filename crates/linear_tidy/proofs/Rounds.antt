@@ -2,23 +2,23 @@
 use Rattle.std.proofs.Common.{◌≡◌, ℕ, zero, suc, ◌+◌, ◌-◌, ◌<◌, ◌≤◌, Bool, true, false, cond, List, [], ◌∷◌, length, drop, refl, sym, ap, ◌∙◌, subst, arith}
 use Rattle.std.specs.List.{All}
 use Rattle.std.specs.Prelude.{slice_index_or}
-use Rattle.lin_ir.specs.Walks.{Stands, here, below, Reached}
+use Rattle.lin_ir.specs.Walks.{StandsAsLine, here, below, Reached}
 use Rattle.lin_ir.specs.declared.lin.Line.{Line}
 use Rattle.lin_ir.specs.declared.lin.Lin.{Lin}
 use Rattle.lin_laws.specs.Graph.{HaveNumbers, AreNumbered}
 use Rattle.lin_flow.specs.Sizes.{IsCountable}
 use Rattle.linear_rules.proofs.Lines.{all_of}
 use Rattle.linear_rules.proofs.Marks.{all_in}
-use Rattle.tidy_rules.specs.Leaving.{IsUseless, without, with_code, LeavesOut, LeavesOften, not_once, once_more}
-use Rattle.tidy_rules.specs.Redirecting.{redirect, last_label, last_exit, redirected_all}
+use Rattle.tidy_rules.specs.Leaving.{IsUseless, without_lines, with_code, LeavesOut, LeavesOften, not_once, once_more}
+use Rattle.tidy_rules.specs.Redirecting.{redirect, final_label, last_exit, redirected_all}
 use Rattle.tidy_rules.specs.Turning.{turned_all}
 use Rattle.tidy_rules.specs.Regular.{IsReadBehind, IsTidy}
 use Rattle.tidy_rules.specs.Tidied.{IsTidied, IsUseful}
 use Rattle.tidy_rules.proofs.Leaving.{in_code}
-use Rattle.unused_lines.specs.Flags.{TellsUse, AreFlags, AllReached, AreRead, NoMoveGoes, goes_by, kept}
+use Rattle.unused_lines.specs.Flags.{TellsUse, AreUseFlags, AllReached, AreRead, NoMoveGoes, is_flagged_unused, unflagged_lines}
 use Rattle.unused_lines.proofs.Flagged.{kept_without}
 use Rattle.unused_lines.proofs.Useful.{all_map}
-use Rattle.linear_tidy.specs.Sizes.{HasRoom}
+use Rattle.linear_tidy.specs.Sizes.{HasTidyRoom}
 use Rattle.linear_tidy.proofs.Loops.{turned_numbered}
 use Rattle.linear_tidy.proofs.Sizes.{turned_countable}
 use Rattle.linear_tidy.proofs.Left.{line_left, read_left, was}
@@ -30,12 +30,12 @@ record Standing (i : Line) (next code : List Line) : Type 0 where
   is : drop at code ≡ i ∷ next
   len : at + suc (length next) ≡ length code
 
-standing : {i : Line} {next code : List Line} → Stands i next code → Standing i next code
+standing : {i : Line} {next code : List Line} → StandsAsLine i next code → Standing i next code
 standing here = record { at = 0; is = refl; len = omega arith }
 standing (below s) = let y = standing s in let len = y.len in record { at = suc y.at; is = y.is; len = omega (arith, len) }
 
-module _ (m : Lin) (flags : List Bool) (h : AreFlags m flags) where
-  flag_at : {i : Line} {next : List Line} (y : Standing i next m.code) → goes_by flags (length next) ≡ slice_index_or flags y.at false
+module _ (m : Lin) (flags : List Bool) (h : AreUseFlags m flags) where
+  flag_at : {i : Line} {next : List Line} (y : Standing i next m.code) → is_flagged_unused flags (length next) ≡ slice_index_or flags y.at false
   flag_at {i} {next} y =
       let same : length flags - suc (length next) ≡ y.at = by (length flags) (length m.code) (length next) y.at h.len y.len in
       ap (λ k. slice_index_or flags k false) same
@@ -46,14 +46,14 @@ module _ (m : Lin) (flags : List Bool) (h : AreFlags m flags) where
   tells_at : {i : Line} {next : List Line} (y : Standing i next m.code) → TellsUse m y.at (slice_index_or flags y.at false)
   tells_at y = let len = y.len in h.each y.at (omega (arith, len))
 
-  pub goes_useless : (i : Line) (next : List Line) → Stands i next m.code → goes_by flags (length next) ≡ true → IsUseless m i next
+  pub goes_useless : (i : Line) (next : List Line) → StandsAsLine i next m.code → is_flagged_unused flags (length next) ≡ true → IsUseless m i next
   goes_useless i next s e =
       let y = standing s in (tells_at y).yes (sym (flag_at y) ∙ e) i next y.is
 
-  pub leaves_flagged : (r : Lin) → r ≡ with_code m (without (goes_by flags) m.code) → LeavesOut m r
-  leaves_flagged r is = record { goes = goes_by flags; is = is; each = goes_useless }
+  pub leaves_flagged : (r : Lin) → r ≡ with_code m (without_lines (is_flagged_unused flags) m.code) → LeavesOut m r
+  leaves_flagged r is = record { goes = is_flagged_unused flags; is = is; each = goes_useless }
 
-  useful_at : All (λ b. b ≡ false) flags → (i : Line) (next : List Line) → Stands i next m.code → IsUseful m i next
+  useful_at : All (λ b. b ≡ false) flags → (i : Line) (next : List Line) → StandsAsLine i next m.code → IsUseful m i next
   useful_at none i next s =
       let y = standing s in
       let len = y.len in
@@ -69,60 +69,60 @@ module _ (m : Lin) (flags : List Bool) (h : AreFlags m flags) where
         jumps = λ l next s q. (useful_at none _ next s).jumps l refl q;
       }
 
-  pub left_numbered : AreNumbered m → AreNumbered (with_code m (without (goes_by flags) m.code))
+  pub left_numbered : AreNumbered m → AreNumbered (with_code m (without_lines (is_flagged_unused flags) m.code))
   left_numbered numbered =
       let Args : Line → Type 0 = λ i. HaveNumbers m.slots i.args in
       let Results : Line → Type 0 = λ i. HaveNumbers m.slots i.results in
       record {
-        args = all_of Args (without (goes_by flags) m.code) (λ j z. all_in Args numbered.args (in_code m (goes_by flags) goes_useless j m.code z));
-        results = all_of Results (without (goes_by flags) m.code)
-            (λ j z. all_in Results numbered.results (in_code m (goes_by flags) goes_useless j m.code z));
+        args = all_of Args (without_lines (is_flagged_unused flags) m.code) (λ j z. all_in Args numbered.args (in_code m (is_flagged_unused flags) goes_useless j m.code z));
+        results = all_of Results (without_lines (is_flagged_unused flags) m.code)
+            (λ j z. all_in Results numbered.results (in_code m (is_flagged_unused flags) goes_useless j m.code z));
       }
 
   -- walks come to what is left
-  pub left_reached : AllReached (with_code m (without (goes_by flags) m.code))
+  pub left_reached : AllReached (with_code m (without_lines (is_flagged_unused flags) m.code))
   left_reached =
       record {
         each = λ j js s low.
-            let y = was (goes_by flags) m.code s in
+            let y = was (is_flagged_unused flags) m.code s in
             let x = standing y.stands in
             let r = ((tells_at x).no (sym (flag_at x) ∙ y.stays) j y.next x.is).reached low in (
               r.0,
-              subst (λ xs. Reached (with_code m (without (goes_by flags) m.code)) (j ∷ xs) r.0) y.same
-                  (line_left m (goes_by flags) goes_useless y.stays r.1),
+              subst (λ xs. Reached (with_code m (without_lines (is_flagged_unused flags) m.code)) (j ∷ xs) r.0) y.same
+                  (line_left m (is_flagged_unused flags) goes_useless y.stays r.1),
             );
       }
 
   -- moves of a location to itself are read as before
-  pub left_read : NoMoveGoes flags m.code → AreRead (with_code m (without (goes_by flags) m.code))
+  pub left_read : NoMoveGoes flags m.code → AreRead (with_code m (without_lines (is_flagged_unused flags) m.code))
   left_read none =
       record {
         each = λ j js s from to z.
-            let y = was (goes_by flags) m.code s in
+            let y = was (is_flagged_unused flags) m.code s in
             let x = standing y.stands in
             let r = ((tells_at x).no (sym (flag_at x) ∙ y.stays) j y.next x.is).read from to z in
-            subst (λ xs. IsReadBehind (with_code m (without (goes_by flags) m.code)) j xs to) y.same
-            (read_left m (goes_by flags) goes_useless
+            subst (λ xs. IsReadBehind (with_code m (without_lines (is_flagged_unused flags) m.code)) j xs to) y.same
+            (read_left m (is_flagged_unused flags) goes_useless
             (λ i next s e. let k = standing s in none.each k.at i next k.is (sym (flag_at k) ∙ e)) y.stays z r);
       }
 
 -- ---- fewer lines
 
-without_fewer : (g : ℕ → Bool) (code : List Line) → length (without g code) ≤ length code
+without_fewer : (g : ℕ → Bool) (code : List Line) → length (without_lines g code) ≤ length code
 without_fewer g [] = omega arith
 without_fewer g (i ∷ next) = by (g (length next)) (without_fewer g next)
   where
-    by : (b : Bool) → length (without g next) ≤ length next → length (cond b (without g next) (i ∷ without g next)) ≤ suc (length next)
+    by : (b : Bool) → length (without_lines g next) ≤ length next → length (cond b (without_lines g next) (i ∷ without_lines g next)) ≤ suc (length next)
     by true le = omega (arith, le)
     by false le = omega (arith, le)
 
-kept_fewer : (flags : List Bool) (code : List Line) → length flags ≡ length code → (All (λ b. b ≡ false) flags → ⊥) → length (kept flags code) < length code
+kept_fewer : (flags : List Bool) (code : List Line) → length flags ≡ length code → (All (λ b. b ≡ false) flags → ⊥) → length (unflagged_lines flags code) < length code
 kept_fewer [] code len some = absurd (some (λ k d lt. absurd (omega (arith, lt))))
 kept_fewer (b ∷ flags) [] len some = absurd (omega (arith, len))
 kept_fewer (true ∷ flags) (i ∷ next) len some =
     let same : length flags ≡ length next = omega (arith, len) in
     let e = ap length (kept_without flags next same) in
-    let le = without_fewer (goes_by flags) next in
+    let le = without_fewer (is_flagged_unused flags) next in
     omega (arith, e, le)
 kept_fewer (false ∷ flags) (i ∷ next) len some =
     let lt = kept_fewer flags next (omega (arith, len)) (λ none. some (more none)) in omega (arith, lt)
@@ -132,7 +132,7 @@ kept_fewer (false ∷ flags) (i ∷ next) len some =
     more none (suc k) d lt = none k d (omega (arith, lt))
 
 pub fewer_left : (m r : Lin) (flags : List Bool) → length flags ≡ length m.code → (All (λ b. b ≡ false) flags → ⊥) →
-    r ≡ with_code m (without (goes_by flags) m.code) → length r.code < length m.code
+    r ≡ with_code m (without_lines (is_flagged_unused flags) m.code) → length r.code < length m.code
 fewer_left m r flags len some is =
     let e = ap length (kept_without flags m.code len) in
     let f = ap (λ (r : Lin). length r.code) is in
@@ -146,7 +146,7 @@ pub record Round (m now : Lin) (flags : List Bool) : Type 0 where
   pub leaves : LeavesOften (turned_all (redirected_all m)) now
   pub numbered : AreNumbered now
   pub countable : IsCountable now
-  pub told : AreFlags now flags
+  pub told : AreUseFlags now flags
 
 pub redirected_numbered : (m r : Lin) → r ≡ redirected_all m → AreNumbered m → AreNumbered r
 redirected_numbered m r is numbered =
@@ -154,8 +154,8 @@ redirected_numbered m r is numbered =
     let Results : Line → Type 0 = λ i. HaveNumbers m.slots i.results in
     subst AreNumbered (sym is)
     (record {
-      args = all_map (redirect (last_label m) (last_exit m)) Args m.code (λ i z. all_in Args numbered.args z);
-      results = all_map (redirect (last_label m) (last_exit m)) Results m.code (λ i z. all_in Results numbered.results z);
+      args = all_map (redirect (final_label m) (last_exit m)) Args m.code (λ i z. all_in Args numbered.args z);
+      results = all_map (redirect (final_label m) (last_exit m)) Results m.code (λ i z. all_in Results numbered.results z);
     })
 
 pub first_numbered : (m turned now : Lin) → turned ≡ redirected_all m → now ≡ turned_all turned → AreNumbered m → AreNumbered now
@@ -163,7 +163,7 @@ first_numbered m turned now redirects turns numbered =
     subst AreNumbered (sym turns) (turned_numbered turned (redirected_numbered m turned redirects numbered))
 
 pub first_round : (m turned now : Lin) (flags : List Bool) → turned ≡ redirected_all m → now ≡ turned_all turned → AreNumbered m →
-    HasRoom m → AreFlags now flags → Round m now flags
+    HasTidyRoom m → AreUseFlags now flags → Round m now flags
 first_round m turned now flags redirects turns numbered room f =
     record {
       leaves = subst (LeavesOften (turned_all (redirected_all m))) (sym (turns ∙ ap turned_all redirects)) not_once;
@@ -172,27 +172,27 @@ first_round m turned now flags redirects turns numbered room f =
       told = f;
     }
 
-pub next_numbered : (m now r : Lin) (flags : List Bool) → Round m now flags → r ≡ with_code now (without (goes_by flags) now.code) → AreNumbered r
+pub next_numbered : (m now r : Lin) (flags : List Bool) → Round m now flags → r ≡ with_code now (without_lines (is_flagged_unused flags) now.code) → AreNumbered r
 next_numbered m now r flags h is = subst AreNumbered (sym is) (left_numbered now flags h.told h.numbered)
 
-pub next_countable : (m now r : Lin) (flags : List Bool) → Round m now flags → r ≡ with_code now (without (goes_by flags) now.code) → IsCountable r
+pub next_countable : (m now r : Lin) (flags : List Bool) → Round m now flags → r ≡ with_code now (without_lines (is_flagged_unused flags) now.code) → IsCountable r
 next_countable m now r flags h is =
-    let fewer = without_fewer (goes_by flags) now.code in
+    let fewer = without_fewer (is_flagged_unused flags) now.code in
     let lines = h.countable.lines in
     subst IsCountable (sym is) (record { lines = omega (arith, fewer, lines); slots = h.countable.slots })
 
-pub next_reached : (m now r : Lin) (flags : List Bool) → Round m now flags → r ≡ with_code now (without (goes_by flags) now.code) → AllReached r
+pub next_reached : (m now r : Lin) (flags : List Bool) → Round m now flags → r ≡ with_code now (without_lines (is_flagged_unused flags) now.code) → AllReached r
 next_reached m now r flags h is = subst AllReached (sym is) (left_reached now flags h.told)
 
-pub next_read : (m now r : Lin) (flags : List Bool) → Round m now flags → r ≡ with_code now (without (goes_by flags) now.code) →
+pub next_read : (m now r : Lin) (flags : List Bool) → Round m now flags → r ≡ with_code now (without_lines (is_flagged_unused flags) now.code) →
     NoMoveGoes flags now.code → AreRead r
 next_read m now r flags h is none = subst AreRead (sym is) (left_read now flags h.told none)
 
 pub no_move_by : (code xs : List Line) (slice flags : List Bool) → xs ≡ code → slice ≡ flags → NoMoveGoes slice xs → NoMoveGoes flags code
 no_move_by code xs slice flags e f h = subst (NoMoveGoes flags) e (subst (λ s. NoMoveGoes s xs) f h)
 
-pub next_round : (m now r : Lin) (flags others : List Bool) → Round m now flags → r ≡ with_code now (without (goes_by flags) now.code) →
-    AreFlags r others → Round m r others
+pub next_round : (m now r : Lin) (flags others : List Bool) → Round m now flags → r ≡ with_code now (without_lines (is_flagged_unused flags) now.code) →
+    AreUseFlags r others → Round m r others
 next_round m now r flags others h is f =
     record {
       leaves = once_more h.leaves (leaves_flagged now flags h.told r is);
@@ -204,6 +204,6 @@ next_round m now r flags others h is f =
 pub last_round : (m now : Lin) (flags : List Bool) → Round m now flags → All (λ b. b ≡ false) flags → IsTidied m now
 last_round m now flags h none = record { leaves = h.leaves; tidy = tidy_now now flags h.told none }
 
-pub left_by : (m r : Lin) (slice flags : List Bool) → slice ≡ flags → r ≡ with_code m (without (goes_by slice) m.code) →
-    r ≡ with_code m (without (goes_by flags) m.code)
-left_by m r slice flags same is = is ∙ ap (λ xs. with_code m (without (goes_by xs) m.code)) same
+pub left_by : (m r : Lin) (slice flags : List Bool) → slice ≡ flags → r ≡ with_code m (without_lines (is_flagged_unused slice) m.code) →
+    r ≡ with_code m (without_lines (is_flagged_unused flags) m.code)
+left_by m r slice flags same is = is ∙ ap (λ xs. with_code m (without_lines (is_flagged_unused xs) m.code)) same

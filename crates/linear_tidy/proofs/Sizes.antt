@@ -6,11 +6,11 @@ use Rattle.lin_ir.specs.Formed.{label_of, labels_in}
 use Rattle.lin_ir.specs.declared.lin.Line.{Line}
 use Rattle.lin_ir.specs.declared.lin.Lin.{Lin}
 use Rattle.lin_flow.specs.Sizes.{IsCountable}
-use Rattle.tidy_rules.specs.Redirecting.{redirect, last_label, last_exit, redirected_all}
+use Rattle.tidy_rules.specs.Redirecting.{redirect, final_label, last_exit, redirected_all}
 use Rattle.tidy_rules.specs.Turning.{Turn, tested_again, turned_line, turned_lines, turn_at, opened_at, turned_all}
-use Rattle.linear_rules.specs.Lowered.{limit_of}
+use Rattle.linear_rules.specs.Lowered.{limit_above}
 use Rattle.tidy_rules.proofs.Redirecting.{same_labels}
-use Rattle.linear_tidy.specs.Sizes.{HasLabels, HasRoom}
+use Rattle.linear_tidy.specs.Sizes.{HasLabels, HasTidyRoom}
 
 -- ---- jumps redirected
 
@@ -21,8 +21,8 @@ labels_redirected to exits (i ∷ next) =
 
 pub labels_then : (m r : Lin) → r ≡ redirected_all m → HasLabels m → HasLabels r
 labels_then m r is room =
-    let labels = ap limit_of (labels_redirected (last_label m) (last_exit m) m.code) in
-    let lines = length-map m.code (redirect (last_label m) (last_exit m)) in
+    let labels = ap limit_above (labels_redirected (final_label m) (last_exit m) m.code) in
+    let lines = length-map m.code (redirect (final_label m) (last_exit m)) in
     subst HasLabels (sym is) (omega (arith, room, labels, lines))
 
 -- ---- loops turned round
@@ -46,13 +46,13 @@ lines_turned turns opens (i ∷ next) = by (turns (length next)) (opens (length 
 
 few_turned : (m : Lin) → length (turned_all m).code ≤ 4 * length m.code
 few_turned m =
-    lines_turned (turn_at m (limit_of (labels_in m.code)) m.code) (opened_at m (limit_of (labels_in m.code))) m.code
+    lines_turned (turn_at m (limit_above (labels_in m.code)) m.code) (opened_at m (limit_above (labels_in m.code))) m.code
 
 -- there is room by these tests
-pub room_by : (m : Lin) (free lines : ℕ) → free ≡ limit_of (labels_in m.code) → lines ≡ length m.code → lines < 1073741824 →
-    suc (free + 2 * lines) < number_limit → m.slots + 32 < number_limit → HasRoom m
+pub room_by : (m : Lin) (free lines : ℕ) → free ≡ limit_above (labels_in m.code) → lines ≡ length m.code → lines < 1073741824 →
+    suc (free + 2 * lines) < number_limit → m.slots + 32 < number_limit → HasTidyRoom m
 room_by m free lines f n low labels slots =
-    let same = length-map m.code (redirect (last_label m) (last_exit m)) in
+    let same = length-map m.code (redirect (final_label m) (last_exit m)) in
     let few = few_turned (redirected_all m) in
     record {
       labels = omega (arith, labels, f, n);
@@ -60,6 +60,6 @@ room_by m free lines f n low labels slots =
       slots = slots;
     }
 
-pub turned_countable : (m turned now : Lin) → turned ≡ redirected_all m → now ≡ turned_all turned → HasRoom m → IsCountable now
+pub turned_countable : (m turned now : Lin) → turned ≡ redirected_all m → now ≡ turned_all turned → HasTidyRoom m → IsCountable now
 turned_countable m turned now redirects turns room =
     subst IsCountable (sym (turns ∙ ap turned_all redirects)) (record { lines = room.lines; slots = room.slots })

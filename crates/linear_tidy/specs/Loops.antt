@@ -28,9 +28,9 @@ is_opened c l = set.contains nat_cmp c.opened l
 abbrev pub opened_in : Changes → ℕ → ℕ → Option ℕ
 opened_in c free n = cond (is_opened c (label_on free n)) (Some (label_on free n)) None
 
-abbrev pub first_of : List (Option Turn) → Option Turn
-first_of [] = None
-first_of (turn ∷ turns) = turn
+abbrev pub first_turn : List (Option Turn) → Option Turn
+first_turn [] = None
+first_turn (turn ∷ turns) = turn
 
 abbrev pub others_of : List (Option Turn) → List (Option Turn)
 others_of [] = []
@@ -40,7 +40,7 @@ others_of (turn ∷ turns) = turns
 abbrev pub turned_by : (ℕ → Option ℕ) → List (Option Turn) → List Line → List Line
 turned_by opens turns [] = []
 turned_by opens turns (i ∷ next) =
-    turned_line (first_of turns) (opens (length (others_of turns))) i
+    turned_line (first_turn turns) (opens (length (others_of turns))) i
     ++ turned_by opens (others_of turns) next
 
 abbrev pub turns_of : Lin → ℕ → List Line → List (Option Turn)

@@ -5,14 +5,14 @@ use Rattle.lin_ir.specs.Formed.{labels_in}
 use Rattle.lin_ir.specs.declared.lin.Lin.{Lin}
 use Rattle.tidy_rules.specs.Redirecting.{redirected_all}
 use Rattle.tidy_rules.specs.Turning.{turned_all}
-use Rattle.linear_rules.specs.Lowered.{limit_of}
+use Rattle.linear_rules.specs.Lowered.{limit_above}
 
 -- There are numbers for two new labels for each line.
 abbrev pub HasLabels : Lin → Type 0
-HasLabels m = suc (limit_of (labels_in m.code) + 2 * length m.code) < number_limit
+HasLabels m = suc (limit_above (labels_in m.code) + 2 * length m.code) < number_limit
 
 -- There are numbers of 32 bits for all that the function becomes as it is made tidy.
-pub record HasRoom (m : Lin) : Type 0 where
+pub record HasTidyRoom (m : Lin) : Type 0 where
   pub labels : HasLabels m
   -- for the lines when loops are turned round
   pub lines : length (turned_all (redirected_all m)).code < number_limit

@@ -4,14 +4,14 @@ use Rattle.std.specs.BTreeMap as tree
 use Rattle.std.specs.Ordering.{nat_cmp}
 use Rattle.lin_ir.specs.declared.lin.Lin.{Lin}
 use Rattle.lin_ir.specs.declared.lin.Line.{Line}
-use Rattle.tidy_rules.specs.Redirecting.{is_label, last_label, last_exit}
+use Rattle.tidy_rules.specs.Redirecting.{is_label_line, final_label, last_exit}
 use Rattle.linear_tidy.specs.declared.redirecting.Targets.{Targets}
 use Rattle.linear_tidy.specs.declared.redirecting.Way.{Way}
 
 -- the first line that is no label
 abbrev pub first_line : List Line → Option Line
 first_line [] = None
-first_line (i ∷ next) = cond (is_label i.op i.args i.results) (first_line next) (Some i)
+first_line (i ∷ next) = cond (is_label_line i.op i.args i.results) (first_line next) (Some i)
 
 -- a label of which nothing is known is its own target
 abbrev pub target_by : Option Way → ℕ → ℕ
@@ -32,5 +32,5 @@ exit_in t l = exit_by (tree.get nat_cmp t.ways l)
 -- each label's target is where one comes from it by labels and jumps alone, and its exit where one
 -- comes by an exit from there
 pub record AreTargets (m : Lin) (t : Targets) : Type 0 where
-  pub to : (l : ℕ) → target_in t l ≡ last_label m l
+  pub to : (l : ℕ) → target_in t l ≡ final_label m l
   pub exits : (l : ℕ) → exit_in t l ≡ last_exit m l

@@ -3,7 +3,7 @@ ghost use Rattle.std.specs.Option.{option_copied};
 ghost use Rattle.std.specs.Prelude.{◌≡◌, ◌<◌, ◌^◌, ℕ, None, cond, drop, length, map, nat_eq, IfOk};
 ghost use Rattle.lin_ir.specs.Meaning.{has_label};
 ghost use Rattle.lin_flow.specs.Labels.{AreLabelsOf};
-ghost use Rattle.tidy_rules.specs.Redirecting.{goes_by, redirected, redirect, leads_to, leaves_to, last_label, last_exit, redirected_all};
+ghost use Rattle.tidy_rules.specs.Redirecting.{exit_or_jump, redirected_operation, redirect, leads_to, leaves_to, final_label, last_exit, redirected_all};
 ghost use Rattle.linear_tidy.specs.Targets.{first_line, target_in, exit_in, AreTargets};
 
 use lin_flow::Labels;
@@ -44,7 +44,7 @@ fn exit_from(code: &[Line], place: usize) -> Option<Label>
 /// are followed once for each line.
 fn last_label(lin: &Lin, labels: &Labels, label: Label) -> Label
     requires { AreLabelsOf lin.now labels.now }
-    ensures { result ≡ last_label lin.now label }
+    ensures { result ≡ final_label lin.now label }
 {
     let mut last = label;
     for _line in 0..lin.code.len() {
@@ -132,7 +132,7 @@ impl Targets {
     fn put_line(&mut self, lin: &Lin, labels: &Labels, line: &Line) -> Result<(), AllocError>
         requires { AreLabelsOf lin.now labels.now }
         ensures to { IfOk result (λ _. (l : ℕ) → target_in self.new l ≡
-            cond (has_label l line.now.op) (last_label lin.now l) (target_in self.old l)) }
+            cond (has_label l line.now.op) (final_label lin.now l) (target_in self.old l)) }
         ensures exits { IfOk result (λ _. (l : ℕ) → exit_in self.new l ≡
             cond (has_label l line.now.op) (last_exit lin.now l) (exit_in self.old l)) }
     {
@@ -170,7 +170,7 @@ impl Targets {
 
     /// What a jump to the label becomes.
     fn redirect_jump(&self, label: Label) -> Flow
-        ensures { result ≡ goes_by (exit_in self.now label) (target_in self.now label) }
+        ensures { result ≡ exit_or_jump (exit_in self.now label) (target_in self.now label) }
     {
         match self.exit_of(label) {
             None => Flow::Jump(self.target_of(label)),
@@ -180,7 +180,7 @@ impl Targets {
 
     fn redirect_flow(&self, flow: Flow) -> Flow
         ensures { LinOp.Flow result ≡
-            redirected (target_in self.now) (exit_in self.now) (LinOp.Flow flow) }
+            redirected_operation (target_in self.now) (exit_in self.now) (LinOp.Flow flow) }
     {
         match flow {
             Flow::Jump(label) => self.redirect_jump(label),
@@ -225,7 +225,7 @@ impl Targets {
 /// instruction less. The only error is want of memory.
 pub fn redirect_jumps(alloc: Global, lin: Lin) -> Result<Lin, AllocError>
     requires { length lin.code < 2 ^ 32 }
-    ensures { IfOk result (λ redirected. redirected ≡ redirected_all lin) }
+    ensures { IfOk result (λ redirected_operation. redirected_operation ≡ redirected_all lin) }
 {
     let targets = Targets::of_function(alloc, &lin)?;
     let Lin {

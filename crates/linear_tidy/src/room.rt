@@ -1,6 +1,6 @@
 //! Whether there are numbers for a function that is made tidy.
 ghost use Rattle.std.specs.Prelude.{IsTrue};
-ghost use Rattle.linear_tidy.specs.Sizes.{HasRoom};
+ghost use Rattle.linear_tidy.specs.Sizes.{HasTidyRoom};
 
 use crate::turning::first_free;
 use lin_flow::lines::REGISTERS;
@@ -12,7 +12,7 @@ const LINES: usize = 1073741824;
 
 /// Whether there are numbers for the function's labels and slots, and for the lines that its lines become.
 pub fn has_room(lin: &Lin) -> bool
-    ensures { IsTrue result → HasRoom lin.now }
+    ensures { IsTrue result → HasTidyRoom lin.now }
 {
     let lines = lin.code.len();
     if lines >= LINES {

@@ -2,7 +2,7 @@
 ghost use Rattle.std.specs.Prelude.{IfOk};
 ghost use Rattle.lin_laws.specs.Graph.{AreNumbered};
 ghost use Rattle.tidy_rules.specs.Tidied.{IsTidied};
-ghost use Rattle.linear_tidy.specs.Sizes.{HasRoom};
+ghost use Rattle.linear_tidy.specs.Sizes.{HasTidyRoom};
 
 use crate::redirecting::redirect_jumps;
 use crate::turning::turn_loops;
@@ -22,7 +22,7 @@ use unused_lines::{leave_out, no_move_goes, none_set, useless_lines, useless_lin
 /// positions of walks than there are numbers are too.
 pub fn tidy(alloc: Global, lin: Lin) -> Result<Lin, AllocError>
     requires numbered { AreNumbered lin }
-    requires room { HasRoom lin }
+    requires room { HasTidyRoom lin }
     ensures { IfOk result (IsTidied lin) }
 {
     let redirected = redirect_jumps(alloc, lin)?;

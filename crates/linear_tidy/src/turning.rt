@@ -5,10 +5,10 @@ ghost use Rattle.lin_ir.specs.Formed.{label_of, labels_in};
 ghost use Rattle.lin_ir.specs.declared.lin.Line.{Line};
 ghost use Rattle.lin_flow.specs.Labels.{AreLabelsOf};
 ghost use Rattle.tidy_rules.specs.Turning.{label_here, label_on, head_by, head_at, comes_first, stands_first, exit_head};
-ghost use Rattle.linear_rules.specs.Lowered.{limit_of};
+ghost use Rattle.linear_rules.specs.Lowered.{limit_above};
 ghost use Rattle.tidy_rules.specs.Turning.{is_on, line_turn, branch_line, tested_again, label_put, turned_line, turned_all};
 ghost use Rattle.linear_tidy.specs.Sizes.{HasLabels};
-ghost use Rattle.linear_tidy.specs.Loops.{head_view, turn_view, turns_in, is_opened, opened_in, first_of, others_of, turned_by, AreChanges};
+ghost use Rattle.linear_tidy.specs.Loops.{head_view, turn_view, turns_in, is_opened, opened_in, first_turn, others_of, turned_by, AreChanges};
 
 use lin_flow::Labels;
 use lin_ir::{Flow, Lin, LinOp, Line, Spot};
@@ -21,7 +21,7 @@ use unused_lines::forms::{exit_of, goes_away, own_label};
 /// What is free above these labels and that of one more line.
 fn free_above(free: usize, op: &LinOp) -> usize
     ensures { (ls : List ℕ) →
-        max result (limit_of ls) ≡ max free (limit_of (label_of op.now ++ ls)) }
+        max result (limit_above ls) ≡ max free (limit_above (label_of op.now ++ ls)) }
 {
     match own_label(op) {
         None => free,
@@ -37,7 +37,7 @@ fn free_above(free: usize, op: &LinOp) -> usize
 
 /// The first number above all labels of the code.
 pub fn first_free(code: &[Line]) -> usize
-    ensures { result ≡ limit_of (labels_in code.now) }
+    ensures { result ≡ limit_above (labels_in code.now) }
 {
     let mut free = 0;
     for line in code {
@@ -278,7 +278,7 @@ impl Changes {
     /// What the first line becomes, if it is turned. Then the next line is the first.
     fn take(&mut self) -> Option<Turn>
         ensures opened { self.new.opened ≡ self.old.opened }
-        ensures first { option_map turn_view result ≡ first_of (turns_in self.old) }
+        ensures first { option_map turn_view result ≡ first_turn (turns_in self.old) }
         ensures others { turns_in self.new ≡ others_of (turns_in self.old) }
     {
         match self.turns.pop() {

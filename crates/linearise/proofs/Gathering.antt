@@ -6,7 +6,7 @@ use Rattle.bs_words.specs.declared.types.Loc.{Loc}
 use Rattle.bs_words.specs.declared.types.Loc.TheVariants as loc
 use Rattle.mach_ir.specs.declared.reg.Reg.{Reg}
 use Rattle.mach_ir.specs.declared.mach.Instr.{Instr}
-use Rattle.linear_rules.specs.Lowered.{slot_of, slots_of_regs, slots_of_code, is_among, limit_of}
+use Rattle.linear_rules.specs.Lowered.{with_slot_of, slots_of_regs, slots_of_code, is_among_numbers, limit_above}
 use Rattle.linear_rules.proofs.Slots.{above_first, above_later}
 use Rattle.bs_words.proofs.Lists.{drop_none, drop_step}
 
@@ -14,7 +14,7 @@ pub regs_append : (rs : List Reg) (ks : List ℕ) → slots_of_regs rs ks ≡ sl
 regs_append [] ks = refl
 regs_append (r ∷ rs) ks = by r.loc (regs_append rs ks)
   where
-    by : (l : Loc) → slots_of_regs rs ks ≡ slots_of_regs rs [] ++ ks → slot_of l (slots_of_regs rs ks) ≡ slot_of l (slots_of_regs rs []) ++ ks
+    by : (l : Loc) → slots_of_regs rs ks ≡ slots_of_regs rs [] ++ ks → with_slot_of l (slots_of_regs rs ks) ≡ with_slot_of l (slots_of_regs rs []) ++ ks
     by (loc.Slot k) e = ap (λ ns. k ∷ ns) e
     by (loc.Machine n) e = e
     by loc.Unset e = e
@@ -43,17 +43,17 @@ gathered_step code items k i args results xs ys zs every same lt is a r e u inv 
 
 -- ---- flags
 
-pub item_below : (ns : List ℕ) (k : ℕ) → k < length ns → get_or ns k 0 < limit_of ns
+pub item_below : (ns : List ℕ) (k : ℕ) → k < length ns → get_or ns k 0 < limit_above ns
 item_below [] k lt = absurd (omega (arith, lt))
-item_below (n ∷ ns) zero lt = above_first n (limit_of ns)
-item_below (n ∷ ns) (suc k) lt = above_later (get_or ns k 0) n (limit_of ns) (item_below ns k (omega (arith, lt)))
+item_below (n ∷ ns) zero lt = above_first n (limit_above ns)
+item_below (n ∷ ns) (suc k) lt = above_later (get_or ns k 0) n (limit_above ns) (item_below ns k (omega (arith, lt)))
 
 or_true : (t : Bool) → t || true ≡ true
 or_true true = refl
 or_true false = refl
 
-pub flag_step : (fs : List Bool) (ns : List ℕ) (j : ℕ) → j < length ns → get_or ns j 0 < length fs → ((k : ℕ) → get_or fs k false || is_among k (drop j ns) ≡ is_among k ns) →
-    (k : ℕ) → get_or (set fs (get_or ns j 0) true) k false || is_among k (drop (j + 1) ns) ≡ is_among k ns
+pub flag_step : (fs : List Bool) (ns : List ℕ) (j : ℕ) → j < length ns → get_or ns j 0 < length fs → ((k : ℕ) → get_or fs k false || is_among_numbers k (drop j ns) ≡ is_among_numbers k ns) →
+    (k : ℕ) → get_or (set fs (get_or ns j 0) true) k false || is_among_numbers k (drop (j + 1) ns) ≡ is_among_numbers k ns
 flag_step fs ns j lt le h k = by (nat_eq s k) refl
   where
     s : ℕ
@@ -62,15 +62,15 @@ flag_step fs ns j lt le h k = by (nat_eq s k) refl
     step : drop j ns ≡ s ∷ drop (j + 1) ns
     step = drop-cons ns j 0 lt ∙ ap (λ n. s ∷ drop n ns) (next_is j)
 
-    before : get_or fs k false || (nat_eq s k || is_among k (drop (j + 1) ns)) ≡ is_among k ns
-    before = ap (λ xs. get_or fs k false || is_among k xs) (sym step) ∙ h k
+    before : get_or fs k false || (nat_eq s k || is_among_numbers k (drop (j + 1) ns)) ≡ is_among_numbers k ns
+    before = ap (λ xs. get_or fs k false || is_among_numbers k xs) (sym step) ∙ h k
 
-    by : (t : Bool) → nat_eq s k ≡ t → get_or (set fs (get_or ns j 0) true) k false || is_among k (drop (j + 1) ns) ≡ is_among k ns
+    by : (t : Bool) → nat_eq s k ≡ t → get_or (set fs (get_or ns j 0) true) k false || is_among_numbers k (drop (j + 1) ns) ≡ is_among_numbers k ns
     by true e =
         let same : s ≡ k = eqb-true s k e in
         let here : get_or (set fs s true) k false ≡ true = subst (λ m. get_or (set fs s true) m false ≡ true) same (get_or-set_same fs s true false le) in
-        ap (λ t. t || is_among k (drop (j + 1) ns)) here
-        ∙ sym (sym before ∙ ap (λ t. get_or fs k false || (t || is_among k (drop (j + 1) ns))) e ∙ or_true (get_or fs k false))
+        ap (λ t. t || is_among_numbers k (drop (j + 1) ns)) here
+        ∙ sym (sym before ∙ ap (λ t. get_or fs k false || (t || is_among_numbers k (drop (j + 1) ns))) e ∙ or_true (get_or fs k false))
     by false e =
-        ap (λ t. t || is_among k (drop (j + 1) ns)) (get_or-set_other fs s k true false (λ u. true≢false (sym (eq-eqb s k (sym u)) ∙ e)))
-        ∙ ap (λ t. get_or fs k false || (t || is_among k (drop (j + 1) ns))) (sym e) ∙ before
+        ap (λ t. t || is_among_numbers k (drop (j + 1) ns)) (get_or-set_other fs s k true false (λ u. true≢false (sym (eq-eqb s k (sym u)) ∙ e)))
+        ∙ ap (λ t. get_or fs k false || (t || is_among_numbers k (drop (j + 1) ns))) (sym e) ∙ before

@@ -1,10 +1,10 @@
 //! The lines of one instruction.
 ghost use Rattle.std.specs.Prelude.{◌≡◌, ◌∷◌, IfOk};
-ghost use Rattle.lin_ir.specs.Formed.{bare};
+ghost use Rattle.lin_ir.specs.Formed.{bare_flow};
 ghost use Rattle.lin_ir.specs.declared.lin.Flow.TheVariants as flow;
 ghost use Rattle.lin_ir.specs.declared.lin.LinOp.TheVariants as lin;
 ghost use Rattle.linear_rules.specs.Lowered.{same_spot, is_idle, line_of, pops, lines_of_mark, lowered_one};
-ghost use Rattle.linearise.specs.Numbers.{number_in};
+ghost use Rattle.linearise.specs.Numbers.{number_of_slot};
 
 use crate::backward::Backward;
 use crate::copies::copy_op;
@@ -67,7 +67,7 @@ fn push_jump(
     lines: &mut Backward,
 ) -> Result<(), AllocError>
     ensures { IfOk result (λ _. lines.new ≡
-        bare (flow.Jump end) ∷ bare (flow.Label label) ∷ lines.old) }
+        bare_flow (flow.Jump end) ∷ bare_flow (flow.Label label) ∷ lines.old) }
 {
     lines.push(bare(alloc, Flow::Label(label)))?;
     lines.push(bare(alloc, Flow::Jump(end)))
@@ -82,7 +82,7 @@ fn push_mark(
     lines: &mut Backward,
 ) -> Result<(), AllocError>
     ensures { IfOk result (λ _. lines.new ≡
-        lines_of_mark (number_in numbers.now) mark.now instr.now lines.old) }
+        lines_of_mark (number_of_slot numbers.now) mark.now instr.now lines.old) }
 {
     match mark {
         Mark::Exit { label, tries } => {
@@ -136,7 +136,7 @@ fn push_op(
     lines: &mut Backward,
 ) -> Result<(), AllocError>
     ensures { IfOk result (λ _. lines.new ≡
-        line_of (number_in numbers.now) (lin.Op op.now) instr.now ∷ lines.old) }
+        line_of (number_of_slot numbers.now) (lin.Op op.now) instr.now ∷ lines.old) }
 {
     let line = line_of(alloc, numbers, LinOp::Op(copy_op(op)?), instr)?;
     lines.push(line)
@@ -150,7 +150,7 @@ pub fn push_instr(
     lines: &mut Backward,
 ) -> Result<(), AllocError>
     ensures { IfOk result (λ _. lines.new ≡
-        lowered_one (number_in numbers.now) instr.now lines.old) }
+        lowered_one (number_of_slot numbers.now) instr.now lines.old) }
 {
     if is_idle(instr) {
         return Ok(());

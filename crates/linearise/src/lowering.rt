@@ -1,7 +1,7 @@
 //! The lines of a function.
 ghost use Rattle.std.specs.Prelude.{◌≡◌, ◌<◌, ◌^◌, IfOk};
-ghost use Rattle.linear_rules.specs.Lowered.{slots_of, limit_of, lowered_code, lowered};
-ghost use Rattle.linearise.specs.Numbers.{number_in};
+ghost use Rattle.linear_rules.specs.Lowered.{slots_of_function, limit_above, lowered_code, lowered};
+ghost use Rattle.linearise.specs.Numbers.{number_of_slot};
 
 use crate::backward::Backward;
 use crate::copies::copy_name;
@@ -14,7 +14,7 @@ use std::alloc::{AllocError, Global};
 
 /// The lines of a code.
 fn lower_code(alloc: Global, numbers: &[u32], code: &[Instr]) -> Result<Seq<Line>, AllocError>
-    ensures { IfOk result (λ lines. lines ≡ lowered_code (number_in numbers.now) code.now) }
+    ensures { IfOk result (λ lines. lines ≡ lowered_code (number_of_slot numbers.now) code.now) }
 {
     let mut left = code.len();
     let mut lines = Backward::with_room(alloc, left)?;
@@ -27,7 +27,7 @@ fn lower_code(alloc: Global, numbers: &[u32], code: &[Instr]) -> Result<Seq<Line
 
 /// The entry of the table at an index, or 0 where it has none.
 fn entry(numbers: &[u32], index: usize) -> u32
-    ensures { result ≡ number_in numbers.now index }
+    ensures { result ≡ number_of_slot numbers.now index }
 {
     match numbers.get(index) {
         Some(number) => *number,
@@ -41,7 +41,7 @@ fn entry(numbers: &[u32], index: usize) -> u32
 /// A register with no place has no place there either. The time is linear in the function and in its
 /// greatest slot. The only error is want of memory.
 pub fn lower(alloc: Global, mach: &Mach) -> Result<Lin, AllocError>
-    requires { limit_of (slots_of mach.now) < 2 ^ 32 }
+    requires { limit_above (slots_of_function mach.now) < 2 ^ 32 }
     ensures { IfOk result (λ lin. lin ≡ lowered mach.now) }
 {
     let slots = gather(alloc, mach)?;

@@ -1,7 +1,7 @@
 //! Which slots occur in a function, and the numbers that they get.
 ghost use Rattle.std.specs.Prelude.{◌≡◌, ◌<◌, ◌↔◌, ◌^◌, ◌++◌, suc, [], length, IfOk, IsTrue};
-ghost use Rattle.linear_rules.specs.Lowered.{slots_of_regs, slots_of, limit_of};
-ghost use Rattle.linearise.specs.Numbers.{AreFlags, IsTable, running};
+ghost use Rattle.linear_rules.specs.Lowered.{slots_of_regs, slots_of_function, limit_above};
+ghost use Rattle.linearise.specs.Numbers.{AreSlotFlags, IsTable, running};
 
 use bs_words::Loc;
 use mach_ir::{Mach, Reg};
@@ -24,7 +24,7 @@ fn gather_regs(regs: &[Reg], slots: &mut Vec<u32>) -> Result<(), AllocError>
 /// The numbers of the slots that occur in a function, some of them more than once.
 /// The only error is want of memory.
 pub fn gather(alloc: Global, mach: &Mach) -> Result<Vec<u32>, AllocError>
-    ensures { IfOk result (λ slots. slots.items ≡ slots_of mach.now) }
+    ensures { IfOk result (λ slots. slots.items ≡ slots_of_function mach.now) }
 {
     let mut slots = Vec::new(alloc);
     gather_regs(mach.params.as_slice(), &mut slots)?;
@@ -37,7 +37,7 @@ pub fn gather(alloc: Global, mach: &Mach) -> Result<Vec<u32>, AllocError>
 
 /// The least number above all these.
 pub fn limit(slots: &[u32]) -> usize
-    ensures { result ≡ limit_of slots.now }
+    ensures { result ≡ limit_above slots.now }
 {
     let mut limit = 0;
     for slot in slots {
@@ -51,8 +51,8 @@ pub fn limit(slots: &[u32]) -> usize
 
 /// For each number below `limit`, whether it is among the slots.
 fn flags(alloc: Global, slots: &[u32], limit: usize) -> Result<Vec<bool>, AllocError>
-    requires { limit ≡ limit_of slots.now }
-    ensures { IfOk result (λ flags. AreFlags slots.now flags.items) }
+    requires { limit ≡ limit_above slots.now }
+    ensures { IfOk result (λ flags. AreSlotFlags slots.now flags.items) }
 {
     let mut flags = vec![in alloc; false; limit]?;
     for slot in slots {
@@ -89,7 +89,7 @@ fn counts(alloc: Global, flags: &[bool]) -> Result<Vec<u32>, AllocError>
 /// Whether the slots of a function, counted up to the greatest, have numbers.
 /// The only error is want of memory.
 pub fn has_room(alloc: Global, mach: &Mach) -> Result<bool, AllocError>
-    ensures { IfOk result (λ yes. IsTrue yes ↔ limit_of (slots_of mach.now) < 2 ^ 32) }
+    ensures { IfOk result (λ yes. IsTrue yes ↔ limit_above (slots_of_function mach.now) < 2 ^ 32) }
 {
     let slots = gather(alloc, mach)?;
     Ok(limit(slots.as_slice()) <= u32::MAX as usize)
@@ -98,7 +98,7 @@ pub fn has_room(alloc: Global, mach: &Mach) -> Result<bool, AllocError>
 /// How many of the slots, each counted once, are below each number up to their limit.
 /// The only error is want of memory.
 pub fn table(alloc: Global, slots: &[u32], limit: usize) -> Result<Vec<u32>, AllocError>
-    requires limit { limit ≡ limit_of slots.now }
+    requires limit { limit ≡ limit_above slots.now }
     requires small { limit < 2 ^ 32 }
     ensures { IfOk result (λ numbers. IsTable slots.now numbers.items) }
 {

@@ -17,7 +17,7 @@ use Rattle.meaning_laws.proofs.Units.{Begins-same}
 use Rattle.rv_machine.specs.Run.{Seen}
 use Rattle.rv_machine.specs.Services.{End, Running}
 use Rattle.rv_machine.specs.Services as machine
-use Rattle.linking.specs.Carries.{Outer, outer_of, Out, no_stack, no_heap, Comes, Spends, Does}
+use Rattle.linking.specs.Carries.{Outer, outer_of, Out, no_stack, no_heap, EventuallyHolds, Spends, DoesCall}
 use Rattle.linking.specs.Assembled.{IsStub}
 use Rattle.linking.proofs.Coming.{moments_add, front_same, front_trans, comes_on, comes_map}
 
@@ -102,7 +102,7 @@ pub record Over (X : Type 0) (see : X → Seen) (most words n : ℕ) (e : Seen) 
 -- ---- both directions
 
 module _ (X : Type 0) (turn : X → X) (see : X → Seen) (stack heap most words all : ℕ) (room : words + 1 ≤ all) (run : ℕ → Run) (x : X)
-    (told : (n : ℕ) → IsProper (run n).outcome → Comes X turn see stack heap (run n).stack_need (run n).heap_need (run n).calls
+    (told : (n : ℕ) → IsProper (run n).outcome → EventuallyHolds X turn see stack heap (run n).stack_need (run n).heap_need (run n).calls
     (Over X see most words n (seen_of (run n)) (run n).left) x) where
   fits_out : (r : Run) (count : ℕ) (y : X) → IsGiven r stack heap → Out X turn see stack heap r.stack_need r.heap_need r.calls y → ⊥
   fits_out r count y given (no_stack lt e calls) = absurd (omega (arith, lt, given.stack_fits))
@@ -231,9 +231,9 @@ module _ (X : Type 0) (turn : X → X) (see : X → Seen) (stack heap most words
   raise_fits (raised_fits fit) = fit
 
   -- what the machine does for the whole run is what is said of it
-  pub told_of : (w : World) (x : X) (e : Evaluation) → GivesFit end result e → RaisedFits end e → Does X turn see stack heap most words Back w x e →
+  pub told_of : (w : World) (x : X) (e : Evaluation) → GivesFit end result e → RaisedFits end e → DoesCall X turn see stack heap most words Back w x e →
       IsProper (finished layout e).outcome →
-      Comes X turn see stack heap (finished layout e).stack_need (finished layout e).heap_need (finished layout e).calls (IsOver w.left (finished layout e)) x
+      EventuallyHolds X turn see stack heap (finished layout e).stack_need (finished layout e).heap_need (finished layout e).calls (IsOver w.left (finished layout e)) x
   told_of w x (Gives v h u) fit raised c proper =
       comes_on X turn see stack heap x (omega arith) (omega arith) (Begins-same u.made) c (λ c1 y spends.
       comes_map X turn see stack heap y (omega arith) (omega arith) (Begins-same u.made)

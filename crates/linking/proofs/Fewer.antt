@@ -15,7 +15,7 @@ use Rattle.cmm_meaning.specs.Alone.{done_inside, done_outside, lone_world, alone
 use Rattle.meaning_laws.specs.Does.{Does, Ends, Pays, Deepens, Jumps, Calls, CallsOut, Fails, Spent, Giving, Exiting, Raising, after_call, played}
 use Rattle.meaning_laws.specs.Interaction.{function_does}
 use Rattle.meaning_laws.specs.Links.{lonely}
-use Rattle.meaning_laws.specs.Units.{world_of, in_world, Begins}
+use Rattle.meaning_laws.specs.Units.{world_of, in_world, IsPrefixOf}
 use Rattle.meaning_laws.proofs.AgreementRuns.{alone_plays}
 use Rattle.meaning_laws.proofs.UnitsAlone.{played_on}
 
@@ -25,21 +25,21 @@ with_doings more w = record w { doings = w.doings ++ more }
 
 pub data Fewer (more : List Doing) : Evaluation → Evaluation → Type 0 where
   same_end : (e : Evaluation) → Fewer more e (in_world (with_doings more) e)
-  asks_here : {call : Asked} {w : World} {e : Evaluation} → w.doings ≡ [] → Begins (w.asked ++ call ∷ []) (world_of e).asked →
+  asks_here : {call : Asked} {w : World} {e : Evaluation} → w.doings ≡ [] → IsPrefixOf (w.asked ++ call ∷ []) (world_of e).asked →
       Fewer more (Stops (Asking call) w) e
   -- what is handed in for it is no such thing
   refuses : {call : Asked} {kind : Kind} {w u : World} → u.doings ≢ [] → Fewer more (Stops (Asking call) w) (Stops (NotProper kind) u)
 
-begins_same : (asked : List Asked) → Begins asked asked
+begins_same : (asked : List Asked) → IsPrefixOf asked asked
 begins_same asked = record { further = []; is = sym (append-nil asked) }
 
-begins_trans : {a b c : List Asked} → Begins a b → Begins b c → Begins a c
+begins_trans : {a b c : List Asked} → IsPrefixOf a b → IsPrefixOf b c → IsPrefixOf a c
 begins_trans {a} p q =
     record { further = p.further ++ q.further; is = q.is ∙ ap (λ l. l ++ q.further) p.is ∙ append_assoc a p.further q.further }
 
 after_asked : (asked : List Asked) (call : Asked) (go : Doing → World → Evaluation) →
-    ((d : Doing) (v : World) → Begins v.asked (world_of (go d v)).asked) → (e : Evaluation) →
-    Begins (asked ++ call ∷ []) (world_of e).asked → Begins (asked ++ call ∷ []) (world_of (after_call go e)).asked
+    ((d : Doing) (v : World) → IsPrefixOf v.asked (world_of (go d v)).asked) → (e : Evaluation) →
+    IsPrefixOf (asked ++ call ∷ []) (world_of e).asked → IsPrefixOf (asked ++ call ∷ []) (world_of (after_call go e)).asked
 after_asked asked call go on (Gives v h w) b = begins_trans b (on (Gave v w.memory) w)
 after_asked asked call go on (Exits label values h w) b = b
 after_asked asked call go on (Raises v h w) b = begins_trans b (on (Threw v w.memory) w)
@@ -98,7 +98,7 @@ spend_fewer : (more : List Doing) (n : ℕ) (w : World) (go : World → Evaluati
 spend_fewer more zero w go same = same_end (Stops OutOfFuel w)
 spend_fewer more (suc n) w go same = same (record w { left = n })
 
-left_after : (go : Doing → World → Evaluation) → ((d : Doing) (v : World) → Begins v.asked (world_of (go d v)).asked) →
+left_after : (go : Doing → World → Evaluation) → ((d : Doing) (v : World) → IsPrefixOf v.asked (world_of (go d v)).asked) →
     (more : List Doing) {e longer : Evaluation} →
     ((d : Doing) (v : World) → Fewer more (go d v) (go d (with_doings more v))) →
     Fewer more e longer → Fewer more (after_call go e) (after_call go longer)
@@ -159,7 +159,7 @@ spend_counts zero w go on = refl
 spend_counts (suc n) w go on = on (record w { left = n })
 
 module _ (end : ℕ) (symbol : List ℕ → Option Value) (parameters : List (List Comp)) where
-  played_begins : (d : Does) (v : World) → Begins v.asked (world_of (played (lonely end symbol parameters) d v)).asked
+  played_begins : (d : Does) (v : World) → IsPrefixOf v.asked (world_of (played (lonely end symbol parameters) d v)).asked
   played_begins d v = (played_on end symbol parameters d v).asked
 
   pub played_fewer : (more : List Doing) (d : Does) (w : World) →

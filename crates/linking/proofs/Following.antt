@@ -15,27 +15,27 @@ use Rattle.cmm_meaning.specs.Run.{outside, callees}
 use Rattle.cmm_meaning.specs.Setting.{setting_of}
 use Rattle.cmm_meaning.specs.State.{Doing, Asked, Callee, Inside, Outside, Called, World}
 use Rattle.correctness.specs.Setting.{AreWords}
-use Rattle.mach_ir.specs.Runs.{Place, Step, Continues, Pays, Deepens, Waits, FinishesBy, Finishes, FinishesRaising, IsStuck, Tally, Run, Running, Asking, Ended, Wrong, units_of, kept_of, onward, runs}
+use Rattle.mach_ir.specs.Runs.{ActivationSetting, Step, Continues, Pays, Deepens, Waits, FinishesBy, Finishes, FinishesRaising, IsStuck, Tally, RunProgress, Running, Asking, Ended, Wrong, units_of, kept_of, run_onward, runs}
 use Rattle.meaning_fuel.specs.Whole.{whole}
 use Rattle.meaning_laws.specs.Fitting.{memory_after, FitsCallee, Answered, answered, answered_raise, unfit, unanswered}
 use Rattle.meaning_laws.specs.Links.{Call, OfFunction, OfOutside, asked_in, done_by, FitsCall, fits_function, CameBack, gave, threw, Came, asked_by, spent_by, OnItsOwn, CallsBetween, no_more, next}
-use Rattle.meaning_laws.specs.Units.{Begins, Later, world_of}
+use Rattle.meaning_laws.specs.Units.{IsPrefixOf, Later, world_of}
 use Rattle.meaning_laws.proofs.Extends.{extends_need}
 use Rattle.meaning_laws.proofs.LinksCalled.{called_later}
 use Rattle.meaning_laws.proofs.LinksWhole.{whole_calls_fit}
 use Rattle.meaning_laws.proofs.Units.{Begins-same}
 use Rattle.rv_machine.specs.Run.{Seen}
 use Rattle.rv_machine.specs.Services as machine
-use Rattle.linking.specs.Program.{Program, place_in, tally_of, IsMoving, unit_of, paid_by, IsRegularStep, IsRegular}
-use Rattle.linking.specs.Pace.{Words, left_behind, StepForward, LeadsTo, continues, pays, deepens, behind, IsReached, by_step, GoesForward}
-use Rattle.linking.specs.Carries.{Outer, outer_of, Comes, Near, Spends, Does, IsAfter, CarriesOutside, CarriesAsked, CarriesTail, CarriesStep, Carries}
+use Rattle.linking.specs.Program.{Program, activation_in, tally_of, IsMoving, unit_of, paid_by, IsRegularStep, IsRegularProgram}
+use Rattle.linking.specs.Pace.{Words, left_behind, StepForward, StepLeadsTo, continues, pays, deepens, behind, IsReached, by_step, ProgramGoesForward}
+use Rattle.linking.specs.Carries.{Outer, outer_of, EventuallyHolds, Near, Spends, DoesCall, IsAfterStep, CarriesOutside, CarriesAsked, CarriesTail, CarriesStep, Carries}
 use Rattle.linking.proofs.Coming.{comes_on, comes_map, comes_now}
 use Rattle.linking.proofs.Running.{units_called, top_heap, units_came, no_longer, runs_further, onward_further, matched, asked_memory, memory_back, tally, Facts, facts}
 
 pub same_outer : {w v : World} → OnItsOwn w v → outer_of w ≡ outer_of v
 same_outer {w} {v} o = let a = o.made in let b = o.answers in cc
 
-own_begins : {w v : World} → OnItsOwn w v → Begins w.made v.made
+own_begins : {w v : World} → OnItsOwn w v → IsPrefixOf w.made v.made
 own_begins {w} {v} o = record { further = []; is = o.made ∙ sym (append-nil w.made) }
 
 -- ---- arithmetic
@@ -67,7 +67,7 @@ back_left gave = refl
 back_left threw = refl
 
 -- how many instructions of a call that is asked last are the function's own
-abbrev pub extra : {S : Type 0} → Run S → ℕ
+abbrev pub extra : {S : Type 0} → RunProgress S → ℕ
 extra (Running s t) = 0
 extra (Asking call t) = unit_of call.callee
 extra (Ended d t) = 0
@@ -94,17 +94,17 @@ module _ (S : Type 0) (p : Program S) (pace : Words S) (file : FileTree) (layout
   AskedAt spare o x call (Outside row frame) =
       (v : World) → v.memory ≡ call.memory → outer_of v ≡ o → (made : Made) (u : World) →
       outside (data_end file) layout row frame call.arguments v ≡ Stops (NoAnswer made) u →
-      Comes X turn see stack heap 0 (heap_need u.memory) u.made (Near 0 spare (λ y. see y ≡ record { calls = u.made; end = machine.Asks made })) x
+      EventuallyHolds X turn see stack heap 0 (heap_need u.memory) u.made (Near 0 spare (λ y. see y ≡ record { calls = u.made; end = machine.Asks made })) x
 
   -- how a machine is where a function ends so
-  abbrev pub EndAt : ℕ → Below → (f below : ℕ) → Outer → X → Run S → Type 0
+  abbrev pub EndAt : ℕ → Below → (f below : ℕ) → Outer → X → RunProgress S → Type 0
   EndAt spare a f below o x (Running s t) = At a f below s o x
   EndAt spare a f below o x (Asking call t) = AskedAt spare o x call call.callee
   EndAt spare a f below o x (Ended d t) = Back a d o x
   EndAt spare a f below o x Wrong = Unit {0}
 
   -- the units that may be owed where a run of the function is
-  abbrev pub due : (f : ℕ) → Run S → ℕ
+  abbrev pub due : (f : ℕ) → RunProgress S → ℕ
   due f (Running s t) = pace.owed f s
   due f (Asking call t) = 0
   due f (Ended d t) = 0
@@ -112,7 +112,7 @@ module _ (S : Type 0) (p : Program S) (pace : Words S) (file : FileTree) (layout
 
   -- What a function and its callees took, where it had paid so many units, of which so many were owed, and then paid so many without an
   -- instruction yet, and had so many instructions before the next one.
-  pub record Took (f units owed paid ahead : ℕ) (r : Run S) (calls : List Came) (P : ℕ → X → Type 0) (count : ℕ) (x : X) : Type 0 where
+  pub record Took (f units owed paid ahead : ℕ) (r : RunProgress S) (calls : List Came) (P : ℕ → X → Type 0) (count : ℕ) (x : X) : Type 0 where
     -- the units of the callees
     pub theirs : ℕ
     pub no_more : theirs ≤ spent_by calls
@@ -123,39 +123,39 @@ module _ (S : Type 0) (p : Program S) (pace : Words S) (file : FileTree) (layout
     pub upper : (count + spare) + words * units ≤ ahead + words * ((tally_of r).units + (2 * theirs + units_called calls))
     pub at : P spare x
 
-  abbrev pub Reaches : Below → (f below : ℕ) → World → List Came → (units owed paid ahead : ℕ) → Run S → X → Type 0
+  abbrev pub Reaches : Below → (f below : ℕ) → World → List Came → (units owed paid ahead : ℕ) → RunProgress S → X → Type 0
   Reaches a f below last calls units owed paid ahead r x =
-      Comes X turn see stack heap (max (tally_of r).need last.stack_need) (max (top_heap p r) (heap_need last.memory)) last.made
+      EventuallyHolds X turn see stack heap (max (tally_of r).need last.stack_need) (max (top_heap p r) (heap_need last.memory)) last.made
       (Took f units owed paid ahead r calls (λ k y. EndAt k a f below (outer_of last) y r)) x
 
   abbrev pub Serves : ℕ → Type 0
   Serves bound =
       (a : Below) (call : Called) (v : World) (x : X) → v.left < bound → FitsCallee (setting_of (whole file layout)) call.function call.arguments →
       IsGivenTo IsGiven (OfFunction call) v → Entry a call.function call.below call.arguments v.memory (outer_of v) x →
-      Does X turn see stack heap most words (Back a) v x (callees file layout (suc v.left) call v)
+      DoesCall X turn see stack heap most words (Back a) v x (callees file layout (suc v.left) call v)
 
   -- what the machine does for a call of a function that came back
   pub came_so : (a : Below) (w : World) (x : X) {u : World} {e : Evaluation} {d : Doing} → CameBack e d u →
-      Does X turn see stack heap most words (Back a) w x e →
-      Comes X turn see stack heap u.stack_need (heap_need u.memory) u.made (Spends 0 most words w.left u.left (Back a d (outer_of u))) x
+      DoesCall X turn see stack heap most words (Back a) w x e →
+      EventuallyHolds X turn see stack heap u.stack_need (heap_need u.memory) u.made (Spends 0 most words w.left u.left (Back a d (outer_of u))) x
   came_so a w x gave does = does
   came_so a w x threw does = does
 
   out_so : (f below cost : ℕ) (a : Below) (go : Doing → Step S) (x : X) {u : World} {e : Evaluation} {d : Doing} → CameBack e d u →
       CarriesOutside S p pace file layout X turn see stack heap Below At Entry Back cost f below a go x e →
-      Comes X turn see stack heap 0 (heap_need u.memory) u.made (Near 1 cost
-      (IsAfter S p pace file layout X turn see stack heap Below At Entry Back a f below (go d) (outer_of u))) x
+      EventuallyHolds X turn see stack heap 0 (heap_need u.memory) u.made (Near 1 cost
+      (IsAfterStep S p pace file layout X turn see stack heap Below At Entry Back a f below (go d) (outer_of u))) x
   out_so f below cost a go x gave c = c
   out_so f below cost a go x threw c = c
 
-  module _ (regular : IsRegular S p) (forward : GoesForward S p pace words)
+  module _ (regular : IsRegularProgram S p) (forward : ProgramGoesForward S p pace words)
       (carry : Carries S p pace file layout X turn see stack heap Below At Entry Back) (bound : ℕ) (serves : Serves bound)
       (a : Below) (f below : ℕ) where
-    abbrev c : Place
-    c = place_in file layout f below
+    abbrev c : ActivationSetting
+    c = activation_in file layout f below
 
     abbrev After : Step S → Outer → X → Type 0
-    After x o y = IsAfter S p pace file layout X turn see stack heap Below At Entry Back a f below x o y
+    After x o y = IsAfterStep S p pace file layout X turn see stack heap Below At Entry Back a f below x o y
 
     abbrev CarriesThis : (owed cost : ℕ) → Step S → Outer → X → Type 0
     CarriesThis owed cost x o y = CarriesStep S p pace file layout X turn see stack heap Below At Entry Back owed cost f below a x o y
@@ -211,11 +211,11 @@ module _ (S : Type 0) (p : Program S) (pace : Words S) (file : FileTree) (layout
     owed_after IsStuck = 0
 
     after_step : (k : ℕ) → LinkOf k → (x : Step S) (stack' heap' left : ℕ) → IsRegularStep S p c stack' heap' x → StepForward S words (pace.ahead f) left x →
-        ((u : S) → LeadsTo S u x → IsReached S p f c u) → {w last : World} {calls : List Came} (asked : List Asked) (units need : ℕ) (y : X) → stack' ≤ need →
+        ((u : S) → StepLeadsTo S u x → IsReached S p f c u) → {w last : World} {calls : List Came} (asked : List Asked) (units need : ℕ) (y : X) → stack' ≤ need →
         CallsBetween (whole file layout) bound w calls last → AllGiven IsGiven calls →
-        (tally_of (onward (runs (p.step f c) k) x (tally asked calls units need))).asked ≡ asked ++ map asked_by calls →
-        IsMoving (onward (runs (p.step f c) k) x (tally asked calls units need)) → After x (outer_of w) y →
-        Reaches a f below last calls units (owed_after x) (paid_by x) left (onward (runs (p.step f c) k) x (tally asked calls units need)) y
+        (tally_of (run_onward (runs (p.step f c) k) x (tally asked calls units need))).asked ≡ asked ++ map asked_by calls →
+        IsMoving (run_onward (runs (p.step f c) k) x (tally asked calls units need)) → After x (outer_of w) y →
+        Reaches a f below last calls units (owed_after x) (paid_by x) left (run_onward (runs (p.step f c) k) x (tally asked calls units need)) y
     after_step k ih (Continues u) stack' heap' left g forth reached {w} {last} {calls} asked units need y fits between given same m at =
         let fit = g.0 in
         comes_map X turn see stack heap y (omega arith) (omega arith) (Begins-same last.made)
@@ -283,15 +283,15 @@ module _ (S : Type 0) (p : Program S) (pace : Words S) (file : FileTree) (layout
 
     made_step : (k : ℕ) → LinkOf k → (x : Step S) (owed least : ℕ) → owed + paid_by x ≤ least + owed_after x →
         (stack' heap' cost left ahead : ℕ) → cost + left ≤ ahead → IsRegularStep S p c stack' heap' x →
-        StepForward S words (pace.ahead f) left x → ((u : S) → LeadsTo S u x → IsReached S p f c u) →
+        StepForward S words (pace.ahead f) left x → ((u : S) → StepLeadsTo S u x → IsReached S p f c u) →
         (w last : World) (calls : List Came) (asked : List Asked) (units need : ℕ)
         (y : X) → stack' ≤ need → CallsBetween (whole file layout) bound w calls last → AllGiven IsGiven calls →
-        (tally_of (onward (runs (p.step f c) k) x (tally asked calls units need))).asked ≡ asked ++ map asked_by calls →
-        IsMoving (onward (runs (p.step f c) k) x (tally asked calls units need)) → (s h : ℕ) →
-        s ≤ (tally_of (onward (runs (p.step f c) k) x (tally asked calls units need))).need →
-        h ≤ top_heap p (onward (runs (p.step f c) k) x (tally asked calls units need)) →
-        Comes X turn see stack heap s h w.made (Near least cost (After x (outer_of w))) y →
-        Reaches a f below last calls units owed 0 ahead (onward (runs (p.step f c) k) x (tally asked calls units need)) y
+        (tally_of (run_onward (runs (p.step f c) k) x (tally asked calls units need))).asked ≡ asked ++ map asked_by calls →
+        IsMoving (run_onward (runs (p.step f c) k) x (tally asked calls units need)) → (s h : ℕ) →
+        s ≤ (tally_of (run_onward (runs (p.step f c) k) x (tally asked calls units need))).need →
+        h ≤ top_heap p (run_onward (runs (p.step f c) k) x (tally asked calls units need)) →
+        EventuallyHolds X turn see stack heap s h w.made (Near least cost (After x (outer_of w))) y →
+        Reaches a f below last calls units owed 0 ahead (run_onward (runs (p.step f c) k) x (tally asked calls units need)) y
     made_step k ih x owed least covers stack' heap' cost left ahead room g forth reached w last calls asked units need y fits between given same m s h st hp
         comes =
         let onto = called_later between in
@@ -326,11 +326,11 @@ module _ (S : Type 0) (p : Program S) (pace : Words S) (file : FileTree) (layout
       at : P x
 
     function_served : (cost : ℕ) (call : Called) (before : World) (x : X) (P : Doing → Outer → X → Type 0) (above : Below) →
-        Comes X turn see stack heap 0 0 before.made (Near 1 cost (Entry above call.function call.below call.arguments before.memory (outer_of before))) x →
+        EventuallyHolds X turn see stack heap 0 0 before.made (Near 1 cost (Entry above call.function call.below call.arguments before.memory (outer_of before))) x →
         before.left < bound → FitsCallee (setting_of (whole file layout)) call.function call.arguments → IsGivenTo IsGiven (OfFunction call) before →
         {d : Doing} {after : World} → CameBack (callees file layout (suc before.left) call before) d after → Later before after →
         ((v : Outer) (y : X) → Back above d v y → P d v y) →
-        Comes X turn see stack heap after.stack_need (heap_need after.memory) after.made (Served 1 cost before.left after.left (P d (outer_of after))) x
+        EventuallyHolds X turn see stack heap after.stack_need (heap_need after.memory) after.made (Served 1 cost before.left after.left (P d (outer_of after))) x
     function_served cost call before x P above enters fewer fit known {d} {after} did later onto =
         comes_on X turn see stack heap x (omega arith) (omega arith) later.onward.calls enters
         (λ n y near.
@@ -357,7 +357,7 @@ module _ (S : Type 0) (p : Program S) (pace : Words S) (file : FileTree) (layout
         CarriesOutside S p pace file layout X turn see stack heap Below At Entry Back cost f below a go x
         (outside (data_end file) layout row frame arguments before) →
         {d : Doing} {after : World} → CameBack (outside (data_end file) layout row frame arguments before) d after →
-        Comes X turn see stack heap after.stack_need (heap_need after.memory) after.made
+        EventuallyHolds X turn see stack heap after.stack_need (heap_need after.memory) after.made
         (Served 0 cost before.left after.left (After (go d) (outer_of after))) x
     outside_served cost row frame arguments before x go carries {d} {after} did =
         let e = answered_left ((whole_calls_fit file layout).answers row frame arguments before) in
@@ -419,16 +419,16 @@ module _ (S : Type 0) (p : Program S) (pace : Words S) (file : FileTree) (layout
     -- it goes on after a call that came back
     goes_on : (k : ℕ) → LinkOf k → (call : Asked) (go : Doing → Step S) (stack' heap' cost left ahead : ℕ) → cost + left ≤ ahead →
         IsRegularStep S p c stack' heap' (Waits call go) → StepForward S words (pace.ahead f) left (Waits call go) →
-        ((u : S) → LeadsTo S u (Waits call go) → IsReached S p f c u) →
+        ((u : S) → StepLeadsTo S u (Waits call go) → IsReached S p f c u) →
         (last : World) (came : Came) (calls : List Came) (asked : List Asked) (units need : ℕ) (y : X) →
         stack' ≤ need → CallsBetween (whole file layout) bound came.after calls last → AllGiven IsGiven calls →
         heap_need call.memory ≤ heap_need (memory_after came.doing) → call ≡ asked_by came →
-        (tally_of (onward (runs (p.step f c) k) (go came.doing) (tally (asked ++ call ∷ []) calls (units_of call.callee units) need))).asked ≡
+        (tally_of (run_onward (runs (p.step f c) k) (go came.doing) (tally (asked ++ call ∷ []) calls (units_of call.callee units) need))).asked ≡
         (asked ++ call ∷ []) ++ map asked_by calls →
-        IsMoving (onward (runs (p.step f c) k) (go came.doing) (tally (asked ++ call ∷ []) calls (units_of call.callee units) need)) →
-        Comes X turn see stack heap came.after.stack_need (heap_need came.after.memory) came.after.made
+        IsMoving (run_onward (runs (p.step f c) k) (go came.doing) (tally (asked ++ call ∷ []) calls (units_of call.callee units) need)) →
+        EventuallyHolds X turn see stack heap came.after.stack_need (heap_need came.after.memory) came.after.made
         (Served (unit_of call.callee) cost came.before.left came.after.left (After (go came.doing) (outer_of came.after))) y →
-        Reaches a f below last (came ∷ calls) units 0 0 ahead (onward (runs (p.step f c) k) (go came.doing)
+        Reaches a f below last (came ∷ calls) units 0 0 ahead (run_onward (runs (p.step f c) k) (go came.doing)
         (tally (asked ++ call ∷ []) calls (units_of call.callee units) need)) y
     goes_on k ih call go stack' heap' cost left ahead room g forth reached last came calls asked units need y fits rest given grown head same m comes =
         let onto = called_later rest in
@@ -467,12 +467,12 @@ module _ (S : Type 0) (p : Program S) (pace : Words S) (file : FileTree) (layout
     -- a call, whatever it is of
     asks : (k : ℕ) → LinkOf k → (call : Asked) (go : Doing → Step S) (stack' heap' cost left ahead : ℕ) → cost + left ≤ ahead →
         IsRegularStep S p c stack' heap' (Waits call go) → StepForward S words (pace.ahead f) left (Waits call go) →
-        ((u : S) → LeadsTo S u (Waits call go) → IsReached S p f c u) → {w last : World} {calls : List Came} (asked : List Asked) (units need : ℕ) (y : X) →
+        ((u : S) → StepLeadsTo S u (Waits call go) → IsReached S p f c u) → {w last : World} {calls : List Came} (asked : List Asked) (units need : ℕ) (y : X) →
         stack' ≤ need → CallsBetween (whole file layout) bound w calls last → AllGiven IsGiven calls →
-        (tally_of (onward (runs (p.step f c) k) (Waits call go) (tally asked calls units need))).asked ≡ asked ++ map asked_by calls →
-        IsMoving (onward (runs (p.step f c) k) (Waits call go) (tally asked calls units need)) →
+        (tally_of (run_onward (runs (p.step f c) k) (Waits call go) (tally asked calls units need))).asked ≡ asked ++ map asked_by calls →
+        IsMoving (run_onward (runs (p.step f c) k) (Waits call go) (tally asked calls units need)) →
         AsksThis cost call go (outer_of w) y →
-        Reaches a f below last calls units 0 0 ahead (onward (runs (p.step f c) k) (Waits call go) (tally asked calls units need)) y
+        Reaches a f below last calls units 0 0 ahead (run_onward (runs (p.step f c) k) (Waits call go) (tally asked calls units need)) y
     asks k ih call go stack' heap' cost left ahead room g forth reached asked units need y fits (no_more o) given same m carries =
         asks_last cost ahead (omega (arith, room)) asked units need y o call go call.callee refl carries
     asks k ih call go stack' heap' cost left ahead room g forth reached {w} {last} asked units need y fits
@@ -493,18 +493,18 @@ module _ (S : Type 0) (p : Program S) (pace : Words S) (file : FileTree) (layout
             IsGivenTo IsGiven q came.before →
             AsksThis cost (asked_in came.before.memory q) go (outer_of w) y →
             unit_of call.callee ≡ unit_of (asked_in came.before.memory q).callee →
-            Comes X turn see stack heap came.after.stack_need (heap_need came.after.memory) came.after.made
+            EventuallyHolds X turn see stack heap came.after.stack_need (heap_need came.after.memory) came.after.made
             (Served (unit_of call.callee) cost came.before.left came.after.left (After (go came.doing) (outer_of came.after))) y
         by (OfFunction called) e (fits_function fit) did known carries unit =
             let same = same_outer o in
-            subst (λ n. Comes X turn see stack heap came.after.stack_need (heap_need came.after.memory) came.after.made
+            subst (λ n. EventuallyHolds X turn see stack heap came.after.stack_need (heap_need came.after.memory) came.after.made
             (Served n cost came.before.left came.after.left (After (go came.doing) (outer_of came.after))) y) (sym unit)
             (function_served cost called came.before y (λ d v z. After (go d) v z) carries.above
-            (subst (λ v. Comes X turn see stack heap 0 0 v.made (Near 1 cost
+            (subst (λ v. EventuallyHolds X turn see stack heap 0 0 v.made (Near 1 cost
             (Entry carries.above called.function called.below called.arguments came.before.memory v)) y) same carries.enters)
             fewer fit known did onto (λ v z back. carries.resumes came.doing v z back))
         by (OfOutside row frame arguments) e fit did known carries unit =
-            subst (λ n. Comes X turn see stack heap came.after.stack_need (heap_need came.after.memory) came.after.made
+            subst (λ n. EventuallyHolds X turn see stack heap came.after.stack_need (heap_need came.after.memory) came.after.made
             (Served n cost came.before.left came.after.left (After (go came.doing) (outer_of came.after))) y) (sym unit)
             (outside_served cost row frame arguments came.before y go (carries came.before refl (sym (same_outer o))) did)
 
@@ -535,9 +535,9 @@ module _ (S : Type 0) (p : Program S) (pace : Words S) (file : FileTree) (layout
     tails : (k : ℕ) (call : Asked) (kept : Ret) (cost ahead : ℕ) → cost ≤ ahead →
         {w last : World} {calls : List Came} (asked : List Asked) (units need : ℕ) (y : X) →
         CallsBetween (whole file layout) bound w calls last → AllGiven IsGiven calls →
-        (tally_of (onward (runs (p.step f c) k) (FinishesBy call kept) (tally asked calls units need))).asked ≡ asked ++ map asked_by calls →
+        (tally_of (run_onward (runs (p.step f c) k) (FinishesBy call kept) (tally asked calls units need))).asked ≡ asked ++ map asked_by calls →
         TailsThis cost call (outer_of w) y →
-        Reaches a f below last calls units 0 0 ahead (onward (runs (p.step f c) k) (FinishesBy call kept) (tally asked calls units need)) y
+        Reaches a f below last calls units 0 0 ahead (run_onward (runs (p.step f c) k) (FinishesBy call kept) (tally asked calls units need)) y
     tails k call kept cost ahead room asked units need y (no_more o) given same carries =
         tail_last cost ahead room asked units need y o call call.callee refl carries
     tails k call kept cost ahead room {w} {last} asked units need y (next {c = came} o fewer fit did onto (no_more own)) given same carries =
@@ -574,14 +574,14 @@ module _ (S : Type 0) (p : Program S) (pace : Words S) (file : FileTree) (layout
             IsGivenTo IsGiven q came.before →
             TailsThis cost (asked_in came.before.memory q) (outer_of w) y →
             unit_of call.callee ≡ unit_of (asked_in came.before.memory q).callee →
-            Comes X turn see stack heap came.after.stack_need (heap_need came.after.memory) came.after.made
+            EventuallyHolds X turn see stack heap came.after.stack_need (heap_need came.after.memory) came.after.made
             (Served (unit_of call.callee) cost came.before.left came.after.left (Back a came.doing (outer_of came.after))) y
         by (OfFunction called) e (fits_function fit) did known carries unit =
             let same = same_outer o in
-            subst (λ n. Comes X turn see stack heap came.after.stack_need (heap_need came.after.memory) came.after.made
+            subst (λ n. EventuallyHolds X turn see stack heap came.after.stack_need (heap_need came.after.memory) came.after.made
             (Served n cost came.before.left came.after.left (Back a came.doing (outer_of came.after))) y) (sym unit)
             (function_served cost called came.before y (λ d v z. Back a d v z) a
-            (subst (λ v. Comes X turn see stack heap 0 0 v.made (Near 1 cost
+            (subst (λ v. EventuallyHolds X turn see stack heap 0 0 v.made (Near 1 cost
             (Entry a called.function called.below called.arguments came.before.memory v)) y) same carries)
             fewer fit known did onto (λ v z back. back))
         by (OfOutside row frame arguments) e fit did known carries unit = absurd carries
@@ -593,17 +593,17 @@ module _ (S : Type 0) (p : Program S) (pace : Words S) (file : FileTree) (layout
     -- ---- every step
 
     -- where none is owed
-    owing : (owed units ahead : ℕ) (last : World) (calls : List Came) (r : Run S) (y : X) → owed ≡ 0 → Reaches a f below last calls units 0 0 ahead r y →
+    owing : (owed units ahead : ℕ) (last : World) (calls : List Came) (r : RunProgress S) (y : X) → owed ≡ 0 → Reaches a f below last calls units 0 0 ahead r y →
         Reaches a f below last calls units owed 0 ahead r y
     owing owed units ahead last calls r y none reaches = subst (λ n. Reaches a f below last calls units n 0 ahead r y) (sym none) reaches
 
     acts : (k : ℕ) → LinkOf k → (x : Step S) (owed stack' heap' cost left ahead : ℕ) → cost + left ≤ ahead → IsRegularStep S p c stack' heap' x →
-        StepForward S words (pace.ahead f) left x → ((u : S) → LeadsTo S u x → IsReached S p f c u) →
+        StepForward S words (pace.ahead f) left x → ((u : S) → StepLeadsTo S u x → IsReached S p f c u) →
         (w last : World) (calls : List Came) (asked : List Asked) (units need : ℕ)
         (y : X) → stack' ≤ need → CallsBetween (whole file layout) bound w calls last → AllGiven IsGiven calls →
-        (tally_of (onward (runs (p.step f c) k) x (tally asked calls units need))).asked ≡ asked ++ map asked_by calls →
-        IsMoving (onward (runs (p.step f c) k) x (tally asked calls units need)) → CarriesThis owed cost x (outer_of w) y →
-        Reaches a f below last calls units owed 0 ahead (onward (runs (p.step f c) k) x (tally asked calls units need)) y
+        (tally_of (run_onward (runs (p.step f c) k) x (tally asked calls units need))).asked ≡ asked ++ map asked_by calls →
+        IsMoving (run_onward (runs (p.step f c) k) x (tally asked calls units need)) → CarriesThis owed cost x (outer_of w) y →
+        Reaches a f below last calls units owed 0 ahead (run_onward (runs (p.step f c) k) x (tally asked calls units need)) y
     acts k ih (Continues u) owed stack' heap' cost left ahead room g forth reached w last calls asked units need y fits between given same m carries =
         let on = facts_of k u w last calls asked units need between same m in
         let n = on.need in

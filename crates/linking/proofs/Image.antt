@@ -28,12 +28,12 @@ use Rattle.meaning_laws.proofs.Given.{callees_give}
 use Rattle.meaning_laws.proofs.LinksWhole.{whole_calls_fit}
 use Rattle.meaning_laws.proofs.OutOfFuel.{run_empty}
 use Rattle.rv_machine.specs.Loading.{IsRoom}
-use Rattle.rv_machine.specs.Run.{Schedule, after, begun, machine_run, seen}
+use Rattle.rv_machine.specs.Run.{Schedule, now_after, begun, machine_run, seen}
 use Rattle.rv_machine.specs.Services.{End, Now, Running, Stopped}
 use Rattle.rv_machine.specs.Services as machine
 use Rattle.rv_machine.specs.declared.cause.Cause.{Cause}
 use Rattle.linking.specs.Assembled.{IsStub, Setup, Assembled}
-use Rattle.linking.specs.Carries.{Outer, Comes}
+use Rattle.linking.specs.Carries.{Outer, EventuallyHolds}
 use Rattle.linking.specs.Pace.{Words}
 use Rattle.linking.specs.Program.{Program}
 use Rattle.linking.proofs.Directions.{Over, seen_of, told_of, forwards, backwards}
@@ -59,22 +59,22 @@ module _ (run : ℕ → Run) (schedule : Schedule) (start : Now) (stack heap : �
         never_stops (run n).outcome (seen (guarded_after schedule d.0 start)).end _ given.proper d.2.end r
 
     until : (n : ℕ) → correct.IsGiven (run n) stack heap →
-        (m : ℕ) × (m ≤ 2 * (n + 1) * words) × Alike (run n) (seen (after schedule m start)) × AsksOnlyInNeedUntil schedule start m
+        (m : ℕ) × (m ≤ 2 * (n + 1) * words) × Alike (run n) (seen (now_after schedule m start)) × AsksOnlyInNeedUntil schedule start m
     until n given =
         let d = f.does n given in
         let never = not_refused n given in
-        let same : guarded_after schedule d.0 start ≡ after schedule d.0 start =
+        let same : guarded_after schedule d.0 start ≡ now_after schedule d.0 start =
         ⊎_elim (λ e. e) (λ r. absurd (never r)) (same_or_refused schedule d.0 start) in
         (d.0, d.1, subst (λ (x : Now). Alike (run n) (seen x)) same d.2, needed_until schedule start d.0 never)
 
-    forwards_same : Forwards run (λ m. seen (after schedule m start)) stack heap words
+    forwards_same : Forwards run (λ m. seen (now_after schedule m start)) stack heap words
     forwards_same = record { does = λ n given. let u = until n given in (u.0, u.1, u.2) }
 
   module _ (b : Backwards run (λ m. seen (guarded_after schedule m start)) stack heap) where
     never_refused : ((n : ℕ) → IsProper (run n).outcome) → (m : ℕ) → IsRefused (guarded_after schedule m start) → ⊥
     never_refused proper m r = subst (Accounted run stack heap (seen (guarded_after schedule m start))) r (b.end proper m)
 
-    backwards_same : Backwards run (λ m. seen (after schedule m start)) stack heap
+    backwards_same : Backwards run (λ m. seen (now_after schedule m start)) stack heap
     backwards_same =
         record {
           calls = λ proper m.
@@ -123,7 +123,7 @@ module _ (S : Type 0) (p : Program S) (w : Words S) (most words : ℕ) (file : F
         (a.stub setup entry entered.of_image)
 
     told : (n : ℕ) → IsProper (run n).outcome →
-        Comes Now (guarded_of schedule) seen stack heap (run n).stack_need (run n).heap_need (run n).calls
+        EventuallyHolds Now (guarded_of schedule) seen stack heap (run n).stack_need (run n).heap_need (run n).calls
         (Over Now seen most words n (seen_of (run n)) (run n).left)
         (begun image row args answers stack heap)
     told n proper =

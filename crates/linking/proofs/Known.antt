@@ -27,7 +27,7 @@ use Rattle.meaning_laws.specs.Links as links
 use Rattle.meaning_laws.specs.Units.{world_of, in_world}
 use Rattle.meaning_laws.proofs.Handed.{callee_of}
 use Rattle.meaning_laws.proofs.LinksCalls.{function_alone, whole_call_linked}
-use Rattle.linking.specs.Assembled.{IsKnown, IsPassedOn}
+use Rattle.linking.specs.Assembled.{IsKnownEvaluation, IsPassedOn}
 use Rattle.linking.proofs.Fewer.{Fewer, same_end, asks_here, refuses, with_doings, alone_fewer, alone_counts}
 use Rattle.linking.proofs.Following.{IsGivenTo, AllGiven}
 use Rattle.linking.proofs.Whole.{KnownLink, AreKnown}
@@ -93,7 +93,7 @@ module _ (file : FileTree) (layout : Layout) (IsGiven : List Value → Memory �
   -- the call that comes next, where it is asked by the function on what was handed in before it
   next_known : {more : List Doing} {e run : Evaluation} (done : List Came) (c : Came) (calls : List Came) (d : Doing) (ds : List Doing) →
       more ≡ d ∷ ds → Fewer more e run →
-      IsKnown IsGiven IsDone e → (world_of run).asked ≡ map asked_by (done ++ c ∷ calls) → (world_of run).doings ≡ [] →
+      IsKnownEvaluation IsGiven IsDone e → (world_of run).asked ≡ map asked_by (done ++ c ∷ calls) → (world_of run).doings ≡ [] →
       length (world_of e).asked + length (world_of e).doings ≡ length done → IsGiven (asked_by c).arguments (asked_by c).memory
   next_known {more} done c calls d ds is (same_end e) known asked none count =
       let left : (world_of e).doings ++ more ≡ [] = ap (λ (w : World). w.doings) (sym (world_in (with_doings more) e)) ∙ none in
@@ -125,7 +125,7 @@ module _ (file : FileTree) (layout : Layout) (IsGiven : List Value → Memory �
     abbrev lone : ℕ → List Doing → Evaluation
     lone own doings = function_alone file layout call tree w.memory doings own
 
-    lone_known : (own : ℕ) (doings : List Doing) → AllByRecursion IsDone doings → IsKnown IsGiven IsDone (lone own doings)
+    lone_known : (own : ℕ) (doings : List Doing) → AllByRecursion IsDone doings → IsKnownEvaluation IsGiven IsDone (lone own doings)
     lone_known own doings all = passed.alone call.function tree is call.arguments fit call.below w.memory doings own given all
 
     given_so : (q : Call) (v : World) → IsGiven (asked_in v.memory q).arguments (asked_in v.memory q).memory → AreWords v.answers → IsGivenTo IsGiven q v
@@ -170,19 +170,19 @@ module _ (file : FileTree) (layout : Layout) (IsGiven : List Value → Memory �
       all_known : Rest l.calls
       all_known = known_from [] l.called refl refl tt words
 
-      run_known : IsKnown IsGiven IsDone l.run
-      run_known = subst (IsKnown IsGiven IsDone) l.is (lone_known l.own (map doing_of l.calls) all_known.1)
+      run_known : IsKnownEvaluation IsGiven IsDone l.run
+      run_known = subst (IsKnownEvaluation IsGiven IsDone) l.is (lone_known l.own (map doing_of l.calls) all_known.1)
 
       pub known_link : KnownLink file layout IsGiven IsDone l
       known_link =
           record {
             given = all_known.0;
             done = all_known.1;
-            last = λ q u z. given_so q l.last ((subst (IsKnown IsGiven IsDone) z run_known).1) all_known.2;
+            last = λ q u z. given_so q l.last ((subst (IsKnownEvaluation IsGiven IsDone) z run_known).1) all_known.2;
           }
 
       ends_known : {run all : Evaluation} {d : Doing} {u : World} → EndsSo (whole file layout) w.left l.last run all → CameBack all d u →
-          IsKnown IsGiven IsDone run →
+          IsKnownEvaluation IsGiven IsDone run →
           (world_of run).memory ≡ l.last.memory → BackKnown d u
       ends_known (links.gives {v = v}) gave known same = (subst (λ m. IsDone (Gave v m)) same known.1, all_known.2)
       ends_known (links.raises {v = v}) threw known same = (subst (λ m. IsDone (Threw v m)) same known.1, all_known.2)

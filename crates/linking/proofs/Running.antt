@@ -6,7 +6,7 @@ use Rattle.bs_words.specs.declared.types.Ret.{Ret}
 use Rattle.bs_words.specs.declared.types.Ret.TheVariants as ret
 use Rattle.cmm_meaning.specs.State.{Doing, Gave, Threw, Asked, Callee, Inside, Outside, World}
 use Rattle.cmm_meaning.specs.Evaluation.{Evaluation, Surroundings}
-use Rattle.mach_ir.specs.Runs.{Place, Step, Continues, Pays, Deepens, Waits, FinishesBy, Finishes, FinishesRaising, IsStuck, Tally, Run, Running, Asking, Ended, Wrong, paid, units_of, came_back, kept_of, handed, onward, runs}
+use Rattle.mach_ir.specs.Runs.{ActivationSetting, Step, Continues, Pays, Deepens, Waits, FinishesBy, Finishes, FinishesRaising, IsStuck, Tally, RunProgress, Running, Asking, Ended, Wrong, paid, units_of, came_back, kept_of, handed, run_onward, runs}
 use Rattle.meaning_laws.specs.Fitting.{memory_after}
 use Rattle.meaning_laws.specs.Links.{Call, OfFunction, OfOutside, asked_in, CameBack, gave, threw, Came, asked_by, doing_of, CallsBetween, no_more, next}
 use Rattle.meaning_laws.proofs.Extends.{extends_need}
@@ -18,7 +18,7 @@ units_called [] = 0
 units_called (c ∷ calls) = unit_of (asked_by c).callee + units_called calls
 
 -- the heap that a run has come to
-abbrev pub top_heap : {S : Type 0} → Program S → Run S → ℕ
+abbrev pub top_heap : {S : Type 0} → Program S → RunProgress S → ℕ
 top_heap p (Running s t) = p.heap s
 top_heap p (Asking call t) = heap_need call.memory
 top_heap p (Ended d t) = heap_need (memory_after d)
@@ -48,18 +48,18 @@ further_same asked = record { more = []; is = sym (append-nil asked) }
 further_one : (asked : List Asked) (call : Asked) (all : List Asked) → Further (asked ++ call ∷ []) all → Further asked all
 further_one asked call all f = record { more = call ∷ f.more; is = f.is ∙ append_assoc asked (call ∷ []) f.more }
 
-handed_further : {S : Type 0} (go : Doing → Tally → Run S) (call : Asked) (t : Tally) →
+handed_further : {S : Type 0} (go : Doing → Tally → RunProgress S) (call : Asked) (t : Tally) →
     ((d : Doing) (t : Tally) → IsMoving (go d t) → Further t.asked (tally_of (go d t)).asked) →
     (ds : List Doing) → IsMoving (handed go call ds t) → Further t.asked (tally_of (handed go call ds t)).asked
 handed_further go call t on [] m = further_same t.asked
 handed_further go call t on (d ∷ ds) m = further_one t.asked call _ (on d (came_back call ds t) m)
 
-module _ (S : Type 0) (go : S → Tally → Run S) (on : (s : S) (t : Tally) → IsMoving (go s t) → Further t.asked (tally_of (go s t)).asked) where
-  pub onward_further : (x : Step S) (t : Tally) → IsMoving (onward go x t) → Further t.asked (tally_of (onward go x t)).asked
+module _ (S : Type 0) (go : S → Tally → RunProgress S) (on : (s : S) (t : Tally) → IsMoving (go s t) → Further t.asked (tally_of (go s t)).asked) where
+  pub onward_further : (x : Step S) (t : Tally) → IsMoving (run_onward go x t) → Further t.asked (tally_of (run_onward go x t)).asked
   onward_further (Continues s) t m = on s t m
   onward_further (Pays s) t m = on s (paid t) m
   onward_further (Deepens bytes s) t m = on s (record t { need = max t.need bytes }) m
-  onward_further (Waits call then) t m = handed_further (λ d t. onward go (then d) t) call t (λ d t m. onward_further (then d) t m) t.doings m
+  onward_further (Waits call then) t m = handed_further (λ d t. run_onward go (then d) t) call t (λ d t m. onward_further (then d) t m) t.doings m
   onward_further (FinishesBy call kept) t m = by t.doings m
     where
       by : (ds : List Doing) → IsMoving (handed {S = S} (λ d t. Ended (kept_of kept d) t) call ds t) →
@@ -106,12 +106,12 @@ tally asked calls units need = record { asked = asked; doings = map doing_of cal
 
 module _ (S : Type 0) (p : Program S) (step : S → Step S) where
   -- its needs have not fallen, and its calls of functions are units
-  pub record Facts (least_need least_heap least_units : ℕ) (r : Run S) : Type 0 where
+  pub record Facts (least_need least_heap least_units : ℕ) (r : RunProgress S) : Type 0 where
     pub need : least_need ≤ (tally_of r).need
     pub heap : least_heap ≤ top_heap p r
     pub units : least_units ≤ (tally_of r).units
 
-  module _ (c : Place) (regular : (s : S) → IsRegularStep S p c (p.stack c s) (p.heap s) (step s)) (env : Surroundings) (bound : ℕ) where
+  module _ (c : ActivationSetting) (regular : (s : S) → IsRegularStep S p c (p.stack c s) (p.heap s) (step s)) (env : Surroundings) (bound : ℕ) where
     abbrev FactsOf : ℕ → Type 0
     FactsOf k =
         (s : S) (w last : World) (calls : List Came) (asked : List Asked) (units need : ℕ) → CallsBetween env bound w calls last →
@@ -129,9 +129,9 @@ module _ (S : Type 0) (p : Program S) (step : S → Step S) where
 
     facts_step : (k : ℕ) → FactsOf k → (x : Step S) (stack heap : ℕ) → IsRegularStep S p c stack heap x →
         {w last : World} {calls : List Came} (asked : List Asked) (units need : ℕ) → CallsBetween env bound w calls last →
-        (tally_of (onward (runs step k) x (tally asked calls units need))).asked ≡ asked ++ map asked_by calls →
-        IsMoving (onward (runs step k) x (tally asked calls units need)) →
-        Facts need heap (units + units_called calls) (onward (runs step k) x (tally asked calls units need))
+        (tally_of (run_onward (runs step k) x (tally asked calls units need))).asked ≡ asked ++ map asked_by calls →
+        IsMoving (run_onward (runs step k) x (tally asked calls units need)) →
+        Facts need heap (units + units_called calls) (run_onward (runs step k) x (tally asked calls units need))
     facts_step k ih (Continues u) stack heap g asked units need between same m =
         let f = ih u _ _ _ asked units need between same m in
         record { need = f.need; heap = let a = f.heap in let b = g.1 in omega (arith, a, b); units = f.units }

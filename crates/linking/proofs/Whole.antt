@@ -18,13 +18,13 @@ use Rattle.cmm_meaning.specs.Setting.{setting_of}
 use Rattle.cmm_meaning.specs.State.{Doing, Gave, Threw, Asked, Called, World, Here}
 use Rattle.cmm_meaning.specs.Evaluation.{Stop, OutOfFuel, NotProper, NoAnswer, Asking, Evaluation, Gives, Raises, Stops, fit_parameters}
 use Rattle.correctness.specs.Setting.{AreWords}
-use Rattle.mach_ir.specs.Runs.{Place, Run, runs, first_tally}
+use Rattle.mach_ir.specs.Runs.{ActivationSetting, RunProgress, runs, first_tally}
 use Rattle.meaning_fuel.specs.Whole.{whole}
 use Rattle.meaning_laws.specs.Fitting.{memory_after, FitsCallee, Answered, answered, answered_raise, unfit, unanswered}
 use Rattle.meaning_laws.specs.Handed.{AreHanded}
 use Rattle.meaning_laws.specs.Links.{Call, OfFunction, OfOutside, asked_in, done_by, FitsCall, fits_function, Came, asked_by, doing_of, spent_by, EndsSo, StoppedIn, stopped, left_by_exit, Linked}
 use Rattle.meaning_laws.specs.Links as links
-use Rattle.meaning_laws.specs.Pace.{pending}
+use Rattle.meaning_laws.specs.Pace.{pending_calls}
 use Rattle.meaning_laws.specs.Units.{Later, world_of}
 use Rattle.meaning_laws.proofs.Extends.{extends_need}
 use Rattle.meaning_laws.proofs.Handed.{callee_of, linked_handed}
@@ -35,11 +35,11 @@ use Rattle.meaning_laws.proofs.Units.{Begins-same}
 use Rattle.rv_machine.specs.Run.{Seen}
 use Rattle.rv_machine.specs.Services.{Running as Runs_on}
 use Rattle.rv_machine.specs.Services as machine
-use Rattle.linking.specs.Program.{Program, place_in, tally_of, IsMoving, unit_of, IsRegular}
-use Rattle.linking.specs.Pace.{Words, at_start, GoesForward}
-use Rattle.linking.specs.Keeps.{EndsAs, Same, Keeps}
+use Rattle.linking.specs.Program.{Program, activation_in, tally_of, IsMoving, unit_of, IsRegularProgram}
+use Rattle.linking.specs.Pace.{Words, at_start, ProgramGoesForward}
+use Rattle.linking.specs.Keeps.{ProgramEndsAs, Same, ProgramKeeps}
 use Rattle.linking.specs.Keeps as keeps
-use Rattle.linking.specs.Carries.{Outer, outer_of, Comes, Spends, Does, Carries}
+use Rattle.linking.specs.Carries.{Outer, outer_of, EventuallyHolds, Spends, DoesCall, Carries}
 use Rattle.linking.proofs.Coming.{comes_on, comes_map}
 use Rattle.linking.proofs.Running.{units_called, top_heap, facts}
 use Rattle.linking.proofs.Following.{answered_left, extra, due, IsGivenTo, AllGiven, AskedAt, EndAt, Serves, link}
@@ -86,7 +86,7 @@ answers_in_time (unanswered call) e = cc
 same_call : {c d : Asked} {z u : World} {e : Evaluation} → e ≡ Stops (Asking c) z → e ≡ Stops (Asking d) u → c ≡ d
 same_call one two = cc
 
-moving : {S : Type 0} (p : Program S) {e : Evaluation} {r : Run S} → EndsAs S p e r → IsMoving r
+moving : {S : Type 0} (p : Program S) {e : Evaluation} {r : RunProgress S} → ProgramEndsAs S p e r → IsMoving r
 moving p (keeps.gives e) = tt
 moving p (keeps.raises e) = tt
 moving p (keeps.out_of_units le) = tt
@@ -113,23 +113,23 @@ module _ (S : Type 0) (p : Program S) (pace : Words S) (file : FileTree) (layout
     (At : Below → ℕ → ℕ → S → Outer → X → Type 0)
     (Entry : Below → ℕ → ℕ → List Value → Memory → Outer → X → Type 0)
     (Back : Below → Doing → Outer → X → Type 0) (most words : ℕ) (IsGiven : List Value → Memory → Type 0) (IsDone : Doing → Type 0)
-    (regular : IsRegular S p) (forward : GoesForward S p pace words)
+    (regular : IsRegularProgram S p) (forward : ProgramGoesForward S p pace words)
     (carry : Carries S p pace file layout X turn see stack heap Below At Entry Back)
-    (keep : Keeps S p file layout most IsGiven IsDone) (known : AreKnown file layout IsGiven IsDone) where
+    (keep : ProgramKeeps S p file layout most IsGiven IsDone) (known : AreKnown file layout IsGiven IsDone) where
   abbrev pub ServesHere : ℕ → Type 0
   ServesHere bound = Serves S p pace file layout X turn see stack heap Below At Entry Back most words IsGiven bound
 
   abbrev pub DoesSo : Below → World → X → Evaluation → Type 0
-  DoesSo a w x e = Does X turn see stack heap most words (Back a) w x e
+  DoesSo a w x e = DoesCall X turn see stack heap most words (Back a) w x e
 
-  abbrev Ends : ℕ → Below → (f below : ℕ) → Outer → X → Run S → Type 0
+  abbrev Ends : ℕ → Below → (f below : ℕ) → Outer → X → RunProgress S → Type 0
   Ends k a f below o y r = EndAt S p pace file layout X turn see stack heap Below At Entry Back most words IsGiven k a f below o y r
 
-  abbrev Due : ℕ → Run S → ℕ
+  abbrev Due : ℕ → RunProgress S → ℕ
   Due f r = due S p pace file layout X turn see stack heap Below At Entry Back most words IsGiven f r
 
   -- what a function and its callees took
-  record Total (f : ℕ) (r : Run S) (calls : List Came) (P : ℕ → X → Type 0) (count : ℕ) (x : X) : Type 0 where
+  record Total (f : ℕ) (r : RunProgress S) (calls : List Came) (P : ℕ → X → Type 0) (count : ℕ) (x : X) : Type 0 where
     theirs : ℕ
     no_more : theirs ≤ spent_by calls
     enough : spent_by calls ≤ most * (2 * theirs + units_called calls)
@@ -140,10 +140,10 @@ module _ (S : Type 0) (p : Program S) (pace : Words S) (file : FileTree) (layout
 
   -- a function that ran alone as far as it does: in the machine
   record Reached (a : Below) (f below : ℕ) (w last : World) (calls : List Came) (own : ℕ) (e : Evaluation) (x : X) : Type 0 where
-    r : Run S
+    r : RunProgress S
     same : Same S p most own e r
     counted : units_called calls ≤ (tally_of r).units
-    comes : Comes X turn see stack heap (max (tally_of r).need last.stack_need) (max (top_heap p r) (heap_need last.memory)) last.made
+    comes : EventuallyHolds X turn see stack heap (max (tally_of r).need last.stack_need) (max (top_heap p r) (heap_need last.memory)) last.made
         (Total f r calls (λ k y. Ends k a f below (outer_of last) y r)) x
 
   reached : (call : Called) (tree : FunctionTree) (is : slice_get (functions file) call.function ≡ Some tree) →
@@ -153,14 +153,14 @@ module _ (S : Type 0) (p : Program S) (pace : Words S) (file : FileTree) (layout
       IsProperEnd l.run →
       Reached a call.function call.below w l.last l.calls l.own l.run x
   reached call tree is fit w serves given a x entry l know ok =
-      let c : Place = place_in file layout call.function call.below in
+      let c : ActivationSetting = activation_in file layout call.function call.below in
       let doings : List Doing = map doing_of l.calls in
       let lone : Evaluation = function_alone file layout call tree w.memory doings l.own in
       let handed : AreHanded file (world_of lone).asked doings = subst (λ (e : Evaluation). AreHanded file (world_of e).asked doings) (sym l.is)
       (linked_handed file layout l) in
       let runs_so = keep.runs call.function tree is call.arguments fit call.below w.memory doings l.own given know.done
       (subst IsProperEnd (sym l.is) ok) handed in
-      let r : Run S = runs (p.step call.function c) runs_so.steps runs_so.begun (first_tally c doings) in
+      let r : RunProgress S = runs (p.step call.function c) runs_so.steps runs_so.begun (first_tally c doings) in
       let same : Same S p most l.own l.run r = subst (λ (e : Evaluation). Same S p most l.own e r) l.is runs_so.same in
       let m : IsMoving r = moving p same.end in
       let calls : (tally_of r).asked ≡ map asked_by l.calls = same.calls ∙ l.asked in
@@ -200,7 +200,7 @@ module _ (S : Type 0) (p : Program S) (pace : Words S) (file : FileTree) (layout
   -- ---- the ends
 
   -- the heap that a function has come to is that of the text
-  heap_reached : (w last : World) (own : ℕ) (e : Evaluation) {r : Run S} → EndsAs S p e r → (world_of e).memory ≡ last.memory →
+  heap_reached : (w last : World) (own : ℕ) (e : Evaluation) {r : RunProgress S} → ProgramEndsAs S p e r → (world_of e).memory ≡ last.memory →
       ((call : Asked) (u : World) → e ≡ Stops (Asking call) u → call.memory ≡ last.memory) → top_heap p r ≤ heap_need last.memory
   heap_reached w last own _ (keeps.gives {v = v} {h = h} {u = u} {d = d} is) same asked =
       let a : heap_need (memory_after d) ≡ heap_need u.memory = ap (λ (d : Doing). heap_need (memory_after d)) is in
@@ -218,40 +218,40 @@ module _ (S : Type 0) (p : Program S) (pace : Words S) (file : FileTree) (layout
       let b : heap_need q.memory ≡ heap_need last.memory = ap heap_need (asked q u refl) in
       omega (arith, a, b)
 
-  gave_back : (k f below : ℕ) (a : Below) (o : Outer) (y : X) {v : Option Value} {h : Here} {u : World} {r : Run S} → EndsAs S p (Gives v h u) r →
+  gave_back : (k f below : ℕ) (a : Below) (o : Outer) (y : X) {v : Option Value} {h : Here} {u : World} {r : RunProgress S} → ProgramEndsAs S p (Gives v h u) r →
       Ends k a f below o y r →
       Back a (Gave v u.memory) o y
   gave_back k f below a o y (keeps.gives e) at = subst (λ d. Back a d o y) e at
 
-  threw_back : (k f below : ℕ) (a : Below) (o : Outer) (y : X) {v : Value} {h : Here} {u : World} {r : Run S} → EndsAs S p (Raises v h u) r →
+  threw_back : (k f below : ℕ) (a : Below) (o : Outer) (y : X) {v : Value} {h : Here} {u : World} {r : RunProgress S} → ProgramEndsAs S p (Raises v h u) r →
       Ends k a f below o y r →
       Back a (Threw v u.memory) o y
   threw_back k f below a o y (keeps.raises e) at = subst (λ d. Back a d o y) e at
 
-  still_runs : (k f below : ℕ) (a : Below) (o : Outer) (y : X) {u : World} {r : Run S} → EndsAs S p (Stops OutOfFuel u) r → Ends k a f below o y r →
+  still_runs : (k f below : ℕ) (a : Below) (o : Outer) (y : X) {u : World} {r : RunProgress S} → ProgramEndsAs S p (Stops OutOfFuel u) r → Ends k a f below o y r →
       see y ≡ record { calls = o.made; end = Runs_on }
   still_runs k f below a o y (keeps.out_of_units {s = s} le) at = carry.runs a f below s o y at
 
-  asked_there : (k f below : ℕ) (a : Below) (o : Outer) (y : X) {u : World} {asked : Asked} {r : Run S} → EndsAs S p (Stops (Asking asked) u) r →
+  asked_there : (k f below : ℕ) (a : Below) (o : Outer) (y : X) {u : World} {asked : Asked} {r : RunProgress S} → ProgramEndsAs S p (Stops (Asking asked) u) r →
       Ends k a f below o y r →
       AskedAt S p pace file layout X turn see stack heap Below At Entry Back most words IsGiven k o y asked asked.callee
   asked_there k f below a o y (keeps.asks e) at =
       subst (λ (q : Asked). AskedAt S p pace file layout X turn see stack heap Below At Entry Back most words IsGiven k o y q q.callee) e at
 
   -- where it ends or asks, no unit is owed, and else one at most
-  due_gives : (f : ℕ) {v : Option Value} {h : Here} {u : World} {r : Run S} → EndsAs S p (Gives v h u) r → Due f r ≤ 0
+  due_gives : (f : ℕ) {v : Option Value} {h : Here} {u : World} {r : RunProgress S} → ProgramEndsAs S p (Gives v h u) r → Due f r ≤ 0
   due_gives f (keeps.gives e) = omega arith
 
-  due_raises : (f : ℕ) {v : Value} {h : Here} {u : World} {r : Run S} → EndsAs S p (Raises v h u) r → Due f r ≤ 0
+  due_raises : (f : ℕ) {v : Value} {h : Here} {u : World} {r : RunProgress S} → ProgramEndsAs S p (Raises v h u) r → Due f r ≤ 0
   due_raises f (keeps.raises e) = omega arith
 
-  due_out : (f : ℕ) {u : World} {r : Run S} → EndsAs S p (Stops OutOfFuel u) r → Due f r ≤ 1
+  due_out : (f : ℕ) {u : World} {r : RunProgress S} → ProgramEndsAs S p (Stops OutOfFuel u) r → Due f r ≤ 1
   due_out f (keeps.out_of_units {s = s} le) = forward.owed f s
 
-  due_asked : (f : ℕ) {u : World} {asked : Asked} {r : Run S} → EndsAs S p (Stops (Asking asked) u) r → Due f r ≤ 0
+  due_asked : (f : ℕ) {u : World} {asked : Asked} {r : RunProgress S} → ProgramEndsAs S p (Stops (Asking asked) u) r → Due f r ≤ 0
   due_asked f (keeps.asks e) = omega arith
 
-  extra_asked : {u : World} {asked : Asked} {r : Run S} → EndsAs S p (Stops (Asking asked) u) r → extra r ≡ unit_of asked.callee
+  extra_asked : {u : World} {asked : Asked} {r : RunProgress S} → ProgramEndsAs S p (Stops (Asking asked) u) r → extra r ≡ unit_of asked.callee
   extra_asked (keeps.asks e) = ap (λ (c : Asked). unit_of c.callee) e
 
   -- What is known of a run alone beside the whole run, where the last world of its own is `last`.
@@ -271,9 +271,9 @@ module _ (S : Type 0) (p : Program S) (pace : Words S) (file : FileTree) (layout
     heap_fits asked = let hp = heap_reached w last own e r.same.end s.memory asked in omega (arith, hp)
 
     -- the function ends
-    finish : (P : X → Type 0) (owed : ℕ) → Due f r.r ≤ owed → pending e ≡ 0 → ((call : Asked) (u : World) → e ≡ Stops (Asking call) u → ⊥) →
+    finish : (P : X → Type 0) (owed : ℕ) → Due f r.r ≤ owed → pending_calls e ≡ 0 → ((call : Asked) (u : World) → e ≡ Stops (Asking call) u → ⊥) →
         ((k : ℕ) (y : X) → Ends k a f below (outer_of last) y r.r → P y) →
-        Comes X turn see stack heap last.stack_need (heap_need last.memory) last.made (Spends owed most words w.left last.left P) x
+        EventuallyHolds X turn see stack heap last.stack_need (heap_need last.memory) last.made (Spends owed most words w.left last.left P) x
     finish P owed at_most none ends to =
         comes_map X turn see stack heap x stack_fits (heap_fits (λ call u is. absurd (ends call u is))) (Begins-same last.made) r.comes
         (λ n y took.
@@ -297,8 +297,8 @@ module _ (S : Type 0) (p : Program S) (pace : Words S) (file : FileTree) (layout
     -- the run stops in a callee
     onward : (call : Called) (u v : World) (P : X → Type 0) (owed : ℕ) → e ≡ Stops (Asking (asked_in last.memory (OfFunction call))) u → Later last v →
         ((b : Below) (y : X) → Entry b call.function call.below call.arguments last.memory (outer_of last) y →
-        Comes X turn see stack heap v.stack_need (heap_need v.memory) v.made (Spends owed most words last.left v.left P) y) →
-        Comes X turn see stack heap v.stack_need (heap_need v.memory) v.made (Spends owed most words w.left v.left P) x
+        EventuallyHolds X turn see stack heap v.stack_need (heap_need v.memory) v.made (Spends owed most words last.left v.left P) y) →
+        EventuallyHolds X turn see stack heap v.stack_need (heap_need v.memory) v.made (Spends owed most words w.left v.left P) x
     onward call u v P owed is later on =
         let st = stack_fits in
         let hp = heap_fits (λ c z ez. ap (λ (q : Asked). q.memory) (same_call ez is)) in
@@ -306,11 +306,11 @@ module _ (S : Type 0) (p : Program S) (pace : Words S) (file : FileTree) (layout
         let hp2 = extends_need later.onward.memory in
         comes_on X turn see stack heap x (omega (arith, st, st2)) (omega (arith, hp, hp2)) later.onward.calls r.comes
         (λ n y took.
-        let end : EndsAs S p (Stops (Asking (asked_in last.memory (OfFunction call))) u) r.r = subst (λ z. EndsAs S p z r.r) is r.same.end in
+        let end : ProgramEndsAs S p (Stops (Asking (asked_in last.memory (OfFunction call))) u) r.r = subst (λ z. ProgramEndsAs S p z r.r) is r.same.end in
         let at = asked_there took.spare f below a (outer_of last) y end took.at in
         let one : extra r.r ≡ 1 = extra_asked end in
         let none_due : Due f r.r ≤ 0 = due_asked f end in
-        let pend : pending e ≡ 1 = ap pending is in
+        let pend : pending_calls e ≡ 1 = ap pending_calls is in
         comes_map X turn see stack heap y (omega arith) (omega arith) (Begins-same v.made) (on at.0 y at.1)
         (λ d z spends.
         let no = took.no_more in
@@ -338,7 +338,7 @@ module _ (S : Type 0) (p : Program S) (pace : Words S) (file : FileTree) (layout
     unanswered_there : (row : External) (frame : Bool) (arguments : List Value) (made : Made) (u v : World) →
         e ≡ Stops (Asking (asked_in last.memory (OfOutside row frame arguments))) u → Later last v →
         outside (data_end file) layout row frame arguments last ≡ Stops (NoAnswer made) v →
-        Comes X turn see stack heap v.stack_need (heap_need v.memory) v.made
+        EventuallyHolds X turn see stack heap v.stack_need (heap_need v.memory) v.made
         (Spends 0 most words w.left v.left (λ (y : X). see y ≡ record { calls = v.made; end = machine.Asks made })) x
     unanswered_there row frame arguments made u v is later no_answer =
         let st = stack_fits in
@@ -349,7 +349,7 @@ module _ (S : Type 0) (p : Program S) (pace : Words S) (file : FileTree) (layout
         ∙ answered_left ((whole_calls_fit file layout).answers row frame arguments last) in
         comes_on X turn see stack heap x (omega (arith, st, st2)) (omega (arith, hp, hp2)) later.onward.calls r.comes
         (λ n y took.
-        let end : EndsAs S p (Stops (Asking (asked_in last.memory (OfOutside row frame arguments))) u) r.r = subst (λ z. EndsAs S p z r.r) is r.same.end in
+        let end : ProgramEndsAs S p (Stops (Asking (asked_in last.memory (OfOutside row frame arguments))) u) r.r = subst (λ z. ProgramEndsAs S p z r.r) is r.same.end in
         let at = asked_there took.spare f below a (outer_of last) y end took.at in
         comes_map X turn see stack heap y (omega arith) (omega arith) (Begins-same v.made) (at last refl refl made v no_answer)
         (λ d z near.

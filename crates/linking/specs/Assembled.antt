@@ -22,10 +22,10 @@ use Rattle.rv_machine.specs.Loading.{IsRoom}
 use Rattle.rv_machine.specs.Run.{Schedule, Seen, seen, begun}
 use Rattle.rv_machine.specs.Services.{Now}
 use Rattle.rv_machine.specs.Services as machine
-use Rattle.linking.specs.Program.{Program, place_in, IsRegular}
-use Rattle.linking.specs.Pace.{Words, GoesForward}
-use Rattle.linking.specs.Keeps.{Keeps, alone_in}
-use Rattle.linking.specs.Carries.{Outer, Comes, Near, Carries}
+use Rattle.linking.specs.Program.{Program, activation_in, IsRegularProgram}
+use Rattle.linking.specs.Pace.{Words, ProgramGoesForward}
+use Rattle.linking.specs.Keeps.{ProgramKeeps, alone_in}
+use Rattle.linking.specs.Carries.{Outer, EventuallyHolds, Near, Carries}
 
 -- ---- where a run begins and ends
 
@@ -34,14 +34,14 @@ pub record IsStub (X : Type 0) (next : X → X) (see : X → Seen) (stack heap :
     (end : ℕ) (result : Ret) (Back : Doing → Outer → X → Type 0) : Type 0 where
   pub returned : (v : Option Value) (memory : Memory) (o : Outer) (x : X) →
       FitsResult end result v → Back (Gave v memory) o x →
-      Comes X next see stack heap 0 0 o.made
+      EventuallyHolds X next see stack heap 0 0 o.made
       (Near 0 2 (λ y. see y ≡ record {
         calls = o.made;
         end = machine.Returned (option_map (observed layout) v);
       })) x
   pub raised : (v : Value) (memory : Memory) (o : Outer) (x : X) → fits end ty.Val v ≡ true →
       Back (Threw v memory) o x →
-      Comes X next see stack heap 0 0 o.made
+      EventuallyHolds X next see stack heap 0 0 o.made
       (Near 0 2 (λ y. see y ≡ record { calls = o.made; end = machine.Raised (observed layout v) }))
       x
 
@@ -52,12 +52,12 @@ module _ (IsGiven : List Value → Memory → Type 0) (IsDone : Doing → Type 0
   IsKnownAsked call = IsGiven call.arguments call.memory
 
   -- what a function did alone: its calls, and its end
-  abbrev pub IsKnown : Evaluation → Type 0
-  IsKnown (Gives v h w) = AllByRecursion IsKnownAsked w.asked × IsDone (Gave v w.memory)
-  IsKnown (Raises v h w) = AllByRecursion IsKnownAsked w.asked × IsDone (Threw v w.memory)
-  IsKnown (Stops (Asking call) w) = AllByRecursion IsKnownAsked w.asked × IsKnownAsked call
-  IsKnown (Stops OutOfFuel w) = AllByRecursion IsKnownAsked w.asked
-  IsKnown _ = Unit {0}
+  abbrev pub IsKnownEvaluation : Evaluation → Type 0
+  IsKnownEvaluation (Gives v h w) = AllByRecursion IsKnownAsked w.asked × IsDone (Gave v w.memory)
+  IsKnownEvaluation (Raises v h w) = AllByRecursion IsKnownAsked w.asked × IsDone (Threw v w.memory)
+  IsKnownEvaluation (Stops (Asking call) w) = AllByRecursion IsKnownAsked w.asked × IsKnownAsked call
+  IsKnownEvaluation (Stops OutOfFuel w) = AllByRecursion IsKnownAsked w.asked
+  IsKnownEvaluation _ = Unit {0}
 
   -- What is known of all that is handed to a function is known of what it hands to others and back:
   -- that it holds words, say. It is known of what an entry is handed, and of answers.
@@ -68,7 +68,7 @@ module _ (IsGiven : List Value → Memory → Type 0) (IsDone : Doing → Type 0
         fit_parameters (data_end file) (comps_of tree) arguments ≡ true → (below : ℕ)
         (memory : Memory) (doings : List Doing) (n : ℕ) → IsGiven arguments memory →
         AllByRecursion IsDone doings →
-        IsKnown (alone_in file (place_in file layout f below) tree arguments memory doings n)
+        IsKnownEvaluation (alone_in file (activation_in file layout f below) tree arguments memory doings n)
     pub nothing : (arguments : List Value) (memory : Memory) → IsGiven arguments memory →
         IsDone (Gave None memory)
     pub answer : (arguments : List Value) (memory : Memory) (a : ℕ) → IsGiven arguments memory →
@@ -94,11 +94,11 @@ module _ (S : Type 0) (p : Program S) (w : Words S) (most words : ℕ) (file : F
     pub rows : AreRowsOf (functions file) image.funcs
     pub words_fit : words + 1 ≤ length image.code
     -- each function does what the text says
-    pub keeps : Keeps S p file (layout_of image) most IsGiven IsDone
+    pub keeps : ProgramKeeps S p file (layout_of image) most IsGiven IsDone
     pub passed : IsPassedOn IsGiven IsDone file (layout_of image)
-    pub regular : IsRegular S p
+    pub regular : IsRegularProgram S p
     -- and takes no more instructions between two units than the code has words
-    pub forward : GoesForward S p w words
+    pub forward : ProgramGoesForward S p w words
     -- where the entry is begun, below it there is only the stub
     pub bottom : Below
     pub start : (run : Setup) (entry : ℕ) (args answers : List ℕ) (f : FunctionTree) →

@@ -16,7 +16,7 @@ use Rattle.mach_ir.specs.Runs.{kept_of, Step, Continues, Pays, Deepens, Waits, F
 use Rattle.rv_machine.specs.Run.{Seen}
 use Rattle.rv_machine.specs.Services.{Running, StackOut, HeapOut}
 use Rattle.rv_machine.specs.Services as machine
-use Rattle.linking.specs.Program.{Program, place_in}
+use Rattle.linking.specs.Program.{Program, activation_in}
 use Rattle.linking.specs.Pace.{Words, IsReached}
 
 -- What a run has with the outside: the calls that were made, and the answers that are left.
@@ -38,7 +38,7 @@ module _ (X : Type 0) (next : X → X) (see : X → Seen) (stack heap : ℕ) whe
         Out stack_need heap_need made x
 
   -- After some instructions this holds, or there was no room.
-  pub record Comes (stack_need heap_need : ℕ) (made : List Made) (P : ℕ → X → Type 0) (x : X)
+  pub record EventuallyHolds (stack_need heap_need : ℕ) (made : List Made) (P : ℕ → X → Type 0) (x : X)
       : Type 0 where
     pub count : ℕ
     pub at : P count (moments next count x) ⊎ Out stack_need heap_need made (moments next count x)
@@ -62,35 +62,35 @@ module _ (S : Type 0) (p : Program S) (w : Words S) (file : FileTree) (layout : 
     -- it has done so
     (Back : Below → Doing → Outer → X → Type 0) where
   -- where a step has come to that makes no call
-  abbrev pub IsAfter : Below → (f below : ℕ) → Step S → Outer → X → Type 0
-  IsAfter a f below (Continues u) o x = At a f below u o x
-  IsAfter a f below (Pays u) o x = At a f below u o x
-  IsAfter a f below (Deepens bytes u) o x = At a f below u o x
-  IsAfter a f below (Waits call go) o x = ⊥
-  IsAfter a f below (FinishesBy call kept) o x = ⊥
-  IsAfter a f below (Finishes d) o x = Back a d o x
-  IsAfter a f below (FinishesRaising d) o x = Back a d o x
-  IsAfter a f below IsStuck o x = Unit {0}
+  abbrev pub IsAfterStep : Below → (f below : ℕ) → Step S → Outer → X → Type 0
+  IsAfterStep a f below (Continues u) o x = At a f below u o x
+  IsAfterStep a f below (Pays u) o x = At a f below u o x
+  IsAfterStep a f below (Deepens bytes u) o x = At a f below u o x
+  IsAfterStep a f below (Waits call go) o x = ⊥
+  IsAfterStep a f below (FinishesBy call kept) o x = ⊥
+  IsAfterStep a f below (Finishes d) o x = Back a d o x
+  IsAfterStep a f below (FinishesRaising d) o x = Back a d o x
+  IsAfterStep a f below IsStuck o x = Unit {0}
 
   -- A callee begins above its caller, and whatever it does, the caller goes on after it.
   pub record CarriesCall (most : ℕ) (f below : ℕ) (a : Below) (callee : ℕ) (call : Asked)
       (go : Doing → Step S) (o : Outer) (x : X) : Type 0 where
     pub above : Below
-    pub enters : Comes X next see stack heap 0 0 o.made
+    pub enters : EventuallyHolds X next see stack heap 0 0 o.made
         (Near 1 most (Entry above callee call.below call.arguments call.memory o)) x
-    pub resumes : (d : Doing) (v : Outer) (y : X) → Back above d v y → IsAfter a f below (go d) v y
+    pub resumes : (d : Doing) (v : Outer) (y : X) → Back above d v y → IsAfterStep a f below (go d) v y
 
   -- What an external call does in the run of a text, the machine does.
   abbrev pub CarriesOutside : ℕ → (f below : ℕ) → Below → (Doing → Step S) → X → Evaluation →
       Type 0
   CarriesOutside most f below a go x (Gives v h u) =
-      Comes X next see stack heap 0 (heap_need u.memory) u.made
-      (Near 1 most (IsAfter a f below (go (Gave v u.memory)) (outer_of u))) x
+      EventuallyHolds X next see stack heap 0 (heap_need u.memory) u.made
+      (Near 1 most (IsAfterStep a f below (go (Gave v u.memory)) (outer_of u))) x
   CarriesOutside most f below a go x (Raises v h u) =
-      Comes X next see stack heap 0 (heap_need u.memory) u.made
-      (Near 1 most (IsAfter a f below (go (Threw v u.memory)) (outer_of u))) x
+      EventuallyHolds X next see stack heap 0 (heap_need u.memory) u.made
+      (Near 1 most (IsAfterStep a f below (go (Threw v u.memory)) (outer_of u))) x
   CarriesOutside most f below a go x (Stops (NoAnswer call) u) =
-      Comes X next see stack heap 0 (heap_need u.memory) u.made
+      EventuallyHolds X next see stack heap 0 (heap_need u.memory) u.made
       (Near 0 most (λ y. see y ≡ record { calls = u.made; end = machine.Asks call })) x
   CarriesOutside most f below a go x _ = Unit {0}
 
@@ -105,7 +105,7 @@ module _ (S : Type 0) (p : Program S) (w : Words S) (file : FileTree) (layout : 
   -- a call that takes the function's place begins where the function began
   abbrev pub CarriesTail : ℕ → Below → Asked → Callee → Outer → X → Type 0
   CarriesTail most a call (Inside callee) o x =
-      Comes X next see stack heap 0 0 o.made
+      EventuallyHolds X next see stack heap 0 0 o.made
       (Near 1 most (Entry a callee call.below call.arguments call.memory o)) x
   CarriesTail most a call (Outside row frame) o x = ⊥
 
@@ -113,38 +113,38 @@ module _ (S : Type 0) (p : Program S) (w : Words S) (file : FileTree) (layout : 
   -- where the step leads.
   abbrev pub CarriesStep : (owed most : ℕ) → (f below : ℕ) → Below → Step S → Outer → X → Type 0
   CarriesStep owed most f below a (Continues u) o x =
-      Comes X next see stack heap (p.stack (place_in file layout f below) u) (p.heap u) o.made
+      EventuallyHolds X next see stack heap (p.stack (activation_in file layout f below) u) (p.heap u) o.made
       (Near (owed - w.owed f u) most (At a f below u o)) x
   CarriesStep owed most f below a (Pays u) o x =
-      Comes X next see stack heap (p.stack (place_in file layout f below) u) (p.heap u) o.made
+      EventuallyHolds X next see stack heap (p.stack (activation_in file layout f below) u) (p.heap u) o.made
       (Near (suc owed - w.owed f u) most (At a f below u o)) x
   CarriesStep owed most f below a (Deepens bytes u) o x =
-      Comes X next see stack heap (p.stack (place_in file layout f below) u) (p.heap u) o.made
+      EventuallyHolds X next see stack heap (p.stack (activation_in file layout f below) u) (p.heap u) o.made
       (Near (owed - w.owed f u) most (At a f below u o)) x
   CarriesStep owed most f below a (Waits call go) o x =
       (owed ≡ 0) × CarriesAsked most f below a call go call.callee o x
   CarriesStep owed most f below a (FinishesBy call kept) o x =
       (owed ≡ 0) × CarriesTail most a call call.callee o x
   CarriesStep owed most f below a (Finishes d) o x =
-      (owed ≡ 0) × Comes X next see stack heap 0 0 o.made (Near 0 most (Back a d o)) x
+      (owed ≡ 0) × EventuallyHolds X next see stack heap 0 0 o.made (Near 0 most (Back a d o)) x
   CarriesStep owed most f below a (FinishesRaising d) o x =
-      (owed ≡ 0) × Comes X next see stack heap 0 0 o.made (Near 1 most (Back a d o)) x
+      (owed ≡ 0) × EventuallyHolds X next see stack heap 0 0 o.made (Near 1 most (Back a d o)) x
   CarriesStep owed most f below a IsStuck o x = Unit {0}
 
   -- What is shown of the machine for each step of the program, and for each entry.
   pub record Carries : Type 0 where
     pub steps : (a : Below) (f below : ℕ) (s : S) (o : Outer) (x : X) →
-        IsReached S p f (place_in file layout f below) s → At a f below s o x →
+        IsReached S p f (activation_in file layout f below) s → At a f below s o x →
         CarriesStep (w.owed f s) (w.cost f s) f below a
-        (p.step f (place_in file layout f below) s) o x
+        (p.step f (activation_in file layout f below) s) o x
     -- what took a function's place leaves less
     pub kept : (a : Below) (kept : Ret) (d : Doing) (o : Outer) (x : X) → Back a d o x →
         Back a (kept_of kept d) o x
     -- a function begins where its frame fits
     pub enters : (a : Below) (f below : ℕ) (arguments : List Value) (memory : Memory) (s : S)
-        (o : Outer) (x : X) → p.start f (place_in file layout f below) arguments memory ≡ Some s →
+        (o : Outer) (x : X) → p.start f (activation_in file layout f below) arguments memory ≡ Some s →
         Entry a f below arguments memory o x →
-        Comes X next see stack heap (p.stack (place_in file layout f below) s) (p.heap s) o.made
+        EventuallyHolds X next see stack heap (p.stack (activation_in file layout f below) s) (p.heap s) o.made
         (Near 0 (w.entry f) (At a f below s o)) x
     pub runs : (a : Below) (f below : ℕ) (s : S) (o : Outer) (x : X) → At a f below s o x →
         see x ≡ record { calls = o.made; end = Running }
@@ -165,19 +165,19 @@ pub record Spends {X : Type 0} (owed most words n left : ℕ) (P : X → Type 0)
 module _ (X : Type 0) (next : X → X) (see : X → Seen) (stack heap most words : ℕ)
     (Back : Doing → Outer → X → Type 0) where
   -- the machine does what a call of a function does in the whole run
-  abbrev pub Does : World → X → Evaluation → Type 0
-  Does w x (Gives v h u) =
-      Comes X next see stack heap u.stack_need (heap_need u.memory) u.made
+  abbrev pub DoesCall : World → X → Evaluation → Type 0
+  DoesCall w x (Gives v h u) =
+      EventuallyHolds X next see stack heap u.stack_need (heap_need u.memory) u.made
       (Spends 0 most words w.left u.left (Back (Gave v u.memory) (outer_of u))) x
-  Does w x (Raises v h u) =
-      Comes X next see stack heap u.stack_need (heap_need u.memory) u.made
+  DoesCall w x (Raises v h u) =
+      EventuallyHolds X next see stack heap u.stack_need (heap_need u.memory) u.made
       (Spends 0 most words w.left u.left (Back (Threw v u.memory) (outer_of u))) x
-  Does w x (Stops OutOfFuel u) =
-      Comes X next see stack heap u.stack_need (heap_need u.memory) u.made
+  DoesCall w x (Stops OutOfFuel u) =
+      EventuallyHolds X next see stack heap u.stack_need (heap_need u.memory) u.made
       (Spends 1 most words w.left u.left
       (λ (y : X). see y ≡ record { calls = u.made; end = Running })) x
-  Does w x (Stops (NoAnswer call) u) =
-      Comes X next see stack heap u.stack_need (heap_need u.memory) u.made
+  DoesCall w x (Stops (NoAnswer call) u) =
+      EventuallyHolds X next see stack heap u.stack_need (heap_need u.memory) u.made
       (Spends 0 most words w.left u.left
       (λ (y : X). see y ≡ record { calls = u.made; end = machine.Asks call })) x
-  Does w x _ = Unit {0}
+  DoesCall w x _ = Unit {0}

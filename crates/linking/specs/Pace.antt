@@ -4,7 +4,7 @@ use Rattle.std.specs.Prelude.{◌≡◌, ℕ, ◌+◌, ◌-◌, ◌≤◌, List,
 use Rattle.bs_words.specs.Memory.{Memory}
 use Rattle.bs_words.specs.declared.values.Value.{Value}
 use Rattle.cmm_meaning.specs.State.{Doing, Asked, Callee, Inside, Outside}
-use Rattle.mach_ir.specs.Runs.{Place, Step, Continues, Pays, Deepens, Waits, FinishesBy, Finishes, FinishesRaising, IsStuck}
+use Rattle.mach_ir.specs.Runs.{ActivationSetting, Step, Continues, Pays, Deepens, Waits, FinishesBy, Finishes, FinishesRaising, IsStuck}
 use Rattle.linking.specs.Program.{Program}
 
 -- How many instructions are taken where a function is, by its number.
@@ -38,25 +38,25 @@ module _ (S : Type 0) (words : ℕ) (ahead : S → ℕ) where
   StepForward left IsStuck = Unit {0}
 
 -- where a step may lead, at once or after calls
-pub data LeadsTo (S : Type 0) (u : S) : Step S → Type 0 where
-  continues : LeadsTo S u (Continues u)
-  pays : LeadsTo S u (Pays u)
-  deepens : {bytes : ℕ} → LeadsTo S u (Deepens bytes u)
-  behind : {call : Asked} {go : Doing → Step S} (d : Doing) → LeadsTo S u (go d) → LeadsTo S u (Waits call go)
+pub data StepLeadsTo (S : Type 0) (u : S) : Step S → Type 0 where
+  continues : StepLeadsTo S u (Continues u)
+  pays : StepLeadsTo S u (Pays u)
+  deepens : {bytes : ℕ} → StepLeadsTo S u (Deepens bytes u)
+  behind : {call : Asked} {go : Doing → Step S} (d : Doing) → StepLeadsTo S u (go d) → StepLeadsTo S u (Waits call go)
 
 -- a state that some run of a function comes to
-pub data IsReached (S : Type 0) (p : Program S) (f : ℕ) (c : Place) : S → Type 0 where
+pub data IsReached (S : Type 0) (p : Program S) (f : ℕ) (c : ActivationSetting) : S → Type 0 where
   at_start : {arguments : List Value} {memory : Memory} {s : S} →
       p.start f c arguments memory ≡ Some s → IsReached S p f c s
-  by_step : {s u : S} → IsReached S p f c s → LeadsTo S u (p.step f c s) → IsReached S p f c u
+  by_step : {s u : S} → IsReached S p f c s → StepLeadsTo S u (p.step f c s) → IsReached S p f c u
 
 -- From every state that a run comes to control goes forward, but by a unit: the words that are
 -- still ahead are at least those of the step and those ahead of where it leads.
-pub record GoesForward (S : Type 0) (p : Program S) (w : Words S) (words : ℕ) : Type 0 where
-  pub enter : (f : ℕ) (c : Place) (arguments : List Value) (memory : Memory) (s : S) →
+pub record ProgramGoesForward (S : Type 0) (p : Program S) (w : Words S) (words : ℕ) : Type 0 where
+  pub enter : (f : ℕ) (c : ActivationSetting) (arguments : List Value) (memory : Memory) (s : S) →
       p.start f c arguments memory ≡ Some s → w.entry f + w.ahead f s ≤ words
-  pub cost : (f : ℕ) (c : Place) (s : S) → IsReached S p f c s → w.cost f s ≤ w.ahead f s
+  pub cost : (f : ℕ) (c : ActivationSetting) (s : S) → IsReached S p f c s → w.cost f s ≤ w.ahead f s
   -- at most one unit is owed
   pub owed : (f : ℕ) (s : S) → w.owed f s ≤ 1
-  pub on : (f : ℕ) (c : Place) (s : S) → IsReached S p f c s →
+  pub on : (f : ℕ) (c : ActivationSetting) (s : S) → IsReached S p f c s →
       StepForward S words (w.ahead f) (w.ahead f s - w.cost f s) (p.step f c s)

@@ -7,15 +7,15 @@ use Rattle.cmm_tree.specs.Tree.{FileTree, functions, comps_of}
 use Rattle.cmm_meaning.specs.Layout.{Layout}
 use Rattle.cmm_meaning.specs.Setting.{Setting}
 use Rattle.cmm_meaning.specs.State.{Doing, Callee, Inside, Outside}
-use Rattle.mach_ir.specs.Runs.{Place, Step, Continues, Pays, Deepens, Waits, FinishesBy, Finishes, FinishesRaising, IsStuck, Tally, Run, Running, Asking, Ended, Wrong}
+use Rattle.mach_ir.specs.Runs.{ActivationSetting, Step, Continues, Pays, Deepens, Waits, FinishesBy, Finishes, FinishesRaising, IsStuck, Tally, RunProgress, Running, Asking, Ended, Wrong}
 use Rattle.meaning_laws.specs.Fitting.{memory_after}
 
 pub record Program (S : Type 0) : Type 0 where
   -- where a function, by its number, begins on these arguments; where they do not fit it does not
-  pub start : ℕ → Place → List Value → Memory → Option S
-  pub step : ℕ → Place → S → Step S
+  pub start : ℕ → ActivationSetting → List Value → Memory → Option S
+  pub step : ℕ → ActivationSetting → S → Step S
   -- the bytes of stack that are in use, and of heap
-  pub stack : Place → S → ℕ
+  pub stack : ActivationSetting → S → ℕ
   pub heap : S → ℕ
 
 abbrev pub setting_in : FileTree → Setting
@@ -27,20 +27,20 @@ setting_in file =
     }
 
 -- what is round a function of a file, on so many stack bytes
-abbrev pub place_in : FileTree → Layout → (f below : ℕ) → Place
-place_in file layout f below =
+abbrev pub activation_in : FileTree → Layout → (f below : ℕ) → ActivationSetting
+activation_in file layout f below =
     record { setting = setting_in file; below = below; frame = slice_index layout.frames f }
 
 -- ---- what a run reports
 
-abbrev pub tally_of : {S : Type 0} → Run S → Tally
+abbrev pub tally_of : {S : Type 0} → RunProgress S → Tally
 tally_of (Running s t) = t
 tally_of (Asking call t) = t
 tally_of (Ended d t) = t
 tally_of Wrong = record { asked = []; doings = []; units = 0; need = 0 }
 
 -- it is not stuck
-abbrev pub IsMoving : {S : Type 0} → Run S → Type 0
+abbrev pub IsMoving : {S : Type 0} → RunProgress S → Type 0
 IsMoving (Running s t) = Unit {0}
 IsMoving (Asking call t) = Unit {0}
 IsMoving (Ended d t) = Unit {0}
@@ -59,7 +59,7 @@ paid_by (Pays u) = 1
 paid_by (FinishesRaising d) = 1
 paid_by _ = 0
 
-module _ (S : Type 0) (p : Program S) (c : Place) where
+module _ (S : Type 0) (p : Program S) (c : ActivationSetting) where
   -- A step from where so many bytes of stack and of heap are in use leads to no more stack than it
   -- says, and to no less heap. Behind a call of a function, which is a unit, it pays none.
   abbrev pub IsRegularStep : (stack heap : ℕ) → Step S → Type 0
@@ -78,8 +78,8 @@ module _ (S : Type 0) (p : Program S) (c : Place) where
   IsRegularStep stack heap IsStuck = Unit {0}
 
 -- The needs of a program are what its tallies and its memories say.
-pub record IsRegular (S : Type 0) (p : Program S) : Type 0 where
-  pub start : (f : ℕ) (c : Place) (arguments : List Value) (memory : Memory) (s : S) →
+pub record IsRegularProgram (S : Type 0) (p : Program S) : Type 0 where
+  pub start : (f : ℕ) (c : ActivationSetting) (arguments : List Value) (memory : Memory) (s : S) →
       p.start f c arguments memory ≡ Some s → p.stack c s ≤ c.below + c.frame
-  pub step : (f : ℕ) (c : Place) (s : S) →
+  pub step : (f : ℕ) (c : ActivationSetting) (s : S) →
       IsRegularStep S p c (p.stack c s) (p.heap s) (p.step f c s)

@@ -25,7 +25,7 @@ use Rattle.lin_ir.specs.declared.lin.Lin.{Lin}
 use Rattle.lin_ir.specs.declared.lin.Line.{Line}
 use Rattle.mach_ir.specs.Runs.{Step}
 use Rattle.machine_laws.specs.Steps.{moments, IsFrontOf}
-use Rattle.meaning_laws.specs.Units.{world_of, Begins}
+use Rattle.meaning_laws.specs.Units.{world_of, IsPrefixOf}
 use Rattle.meaning_laws.proofs.LinksWhole.{whole_calls_fit}
 use Rattle.meaning_laws.proofs.Units.{answered_later, Begins-same}
 use Rattle.moving_laws.specs.Values.{HasFunctions}
@@ -39,18 +39,18 @@ use Rattle.rv_machine.specs.Services as machine
 use Rattle.rv_machine.specs.Sound.{IsStackBase}
 use Rattle.linear_machine.specs.Arrival.{Gone}
 use Rattle.linear_machine.specs.Follows as follows
-use Rattle.linear_machine.specs.Outside.{Taken, taken_of, counted, GoesOn, IsAsking}
+use Rattle.linear_machine.specs.Outside.{Taken, taken_of, counted_call, GoesOn, IsAsking}
 use Rattle.emit_rules.specs.Calls.{external_service}
 use Rattle.linear_machine.specs.Relation.{Below, Laid}
-use Rattle.linear_machine.specs.View.{Fixed, View, Stands}
+use Rattle.linear_machine.specs.View.{Fixed, View, HasView}
 use Rattle.linear_machine.proofs.Steps.{ready, ready_stands, one_step, other_number}
 use Rattle.linking.specs.Assembled.{Setup}
-use Rattle.linking.specs.Carries.{Outer, outer_of, Out, no_stack, no_heap, Comes, Near, CarriesOutside}
+use Rattle.linking.specs.Carries.{Outer, outer_of, Out, no_stack, no_heap, EventuallyHolds, Near, CarriesOutside}
 use Rattle.linking.specs.Pace.{Words}
 use Rattle.linking.proofs.Coming.{comes_on, comes_map}
 use Rattle.linking_stages.specs.Stages.{linear_program}
 use Rattle.line_calls.specs.Calls.{IsInTable}
-use Rattle.linking_machine.specs.Emitted.{IsEmitted}
+use Rattle.linking_machine.specs.Emitted.{IsImageEmitted}
 use Rattle.linking_machine.specs.Standing.{Shows}
 use Rattle.linking_machine.proofs.Carrying.{values_shown, words_all, fixed, at_, entry_, back_, After, after_shows, comes_free}
 
@@ -62,7 +62,7 @@ module _ (file : FileTree) (image : Tables) (lins : ℕ → Lin) (named : ℕ �
     (w : Words State) (laid : ℕ → Laid) (entry : ℕ → ℕ) (live : ℕ → List Line → Type 0)
     (has : HasFunctions image)
     (bases : (stack : ℕ) → IsRoom stack → IsStackBase (stack_bottom - stack))
-    (emitted : IsEmitted file image lins named w laid entry live has bases) (run : Setup) where
+    (emitted : IsImageEmitted file image lins named w laid entry live has bases) (run : Setup) where
   abbrev s : Fixed
   s = fixed file image lins named w laid entry live has bases emitted run
 
@@ -85,7 +85,7 @@ module _ (file : FileTree) (image : Tables) (lins : ℕ → Lin) (named : ℕ �
     abbrev There : Bool → Type 0
     There frame = Shows s (outer_of v) (IsThere frame) y
 
-    counted_is : counted s row arguments ≡ call
+    counted_is : counted_call s row arguments ≡ call
     counted_is = ap (λ shown. record { name = row.name; shown = shown }) (values_shown image arguments known)
 
     moved : (frame : Bool) (sh : There frame) (k : ℕ) (z : Now) → guarded_after run.schedule k (Going sh.machine) ≡ z → moments (guarded_of run.schedule) k y ≡ z
@@ -93,7 +93,7 @@ module _ (file : FileTree) (image : Tables) (lins : ℕ → Lin) (named : ℕ �
 
     -- the call is answered
     goes_after : (frame : Bool) (sh : There frame) (t : Taken) → taken_of frame v.memory row.result sh.view.answers ≡ Some t → AreWords t.answers →
-        Comes Now (guarded_of run.schedule) seen run.stack run.heap 0 (heap_need v.memory) (v.made ++ call ∷ [])
+        EventuallyHolds Now (guarded_of run.schedule) seen run.stack run.heap 0 (heap_need v.memory) (v.made ++ call ∷ [])
         (Near 1 1 (After file image lins named w laid entry live has bases emitted run c f below (go t.doing)
         (record { made = v.made ++ call ∷ []; answers = t.answers }))) y
     goes_after frame sh t is words =
@@ -101,9 +101,9 @@ module _ (file : FileTree) (image : Tables) (lins : ℕ → Lin) (named : ℕ �
         by (ask.goes sh.machine t sh.stands (subst (λ answers. (i : ℕ) → slice_index answers i < 0x10000000000000000) (sym sh.answers)
         (words_all v.answers sh.words)) is)
       where
-        by : GoesOn s sh.machine (sh.view.calls ++ counted s row arguments ∷ []) t.answers (λ z. follows.IsAfter s (laid f) (live f) c (go t.doing) z)
+        by : GoesOn s sh.machine (sh.view.calls ++ counted_call s row arguments ∷ []) t.answers (λ z. follows.IsAfter s (laid f) (live f) c (go t.doing) z)
             ⊎ Gone s (record { top = s.base; stack = 0; heap = heap_need v.memory }) sh.view sh.machine →
-            Comes Now (guarded_of run.schedule) seen run.stack run.heap 0 (heap_need v.memory) (v.made ++ call ∷ [])
+            EventuallyHolds Now (guarded_of run.schedule) seen run.stack run.heap 0 (heap_need v.memory) (v.made ++ call ∷ [])
             (Near 1 1 (After file image lins named w laid entry live has bases emitted run c f below (go t.doing)
             (record { made = v.made ++ call ∷ []; answers = t.answers }))) y
         by (inl g) =
@@ -118,7 +118,7 @@ module _ (file : FileTree) (image : Tables) (lins : ℕ → Lin) (named : ℕ �
                       is = moved frame sh 1 (Going g.machine) (g.by 1 0 (omega arith));
                       view = g.view;
                       stands = g.stands;
-                      calls = g.calls_are ∙ ap (λ l. l ++ counted s row arguments ∷ []) sh.calls ∙ ap (λ m. v.made ++ m ∷ []) counted_is;
+                      calls = g.calls_are ∙ ap (λ l. l ++ counted_call s row arguments ∷ []) sh.calls ∙ ap (λ m. v.made ++ m ∷ []) counted_is;
                       answers = g.answers_are;
                       words = words;
                       holds = g.holds;
@@ -140,7 +140,7 @@ module _ (file : FileTree) (image : Tables) (lins : ℕ → Lin) (named : ℕ �
       abbrev r : Machine
       r = ready s sh.machine
 
-      r_stands : Stands s r sh.view
+      r_stands : HasView s r sh.view
       r_stands = ready_stands s sh.machine sh.view sh.stands
 
       to_service : guarded_after run.schedule 1 (Going sh.machine) ≡ served run.schedule.plan (external_service frame) r
@@ -158,7 +158,7 @@ module _ (file : FileTree) (image : Tables) (lins : ℕ → Lin) (named : ℕ �
           ∙ ap (λ xs. slice_get image.extcs (slice_index xs 5)) r_stands.registers ∙ ask.there
 
       wants : guarded_after run.schedule 1 (Going sh.machine) ≡ Over r.calls (machine.Asks (call_made (sh.holds).ext r.hart)) →
-          Comes Now (guarded_of run.schedule) seen run.stack run.heap 0 (heap_need v.memory) v.made
+          EventuallyHolds Now (guarded_of run.schedule) seen run.stack run.heap 0 (heap_need v.memory) v.made
           (Near 0 1 (λ z. seen z ≡ record { calls = v.made; end = machine.Asks call })) y
       wants over =
           let ask = sh.holds in
@@ -181,11 +181,11 @@ module _ (file : FileTree) (image : Tables) (lins : ℕ → Lin) (named : ℕ �
           let gone : r.answers ≡ [] = r_stands.answers ∙ sh.answers ∙ none in
           to_service ∙ ap (λ b. served run.schedule.plan (external_service b) r) is
           ∙ ap (λ o. external o r) ext_there
-          ∙ ap (λ q. machine.answered q (call_made ask.ext r.hart) r.answers r) (ask.result ∙ result)
-          ∙ ap (λ l. machine.answered (ret.Comp t) (call_made ask.ext r.hart) l r) gone
+          ∙ ap (λ q. machine.machine_answered q (call_made ask.ext r.hart) r.answers r) (ask.result ∙ result)
+          ∙ ap (λ l. machine.machine_answered (ret.Comp t) (call_made ask.ext r.hart) l r) gone
 
       frame_asks : frame ≡ true → (l : List ℕ) → v.answers ≡ l →
-          machine.frame_answered (run.schedule.plan r.hart.services) (sh.holds).ext.result (call_made (sh.holds).ext r.hart) l r ≡ Over r.calls
+          machine.machine_frame_answered (run.schedule.plan r.hart.services) (sh.holds).ext.result (call_made (sh.holds).ext r.hart) l r ≡ Over r.calls
           (machine.Asks (call_made (sh.holds).ext r.hart)) →
           guarded_after run.schedule 1 (Going sh.machine) ≡ Over r.calls (machine.Asks (call_made (sh.holds).ext r.hart))
       frame_asks is l few over =
@@ -193,7 +193,7 @@ module _ (file : FileTree) (image : Tables) (lins : ℕ → Lin) (named : ℕ �
           let gone : r.answers ≡ l = r_stands.answers ∙ sh.answers ∙ few in
           to_service ∙ ap (λ b. served run.schedule.plan (external_service b) r) is
           ∙ ap (λ o. frame_call (run.schedule.plan r.hart.services) o r) ext_there
-          ∙ ap (λ l. machine.frame_answered (run.schedule.plan r.hart.services) ask.ext.result (call_made ask.ext r.hart) l r) gone ∙ over
+          ∙ ap (λ l. machine.machine_frame_answered (run.schedule.plan r.hart.services) ask.ext.result (call_made ask.ext r.hart) l r) gone ∙ over
 
     -- ---- the two kinds of calls
 
@@ -238,8 +238,8 @@ module _ (file : FileTree) (image : Tables) (lins : ℕ → Lin) (named : ℕ �
   -- ---- from the line on
 
   two_stages : (most n f below : ℕ) (c : Below) (go : Doing → Step State) (o : Outer) (x : Now) → n + 1 ≤ most → (e : Evaluation) →
-      Begins o.made (world_of e).made →
-      Comes Now (guarded_of run.schedule) seen run.stack run.heap 0 0 o.made (Near 0 n (λ z. OutsideIt 1 f below c go z e)) x → OutsideIt most f below c go x e
+      IsPrefixOf o.made (world_of e).made →
+      EventuallyHolds Now (guarded_of run.schedule) seen run.stack run.heap 0 0 o.made (Near 0 n (λ z. OutsideIt 1 f below c go z e)) x → OutsideIt most f below c go x e
   two_stages most n f below c go o x room (Gives v h u) begins comes =
       comes_on Now (guarded_of run.schedule) seen run.stack run.heap x (omega arith) (omega arith) begins comes
       (λ i z near.
@@ -271,7 +271,7 @@ module _ (file : FileTree) (image : Tables) (lins : ℕ → Lin) (named : ℕ �
   outside_carried most n f below c lies asked go row frame room known o x sh comes v em eo =
       let e : Evaluation = outside (data_end file) (layout_of image) row frame asked.arguments v in
       let later = answered_later ((whole_calls_fit file (layout_of image)).answers row frame asked.arguments v) in
-      let begins : Begins o.made (world_of e).made = subst (λ (q : Outer). Begins q.made (world_of e).made) eo later.onward.calls in
+      let begins : IsPrefixOf o.made (world_of e).made = subst (λ (q : Outer). IsPrefixOf q.made (world_of e).made) eo later.onward.calls in
       two_stages most n f below c go o x room e begins
       (comes_free file image lins named w laid entry live has bases emitted run n o x (omega arith) sh comes
       (λ z there.

@@ -14,12 +14,12 @@ use Rattle.cmm_meaning.specs.State.{Doing, Gave, Threw, Asked, Callee, Inside, O
 use Rattle.correctness.specs.Setting.{layout_of, AreWords}
 use Rattle.guarded_machine.specs.Guarded.{guarded_after, guarded_of}
 use Rattle.image_form.specs.Tables.{Tables, Func}
-use Rattle.lin_ir.specs.Meaning.{Locations, NamedAt, State, lin_act, wrote, on_act, unless_misnamed, on_values, at_code, put_all, code_at, clear, destroyed_by, past_frame, passes_frame, are_vals, values}
+use Rattle.lin_ir.specs.Meaning.{Locations, NamedAt, State, lin_act, wrote, on_act, unless_misnamed, on_values, at_code, put_all, code_at, clear_destroyed, destroyed_by, past_frame, passes_frame, are_vals, values}
 use Rattle.lin_ir.specs.declared.lin.Lin.{Lin}
 use Rattle.lin_ir.specs.declared.lin.Line.{Line}
 use Rattle.bs_words.specs.declared.types.Loc.{Loc}
 use Rattle.mach_ir.specs.Acts.{Around, Act, Goes, Pushes, Jumps, Unwinds, Asks, Replaces, Ends, EndsRaising, Stuck}
-use Rattle.mach_ir.specs.Runs.{Place, taken, bytes_below, kept_of, Step, Continues, Pays, Deepens, Waits, FinishesBy, Finishes, FinishesRaising, IsStuck}
+use Rattle.mach_ir.specs.Runs.{ActivationSetting, stack_in_use, bytes_below, kept_of, Step, Continues, Pays, Deepens, Waits, FinishesBy, Finishes, FinishesRaising, IsStuck}
 use Rattle.machine_laws.specs.Steps.{moments}
 use Rattle.moving_laws.specs.Values.{HasFunctions, function_at}
 use Rattle.rv_machine.specs.Loading.{IsRoom}
@@ -29,35 +29,35 @@ use Rattle.rv_machine.specs.Run.{seen}
 use Rattle.rv_machine.specs.Services.{Machine, Now, Going, Over}
 use Rattle.rv_machine.specs.Services as machine
 use Rattle.rv_machine.specs.Sound.{AllWords, IsStackBase}
-use Rattle.linear_machine.specs.Arrival.{Needs, nothing, ArrivalIn, Gone, ArrivesIn}
+use Rattle.linear_machine.specs.Arrival.{Needs, needs_nothing, ArrivalIn, Gone, ArrivesIn}
 use Rattle.linear_machine.specs.Follows.{IsAt, used, needs_of, FollowsCall, FollowsTail}
 use Rattle.linear_machine.specs.Follows as follows
-use Rattle.linear_machine.specs.Outside.{shown}
+use Rattle.linear_machine.specs.Outside.{observed_argument}
 use Rattle.linear_machine.specs.Relation.{Below, Laid}
 use Rattle.linear_machine.specs.View.{Fixed, View}
 use Rattle.linking.specs.Assembled.{Setup}
-use Rattle.linking.specs.Carries.{Outer, Out, no_stack, no_heap, Comes, Near, IsAfter, CarriesCall, CarriesTail, CarriesStep}
+use Rattle.linking.specs.Carries.{Outer, Out, no_stack, no_heap, EventuallyHolds, Near, IsAfterStep, CarriesCall, CarriesTail, CarriesStep}
 use Rattle.linking.specs.Pace.{Words}
-use Rattle.linking.specs.Program.{place_in}
+use Rattle.linking.specs.Program.{activation_in}
 use Rattle.linking_stages.specs.Stages.{linear_program}
 use Rattle.line_calls.specs.Calls.{IsInTable}
-use Rattle.linking_machine.specs.Emitted.{IsEmitted}
+use Rattle.linking_machine.specs.Emitted.{IsImageEmitted}
 use Rattle.linking_machine.specs.Standing.{Shows, fixed_of, At, Entry, Back}
 
 -- ---- what is where a call is asked
 
-abbrev pub AskedSo : Place → ℕ → Around → Step State → Type 0
+abbrev pub AskedSo : ActivationSetting → ℕ → Around → Step State → Type 0
 AskedSo c n a (Waits call go) = call.below ≡ bytes_below call.callee false c a
 AskedSo c n a (FinishesBy call kept) = call.below ≡ bytes_below call.callee true c a
 AskedSo c n a _ = Unit {0}
 
-wrote_asked : (c : Place) (n : ℕ) (b a : Around) (rest : List Line) (o : Option Locations) → AskedSo c n b (wrote rest a o)
+wrote_asked : (c : ActivationSetting) (n : ℕ) (b a : Around) (rest : List Line) (o : Option Locations) → AskedSo c n b (wrote rest a o)
 wrote_asked c n b a rest None = tt
 wrote_asked c n b a rest (Some f) = tt
 
-act_asked : (c : Place) (m : Lin) (i : Line) (next : List Line) (f : Locations) (a : Around) (x : Act) → AskedSo c 0 a (on_act c m i next f a x)
+act_asked : (c : ActivationSetting) (m : Lin) (i : Line) (next : List Line) (f : Locations) (a : Around) (x : Act) → AskedSo c 0 a (on_act c m i next f a x)
 act_asked c m i next f a (Goes vs to after) = wrote_asked c 0 a after (code_at m.code next to)
-    (put_all c.setting.end i.results vs (clear (destroyed_by i.op) f))
+    (put_all c.setting.end i.results vs (clear_destroyed (destroyed_by i.op) f))
 act_asked c m i next f a (Pushes after) = tt
 act_asked c m i next f a (Jumps to after) = tt
 act_asked c m i next f a (Unwinds after) = tt
@@ -67,18 +67,18 @@ act_asked c m i next f a (Ends d) = tt
 act_asked c m i next f a (EndsRaising d) = tt
 act_asked c m i next f a Stuck = tt
 
-misnamed_asked : (c : Place) (a : Around) (b : Bool) (x : Step State) → AskedSo c 0 a x → AskedSo c 0 a (unless_misnamed b x)
+misnamed_asked : (c : ActivationSetting) (a : Around) (b : Bool) (x : Step State) → AskedSo c 0 a x → AskedSo c 0 a (unless_misnamed b x)
 misnamed_asked c a true x s = s
 misnamed_asked c a false x s = tt
 
-values_asked : (c : Place) (names : List Loc) (m : Lin) (i : Line) (next : List Line) (f : Locations) (a : Around) (o : Option (List Value)) →
+values_asked : (c : ActivationSetting) (names : List Loc) (m : Lin) (i : Line) (next : List Line) (f : Locations) (a : Around) (o : Option (List Value)) →
     AskedSo c 0 a (on_values c names m i next f a o)
 values_asked c names m i next f a None = tt
 values_asked c names m i next f a (Some vs) =
     misnamed_asked c a (not (passes_frame i.op) || are_vals c.setting.end names f) _
     (act_asked c m i next (past_frame (passes_frame i.op) names f) a (lin_act c.setting i.op vs a))
 
-pub code_asked : (c : Place) (named : NamedAt) (m : Lin) (rest : List Line) (f : Locations) (a : Around) → AskedSo c 0 a (at_code c named m rest f a)
+pub code_asked : (c : ActivationSetting) (named : NamedAt) (m : Lin) (rest : List Line) (f : Locations) (a : Around) → AskedSo c 0 a (at_code c named m rest f a)
 code_asked c named m [] f a = tt
 code_asked c named m (i ∷ next) f a = values_asked c (named (length next)) m i next f a (values c.setting.end f i.args)
 
@@ -89,14 +89,14 @@ function_shown [] f l = absurd (omega (arith, l))
 function_shown (row ∷ funcs) zero l = refl
 function_shown (row ∷ funcs) (suc f) l = function_shown funcs f (omega (arith, l))
 
-value_shown : (image : Tables) (v : Value) → IsInTable image v → shown image v ≡ observed (layout_of image) v
+value_shown : (image : Tables) (v : Value) → IsInTable image v → observed_argument image v ≡ observed (layout_of image) v
 value_shown image (Word w) l = refl
 value_shown image (Block serial offset) l = refl
 value_shown image (Function f) l = ap obs.Word (function_shown image.funcs f l)
 
-pub values_shown : (image : Tables) (vs : List Value) → AllByRecursion (IsInTable image) vs → map (shown image) vs ≡ map (observed (layout_of image)) vs
+pub values_shown : (image : Tables) (vs : List Value) → AllByRecursion (IsInTable image) vs → map (observed_argument image) vs ≡ map (observed (layout_of image)) vs
 values_shown image [] all = refl
-values_shown image (v ∷ vs) all = ap (λ x. x ∷ map (shown image) vs) (value_shown image v all.0)
+values_shown image (v ∷ vs) all = ap (λ x. x ∷ map (observed_argument image) vs) (value_shown image v all.0)
     ∙ ap (λ xs. observed (layout_of image) v ∷ xs) (values_shown image vs all.1)
 
 pub words_all : (words : List ℕ) → AreWords words → AllWords words
@@ -108,7 +108,7 @@ words_all (w ∷ words) all (suc i) = words_all words all.1 i
 
 module _ (s : Fixed) (stack : ℕ) where
   abbrev pub ComesTo : ℕ → ℕ → List Made → (ℕ → Now → Type 0) → Now → Type 0
-  ComesTo st hp made P x = Comes Now (guarded_of s.schedule) seen stack s.heap st hp made P x
+  ComesTo st hp made P x = EventuallyHolds Now (guarded_of s.schedule) seen stack s.heap st hp made P x
 
   gone_out : {q : Needs} {v : View} {a : Machine} (st hp : ℕ) (o : Outer) (g : Gone s q v a) → v.calls ≡ o.made →
       (q.top < s.base + q.stack → stack < st) → (s.heap < q.heap → s.heap < hp) →
@@ -163,7 +163,7 @@ module _ (file : FileTree) (image : Tables) (lins : ℕ → Lin) (named : ℕ �
     (w : Words State) (laid : ℕ → Laid) (entry : ℕ → ℕ) (live : ℕ → List Line → Type 0)
     (has : HasFunctions image)
     (bases : (stack : ℕ) → IsRoom stack → IsStackBase (stack_bottom - stack))
-    (emitted : IsEmitted file image lins named w laid entry live has bases) (run : Setup) where
+    (emitted : IsImageEmitted file image lins named w laid entry live has bases) (run : Setup) where
   abbrev pub fixed : Fixed
   fixed = fixed_of image has bases run
 
@@ -177,7 +177,7 @@ module _ (file : FileTree) (image : Tables) (lins : ℕ → Lin) (named : ℕ �
   back_ c d o x = Back image has bases laid entry live run c d o x
 
   abbrev pub After : Below → ℕ → ℕ → Step State → Outer → Now → Type 0
-  After c f below x o y = IsAfter State (linear_program lins named) w file (layout_of image) Now (guarded_of run.schedule) seen run.stack run.heap Below
+  After c f below x o y = IsAfterStep State (linear_program lins named) w file (layout_of image) Now (guarded_of run.schedule) seen run.stack run.heap Below
       at_ entry_ back_ c f below x o y
 
   abbrev pub CarriesIt : ℕ → ℕ → ℕ → ℕ → Below → Step State → Outer → Now → Type 0
@@ -185,8 +185,8 @@ module _ (file : FileTree) (image : Tables) (lins : ℕ → Lin) (named : ℕ �
       CarriesStep State (linear_program lins named) w file (layout_of image) Now (guarded_of run.schedule) seen run.stack run.heap Below at_ entry_ back_
       owed most f below c x o y
 
-  abbrev pub place : ℕ → ℕ → Place
-  place f below = place_in file (layout_of image) f below
+  abbrev pub place : ℕ → ℕ → ActivationSetting
+  place f below = activation_in file (layout_of image) f below
 
   pub after_shows : (f below : ℕ) (c : Below) (x : Step State) (o : Outer) (y : Now) → c.top + below ≡ stack_bottom →
       Shows fixed o (λ v. follows.IsAfter fixed (laid f) (live f) c x v) y → After c f below x o y
@@ -201,7 +201,7 @@ module _ (file : FileTree) (image : Tables) (lins : ℕ → Lin) (named : ℕ �
 
   -- the bytes below an address and those of the text
   room_is : (f below : ℕ) (c : Below) (u : State) → c.top + below ≡ stack_bottom → c.top < (stack_bottom - run.stack) + used (laid f) u →
-      run.stack < taken (place f below) u.around
+      run.stack < stack_in_use (place f below) u.around
   room_is f below c u e short =
       let m = run.stack_room.most in
       let fr = emitted.frames f in
@@ -211,16 +211,16 @@ module _ (file : FileTree) (image : Tables) (lins : ℕ → Lin) (named : ℕ �
   pub stands_there : {least n : ℕ} {Q : View → Type 0} (most f below : ℕ) (c : Below) (u : State) (o : Outer) (x : Now) → n ≤ most →
       c.top + below ≡ stack_bottom → (sh : Shows fixed o Q x) →
       ArrivesIn least n fixed (needs_of (laid f) c u) sh.view (IsAt fixed (laid f) (live f) c u) →
-      Comes Now (guarded_of run.schedule) seen run.stack run.heap (taken (place f below) u.around) (heap_need u.around.memory) o.made
+      EventuallyHolds Now (guarded_of run.schedule) seen run.stack run.heap (stack_in_use (place f below) u.around) (heap_need u.around.memory) o.made
       (Near least most (at_ c f below u o)) x
   stands_there most f below c u o x few e sh arrives =
-      arrives_comes fixed run.stack most (taken (place f below) u.around) (heap_need u.around.memory) o x few sh arrives
+      arrives_comes fixed run.stack most (stack_in_use (place f below) u.around) (heap_need u.around.memory) o x few sh arrives
       (λ short. room_is f below c u e short) (λ short. short) (λ y at. (at, e))
 
   -- it comes to where nothing more is needed
   pub comes_free : {least n : ℕ} {P Q : View → Type 0} {R : Now → Type 0} (most : ℕ) (o : Outer) (x : Now) → n ≤ most → (sh : Shows fixed o Q x) →
-      ArrivesIn least n fixed (nothing fixed) sh.view P →
-      ((y : Now) → Shows fixed o P y → R y) → Comes Now (guarded_of run.schedule) seen run.stack run.heap 0 0 o.made (Near least most R) x
+      ArrivesIn least n fixed (needs_nothing fixed) sh.view P →
+      ((y : Now) → Shows fixed o P y → R y) → EventuallyHolds Now (guarded_of run.schedule) seen run.stack run.heap 0 0 o.made (Near least most R) x
   comes_free most o x few sh arrives onto =
       arrives_comes fixed run.stack most 0 0 o x few sh arrives (λ short. absurd (omega (arith, short))) (λ short. absurd (omega (arith, short))) onto
 
@@ -242,7 +242,7 @@ module _ (file : FileTree) (image : Tables) (lins : ℕ → Lin) (named : ℕ �
         CarriesCall State (linear_program lins named) w file (layout_of image) Now (guarded_of run.schedule) seen run.stack run.heap Below at_ entry_ back_
         most f below c g call go o y
     call_carried call go g is few lies fc lower =
-        let same : call.below ≡ taken (place f below) u.around = lies ∙ ap (λ (q : Callee). bytes_below q false (place f below) u.around) is in
+        let same : call.below ≡ stack_in_use (place f below) u.around = lies ∙ ap (λ (q : Callee). bytes_below q false (place f below) u.around) is in
         let fr = emitted.frames f in
         record {
           above = fc.below;

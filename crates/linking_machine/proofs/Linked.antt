@@ -19,7 +19,7 @@ use Rattle.lin_ir.specs.declared.lin.LinOp.{LinOp}
 use Rattle.lin_ir.specs.declared.lin.LinOp.TheVariants as lin
 use Rattle.lin_ir.specs.declared.lin.Spot.{Spot}
 use Rattle.mach_ir.specs.Acts.{Around}
-use Rattle.mach_ir.specs.Runs.{Place, bytes_below, taken, Step, Continues, Pays, Deepens, Waits, FinishesBy, Finishes, FinishesRaising, IsStuck}
+use Rattle.mach_ir.specs.Runs.{ActivationSetting, bytes_below, stack_in_use, Step, Continues, Pays, Deepens, Waits, FinishesBy, Finishes, FinishesRaising, IsStuck}
 use Rattle.moving_laws.specs.Values.{HasFunctions}
 use Rattle.rv_machine.specs.Loading.{IsRoom}
 use Rattle.rv_machine.specs.Places.{stack_bottom}
@@ -35,16 +35,16 @@ use Rattle.linear_machine.proofs.Beginning.{nothing_below}
 use Rattle.linear_machine.proofs.Following.{agrees_on}
 use Rattle.linear_machine.proofs.Steps.{stays}
 use Rattle.linking.specs.Assembled.{Setup, IsPassedOn, Assembled}
-use Rattle.linking.specs.Carries.{Outer, Comes, Near, CarriesAsked, Carries}
-use Rattle.linking.specs.Keeps.{Keeps}
-use Rattle.linking.specs.Pace.{Words, GoesForward}
+use Rattle.linking.specs.Carries.{Outer, EventuallyHolds, Near, CarriesAsked, Carries}
+use Rattle.linking.specs.Keeps.{ProgramKeeps}
+use Rattle.linking.specs.Pace.{Words, ProgramGoesForward}
 use Rattle.linking.proofs.Image.{assembled_correct, assembled_in_need}
 use Rattle.linking_stages.specs.Stages.{linear_program}
 use Rattle.linking_stages.proofs.Regular.{linear_regular}
 use Rattle.linking_stages.proofs.Walking.{reached_walks}
 use Rattle.line_calls.specs.Calls.{IsCalled, CallsSo}
 use Rattle.line_values.specs.Followed.{FollowsBranch}
-use Rattle.linking_machine.specs.Emitted.{BeginsFree, FollowsLine, IsEmitted, service_in, service_of}
+use Rattle.linking_machine.specs.Emitted.{BeginsFree, FollowsLine, IsImageEmitted, service_in, service_of}
 use Rattle.linking_machine.specs.Standing.{Shows, At, Entry, Back}
 use Rattle.linking_machine.proofs.Answering.{outside_carried}
 use Rattle.linking_machine.proofs.Starting.{starts}
@@ -67,14 +67,14 @@ data ExitsTo (u : State) : Step State → Type 0 where
   pays_so : ExitsTo u (Pays u)
   stuck_so : ExitsTo u IsStuck
 
-exit_on : (c : Place) (names : List Loc) (m : Lin) (args results : List Spot) (next : List Line) (f : Locations) (a : Around) (l : ℕ)
+exit_on : (c : ActivationSetting) (names : List Loc) (m : Lin) (args results : List Spot) (next : List Line) (f : Locations) (a : Around) (l : ℕ)
     (o : Option (List Value)) → ExitsTo (record { rest = after_label l m.code; file = f; around = a })
     (on_values c names m (record { op = lin.Flow (flow.Exit l); args = args; results = results }) next f a o)
 exit_on c names m args results next f a l None = stuck_so
 exit_on c names m args results next f a l (Some []) = pays_so
 exit_on c names m args results next f a l (Some (v ∷ vs)) = stuck_so
 
-exits : (c : Place) (named : NamedAt) (m : Lin) (u : State) (i : Line) (next : List Line) → u.rest ≡ i ∷ next → (l : ℕ) → i.op ≡ lin.Flow (flow.Exit l) →
+exits : (c : ActivationSetting) (named : NamedAt) (m : Lin) (u : State) (i : Line) (next : List Line) → u.rest ≡ i ∷ next → (l : ℕ) → i.op ≡ lin.Flow (flow.Exit l) →
     ExitsTo (record { rest = after_label l m.code; file = u.file; around = u.around }) (step c named m u)
 exits c named m u i next is l e =
     let there : State = record { rest = after_label l m.code; file = u.file; around = u.around } in
@@ -86,7 +86,7 @@ module _ (file : FileTree) (image : Tables) (lins : ℕ → Lin) (named : ℕ �
     (w : Words State) (laid : ℕ → Laid) (entry : ℕ → ℕ) (live : ℕ → List Line → Type 0)
     (has : HasFunctions image)
     (bases : (stack : ℕ) → IsRoom stack → IsStackBase (stack_bottom - stack))
-    (emitted : IsEmitted file image lins named w laid entry live has bases) where
+    (emitted : IsImageEmitted file image lins named w laid entry live has bases) where
   owed_few : (f : ℕ) (u : State) → w.owed f u ≤ 1
   owed_few f u =
       let is = emitted.owed f u in
@@ -118,8 +118,8 @@ module _ (file : FileTree) (image : Tables) (lins : ℕ → Lin) (named : ℕ �
         ArrivesIn least n (fixed file image lins named w laid entry live has bases emitted run)
         (needs_of (laid f) c z) sh.view (IsAt (fixed file image lins named w laid entry live has bases emitted run) (laid f) (live f) c z) →
         (lower : ℕ) → lower ≤ least →
-        Comes Now (guarded_of run.schedule) seen run.stack run.heap
-        (taken (place file image lins named w laid entry live has bases emitted run f below) z.around) (heap_need z.around.memory) o.made
+        EventuallyHolds Now (guarded_of run.schedule) seen run.stack run.heap
+        (stack_in_use (place file image lins named w laid entry live has bases emitted run f below) z.around) (heap_need z.around.memory) o.made
         (Near lower most (at_ file image lins named w laid entry live has bases emitted run c f below z o)) y
     goes_there z least few arrives lower less =
         stands_there file image lins named w laid entry live has bases emitted run most f below c z o y few e sh
@@ -236,8 +236,8 @@ module _ (file : FileTree) (image : Tables) (lins : ℕ → Lin) (named : ℕ �
   -- An image whose lines are followed, and whose functions do what the text does, is assembled.
   pub emitted_assembled : (most words : ℕ) (IsGiven : List Value → Memory → Type 0) (IsDone : Doing → Type 0) → AreRowsOf (functions file) image.funcs →
       words + 1 ≤ length image.code →
-      Keeps State (linear_program lins named) file (layout_of image) most IsGiven IsDone → IsPassedOn IsGiven IsDone file (layout_of image) →
-      GoesForward State (linear_program lins named) w words →
+      ProgramKeeps State (linear_program lins named) file (layout_of image) most IsGiven IsDone → IsPassedOn IsGiven IsDone file (layout_of image) →
+      ProgramGoesForward State (linear_program lins named) w words →
       Assembled State (linear_program lins named) w most words file image IsGiven IsDone Below (At image has bases laid entry live)
       (Entry image has bases laid entry live)
       (Back image has bases laid entry live)
@@ -257,8 +257,8 @@ module _ (file : FileTree) (image : Tables) (lins : ℕ → Lin) (named : ℕ �
 
   pub emitted_correct : (most words : ℕ) (IsGiven : List Value → Memory → Type 0) (IsDone : Doing → Type 0) → AreRowsOf (functions file) image.funcs →
       words + 1 ≤ length image.code →
-      Keeps State (linear_program lins named) file (layout_of image) most IsGiven IsDone → IsPassedOn IsGiven IsDone file (layout_of image) →
-      GoesForward State (linear_program lins named) w words → IsCorrect file image
+      ProgramKeeps State (linear_program lins named) file (layout_of image) most IsGiven IsDone → IsPassedOn IsGiven IsDone file (layout_of image) →
+      ProgramGoesForward State (linear_program lins named) w words → IsCorrect file image
   emitted_correct most words IsGiven IsDone rows fit keeps passed forward =
       assembled_correct State (linear_program lins named) w most words file image IsGiven IsDone Below (At image has bases laid entry live)
       (Entry image has bases laid entry live)
@@ -267,8 +267,8 @@ module _ (file : FileTree) (image : Tables) (lins : ℕ → Lin) (named : ℕ �
   -- It asks for allocations only in need.
   pub emitted_in_need : (most words : ℕ) (IsGiven : List Value → Memory → Type 0) (IsDone : Doing → Type 0) → AreRowsOf (functions file) image.funcs →
       words + 1 ≤ length image.code →
-      Keeps State (linear_program lins named) file (layout_of image) most IsGiven IsDone → IsPassedOn IsGiven IsDone file (layout_of image) →
-      GoesForward State (linear_program lins named) w words → AsksInNeed file image
+      ProgramKeeps State (linear_program lins named) file (layout_of image) most IsGiven IsDone → IsPassedOn IsGiven IsDone file (layout_of image) →
+      ProgramGoesForward State (linear_program lins named) w words → AsksInNeed file image
   emitted_in_need most words IsGiven IsDone rows fit keeps passed forward =
       assembled_in_need State (linear_program lins named) w most words file image IsGiven IsDone Below (At image has bases laid entry live)
       (Entry image has bases laid entry live)

@@ -15,7 +15,7 @@ use Rattle.machine_laws.proofs.Starting.{start_sound}
 use Rattle.moving_laws.specs.Values.{HasFunctions}
 use Rattle.moving_laws.proofs.Bottom.{past_region}
 use Rattle.rv_machine.specs.Loading.{IsRoom}
-use Rattle.rv_machine.specs.Memory.{Region, is_inside, or_zero, read, word}
+use Rattle.rv_machine.specs.Memory.{Region, is_inside, or_zero, read, memory_word}
 use Rattle.rv_machine.specs.Observation.{young_start}
 use Rattle.rv_machine.specs.Places.{domain_start, limit_at_rest, stack_bottom, filler, half_start}
 use Rattle.rv_machine.specs.Run.{begun}
@@ -37,8 +37,8 @@ in_domain : (rs : List Region) → read (domain_region ∷ rs) domain_start 8 �
 unfolding domain_region
 in_domain rs = refl
 
-limit_start : (image : Tables) (stack heap : ℕ) → AreTables image → word (start_memory image stack heap) domain_start ≡ limit_at_rest
-unfolding word data_region
+limit_start : (image : Tables) (stack heap : ℕ) → AreTables image → memory_word (start_memory image stack heap) domain_start ≡ limit_at_rest
+unfolding memory_word data_region
 limit_start image stack heap tables =
     let short = tables.bytes.short in
     ap or_zero

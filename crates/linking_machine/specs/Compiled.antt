@@ -12,10 +12,10 @@ use Rattle.rv_machine.specs.Places.{stack_bottom}
 use Rattle.rv_machine.specs.Sound.{IsStackBase}
 use Rattle.line_stands.specs.Lines.{Nowhere}
 use Rattle.linear_machine.specs.Relation.{Laid}
-use Rattle.linking.specs.Pace.{Words, GoesForward}
+use Rattle.linking.specs.Pace.{Words, ProgramGoesForward}
 use Rattle.linking_stages.specs.Chain.{IsSelected, AreLowered, HoldsWords}
 use Rattle.linking_stages.specs.Stages.{linear_program}
-use Rattle.linking_machine.specs.Emitted.{IsEmitted}
+use Rattle.linking_machine.specs.Emitted.{IsImageEmitted}
 
 module _ (file : FileTree) (image : Tables) (machs : ℕ → Mach) (lins : ℕ → Lin)
     (named : ℕ → NamedAt) (w : Words State) (most words : ℕ) (laid : ℕ → Laid) (entry : ℕ → ℕ)
@@ -31,6 +31,6 @@ module _ (file : FileTree) (image : Tables) (machs : ℕ → Mach) (lins : ℕ �
     -- the passes over Mach and Linear keep that
     pub lowered : AreLowered file machs lins named
     -- control goes backward by units alone
-    pub forward : GoesForward State (linear_program lins named) w words
+    pub forward : ProgramGoesForward State (linear_program lins named) w words
     -- the machine follows each line
-    pub emitted : IsEmitted file image lins named w laid entry (λ f. Nowhere) has bases
+    pub emitted : IsImageEmitted file image lins named w laid entry (λ f. Nowhere) has bases

@@ -11,7 +11,7 @@ use Rattle.correctness.specs.Setting.{layout_of}
 use Rattle.emit_rules.specs.Units.{owed_before}
 use Rattle.guarded_machine.specs.Guarded.{guarded_of}
 use Rattle.image_form.specs.Tables.{Tables, Func}
-use Rattle.lin_ir.specs.Meaning.{NamedAt, State, after_label, step, start}
+use Rattle.lin_ir.specs.Meaning.{NamedAt, State, after_label, step, linear_start}
 use Rattle.lin_ir.specs.Walks.{Reached}
 use Rattle.lin_ir.specs.declared.lin.Lin.{Lin}
 use Rattle.lin_ir.specs.declared.lin.Line.{Line}
@@ -20,7 +20,7 @@ use Rattle.moving_laws.specs.Stands.{StaticsStand}
 use Rattle.moving_laws.specs.Values.{HasFunctions}
 use Rattle.rv_machine.specs.Loading.{IsRoom}
 use Rattle.rv_machine.specs.Places.{stack_bottom}
-use Rattle.rv_machine.specs.Relocation.{root_cells}
+use Rattle.rv_machine.specs.Relocation.{root_addresses}
 use Rattle.rv_machine.specs.Run.{seen}
 use Rattle.rv_machine.specs.Start.{start_memory}
 use Rattle.rv_machine.specs.Services.{Now}
@@ -37,7 +37,7 @@ use Rattle.linear_machine.specs.View.{Fixed, View}
 use Rattle.linear_machine.proofs.Beginning.{nothing_below}
 use Rattle.linking.specs.Assembled.{Setup, IsStub}
 use Rattle.linking.specs.Pace.{Words, IsReached}
-use Rattle.linking.specs.Program.{place_in}
+use Rattle.linking.specs.Program.{activation_in}
 use Rattle.linking_stages.specs.Stages.{linear_program}
 use Rattle.linking_machine.specs.Standing.{fixed_of, Back}
 
@@ -82,7 +82,7 @@ pub record AreEntries (file : FileTree) (image : Tables) (entry : ℕ → ℕ) :
       length (comps_of tree) ≤ 16
   pub bytes : AllByRecursion (λ b. b < 256) image.bytes
   pub statics : (stack heap : ℕ) → IsRoom stack → IsRoom heap →
-      StaticsStand image [] (start_memory image stack heap) (root_cells image)
+      StaticsStand image [] (start_memory image stack heap) (root_addresses image)
       (statics_of (first_memory file))
   pub lies : StaticsLie image (first_memory file)
 
@@ -90,7 +90,7 @@ module _ (file : FileTree) (image : Tables) (lins : ℕ → Lin) (named : ℕ �
     (w : Words State) (laid : ℕ → Laid) (entry : ℕ → ℕ) (live : ℕ → List Line → Type 0)
     (has : HasFunctions image)
     (bases : (stack : ℕ) → IsRoom stack → IsStackBase (stack_bottom - stack)) where
-  pub record IsEmitted : Type 0 where
+  pub record IsImageEmitted : Type 0 where
     -- the frames are those of the rows
     pub frames : (f : ℕ) → (laid f).frame ≡ slice_index (layout_of image).frames f
     -- a unit may be owed before a branch
@@ -98,17 +98,17 @@ module _ (file : FileTree) (image : Tables) (lins : ℕ → Lin) (named : ℕ �
     -- each line that has words does its step, wherever a run of its function comes to it; some walk
     -- comes there too
     pub lines : (run : Setup) (f below : ℕ) (c : Below) (v : View) (u : State) →
-        IsReached State (linear_program lins named) f (place_in file (layout_of image) f below) u →
+        IsReached State (linear_program lins named) f (activation_in file (layout_of image) f below) u →
         Reached (lins f) u.rest u.around.tries →
         c.top + below ≡ stack_bottom →
         IsAt (fixed_of image has bases run) (laid f) (live f) c u v →
         FollowsLine (w.owed f u) (w.cost f u) (fixed_of image has bases run) (laid f) (live f) entry
-        c v (used (laid f) u) (step (place_in file (layout_of image) f below) (named f) (lins f) u)
+        c v (used (laid f) u) (step (activation_in file (layout_of image) f below) (named f) (lins f) u)
         ⊎ BeginsFree (laid f) (lins f) (live f) u.rest
     -- a function begins where its frame fits
     pub begins : (run : Setup) (f below : ℕ) (c : Below) (v : View) (arguments : List Value)
         (memory : Memory) (u : State) →
-        start (place_in file (layout_of image) f below) (lins f) arguments memory ≡ Some u →
+        linear_start (activation_in file (layout_of image) f below) (lins f) arguments memory ≡ Some u →
         c.top + below ≡ stack_bottom →
         IsEntered (fixed_of image has bases run) entry f arguments memory c v →
         ArrivesIn 0 (w.entry f) (fixed_of image has bases run) (needs_of (laid f) c u) v

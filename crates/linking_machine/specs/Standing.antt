@@ -14,7 +14,7 @@ use Rattle.rv_machine.specs.Services.{Machine, Now, Going}
 use Rattle.rv_machine.specs.Sound.{IsStackBase}
 use Rattle.linear_machine.specs.Follows.{IsAt, IsDone, IsEntered}
 use Rattle.linear_machine.specs.Relation.{Below, Laid}
-use Rattle.linear_machine.specs.View.{Fixed, View, Stands}
+use Rattle.linear_machine.specs.View.{Fixed, View, HasView}
 use Rattle.linking.specs.Assembled.{Setup}
 use Rattle.linking.specs.Carries.{Outer}
 
@@ -23,7 +23,7 @@ pub record Shows (s : Fixed) (o : Outer) (P : View → Type 0) (x : Now) : Type 
   pub machine : Machine
   pub is : x ≡ Going machine
   pub view : View
-  pub stands : Stands s machine view
+  pub stands : HasView s machine view
   pub calls : view.calls ≡ o.made
   pub answers : view.answers ≡ o.answers
   pub words : AreWords o.answers

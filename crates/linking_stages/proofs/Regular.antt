@@ -19,8 +19,8 @@ use Rattle.cmm_meaning.specs.State as state
 use Rattle.cmm_meaning.specs.State.{Doing, Gave, Threw, Inside, Outside}
 use Rattle.meaning_laws.specs.Fitting.{memory_after}
 use Rattle.meaning_laws.proofs.Extends.{Extended, extended, no_memory, stored_extended, extends_need}
-use Rattle.mach_ir.specs.Acts.{Around, Act, Goes, Pushes, Jumps, Unwinds, Asks, Replaces, Ends, EndsRaising, Stuck, On, At, Target, only_if, one_result, if_known, pure_act, loaded_act, after_store, header_written, first_written, stored_act, is_among, without, is_complete, with_block, fresh_block, new_blocks, access_act, callee_raises, raised_by, raises, answered, as_list, after_call, after_external, asks, asks_value, asks_callee, calling_act, checked, leaving_act, act, branches, goes_to_case, switched, drop_tries, row_of}
-use Rattle.mach_ir.specs.Runs.{Place, taken, Step, Continues, Pays, Deepens, Waits, FinishesBy, Finishes, FinishesRaising, IsStuck}
+use Rattle.mach_ir.specs.Acts.{Around, Act, Goes, Pushes, Jumps, Unwinds, Asks, Replaces, Ends, EndsRaising, Stuck, On, At, Target, stuck_unless, one_result, if_known, pure_act, loaded_act, after_store, header_written, first_written, stored_act, is_among_cells, without, is_complete, with_block, fresh_block, new_blocks, access_act, callee_raises, raised_by, raise_act, call_answered, as_list, act_after_call, after_external, asks, asks_value, asks_callee, calling_act, checked, leaving_act, act, goes_by_test, goes_to_case, switched, drop_tries, external_row}
+use Rattle.mach_ir.specs.Runs.{ActivationSetting, stack_in_use, Step, Continues, Pays, Deepens, Waits, FinishesBy, Finishes, FinishesRaising, IsStuck}
 use Rattle.mach_ir.specs.declared.blocks.NewBlock.{NewBlock}
 use Rattle.mach_ir.specs.declared.op.Access.{Access}
 use Rattle.mach_ir.specs.declared.op.Access.TheVariants as access
@@ -35,14 +35,14 @@ use Rattle.mach_ir.specs.declared.op.Op.TheVariants as op
 use Rattle.mach_ir.specs.declared.op.Pure.{Pure}
 use Rattle.mach_ir.specs.declared.op.Pure.TheVariants as pure
 use Rattle.mach_ir.specs.declared.op.Right.TheVariants as right
-use Rattle.lin_ir.specs.Meaning.{Locations, NamedAt, State, flow_act, lin_act, wrote, on_act, unless_misnamed, on_values, at_code, put_all, begun, code_at, clear, destroyed_by, past_frame, passes_frame, are_vals, values}
+use Rattle.lin_ir.specs.Meaning.{Locations, NamedAt, State, flow_act, lin_act, wrote, on_act, unless_misnamed, on_values, at_code, put_all, begin_linear, code_at, clear_destroyed, destroyed_by, past_frame, passes_frame, are_vals, values}
 use Rattle.lin_ir.specs.declared.lin.Flow.{Flow}
 use Rattle.lin_ir.specs.declared.lin.Flow.TheVariants as flow
 use Rattle.lin_ir.specs.declared.lin.LinOp.{LinOp}
 use Rattle.lin_ir.specs.declared.lin.LinOp.TheVariants as lin
 use Rattle.lin_ir.specs.declared.lin.Lin.{Lin}
 use Rattle.lin_ir.specs.declared.lin.Line.{Line}
-use Rattle.linking.specs.Program.{paid_by, unit_of, IsRegularStep, IsRegular}
+use Rattle.linking.specs.Program.{paid_by, unit_of, IsRegularStep, IsRegularProgram}
 use Rattle.linking_stages.specs.Stages.{linear_program}
 
 -- ---- acts
@@ -77,7 +77,7 @@ Grows a Stuck = Unit {0}
 same : (a : Around) → Further a a
 same a = record { heap = omega arith; tries = omega arith }
 
-grows_if : (a : Around) (b : Bool) (x : Act) → Grows a x → Grows a (only_if b x)
+grows_if : (a : Around) (b : Bool) (x : Act) → Grows a x → Grows a (stuck_unless b x)
 grows_if a true x g = g
 grows_if a false x g = tt
 
@@ -109,7 +109,7 @@ pure_grows c (pure.Operator f (right.Constant w)) (x ∷ y ∷ vs) a = tt
 
 loaded_grows : (a : Around) (o : Option Cell) (r : Result Value Kind) → Grows a (loaded_act a o r)
 loaded_grows a None r = tt
-loaded_grows a (Some cell) r = by (is_among cell a.unwritten)
+loaded_grows a (Some cell) r = by (is_among_cells cell a.unwritten)
   where
     by : (b : Bool) → Grows a (cond b Stuck (one_result a r))
     by true = tt
@@ -143,7 +143,7 @@ first_grows k a (InStatic l n) x v = tt
 
 stored_grows : (k : Chunk) (a : Around) (o : Option Cell) (x v : Value) → Grows a (stored_act k a o x v)
 stored_grows k a None x v = tt
-stored_grows k a (Some cell) x v = by (is_among cell a.unwritten)
+stored_grows k a (Some cell) x v = by (is_among_cells cell a.unwritten)
   where
     by : (b : Bool) → Grows a (cond b (first_written k a cell x v) (after_store a a.unwritten (stored k a.memory x v)))
     by true = first_grows k a cell x v
@@ -186,18 +186,18 @@ raise_grows : (v : Value) (a : Around) (tries : List ℕ) → length tries ≤ l
 raise_grows v a [] t = omega arith
 raise_grows v a (l ∷ tries) t = record { heap = omega arith; tries = omega (arith, t) }
 
-raises_grows : (c : Setting) (v : Value) (a : Around) → Grows a (raises c v a)
+raises_grows : (c : Setting) (v : Value) (a : Around) → Grows a (raise_act c v a)
 raises_grows c v a = grows_if a _ _ (raise_grows v a a.tries (omega arith))
 
 -- ---- calls
 
 answered_grows : (a : Around) (end : ℕ) (result : Ret) (v : Option Value) (go : Option Value → Act) → ((v : Option Value) → Grows a (go v)) →
-    Grows a (answered end result v go)
+    Grows a (call_answered end result v go)
 answered_grows a end ret.Unit v go g = g None
 answered_grows a end (ret.Comp t) (Some v) go g = grows_if a _ _ (g (Some v))
 answered_grows a end (ret.Comp t) None go g = tt
 
-after_call_grows : (c : Setting) (result : Ret) (a : Around) (d : Doing) → heap_need a.memory ≤ heap_need (memory_after d) → Grows a (after_call c result a d)
+after_call_grows : (c : Setting) (result : Ret) (a : Around) (d : Doing) → heap_need a.memory ≤ heap_need (memory_after d) → Grows a (act_after_call c result a d)
 after_call_grows c result a (Gave v m) h = answered_grows a c.end result v (λ v. Goes (as_list v) On (record a { memory = m }))
     (λ v. record { heap = h; tries = omega arith })
 after_call_grows c result a (Threw v m) h = grows_if a _ _ (callee_raise_grows v m a h a.tries (omega arith))
@@ -207,12 +207,12 @@ after_external_grows c result frame a (Gave v m) = answered_grows a c.end result
 after_external_grows c result true a (Threw v m) = grows_if a _ _ (raise_grows v a a.tries (omega arith))
 after_external_grows c result false a (Threw v m) = tt
 
-free_if : (b : Bool) (x : Act) → IsFree x → IsFree (only_if b x)
+free_if : (b : Bool) (x : Act) → IsFree x → IsFree (stuck_unless b x)
 free_if true x f = f
 free_if false x f = tt
 
 answered_free : (end : ℕ) (result : Ret) (v : Option Value) (go : Option Value → Act) → ((v : Option Value) → IsFree (go v)) →
-    IsFree (answered end result v go)
+    IsFree (call_answered end result v go)
 answered_free end ret.Unit v go g = g None
 answered_free end (ret.Comp t) (Some v) go g = free_if _ _ (g (Some v))
 answered_free end (ret.Comp t) None go g = tt
@@ -221,7 +221,7 @@ callee_raise_free : (v : Value) (m : Memory) (a : Around) (tries : List ℕ) →
 callee_raise_free v m a [] = tt
 callee_raise_free v m a (l ∷ tries) = tt
 
-after_call_free : (c : Setting) (result : Ret) (a : Around) (d : Doing) → IsFree (after_call c result a d)
+after_call_free : (c : Setting) (result : Ret) (a : Around) (d : Doing) → IsFree (act_after_call c result a d)
 after_call_free c result a (Gave v m) = answered_free c.end result v (λ v. Goes (as_list v) On (record a { memory = m })) (λ v. tt)
 after_call_free c result a (Threw v m) = free_if _ _ (callee_raise_free v m a a.tries)
 
@@ -248,18 +248,18 @@ asks_callee_grows c callee.Register (v ∷ vs) a call g = asks_value_grows c (So
 
 calling_grows : (c : Setting) (f : Calling) (vs : List Value) (a : Around) → Grows a (calling_act c f vs a)
 calling_grows c (calling.Call whom result) vs a =
-    asks_callee_grows c whom vs a (λ f arguments. Asks f arguments (after_call c result a))
+    asks_callee_grows c whom vs a (λ f arguments. Asks f arguments (act_after_call c result a))
     (λ f vs. (λ d h. after_call_grows c result a d h, λ d. after_call_free c result a d))
 calling_grows c (calling.TailCall whom result) vs a = asks_callee_grows c whom vs a (λ f arguments. Replaces f arguments result) (λ f vs. tt)
 calling_grows c (calling.External row frame) vs a = grows_if a (is_complete a)
-    (Asks (Outside (row_of row) frame) vs (after_external c row.result frame a)) (λ d h. after_external_grows c row.result frame a d, λ d. tt)
+    (Asks (Outside (external_row row) frame) vs (after_external c row.result frame a)) (λ d h. after_external_grows c row.result frame a d, λ d. tt)
 
 -- ---- leaving
 
 checked_grows : (c : Setting) (bound index : Result ℕ Kind) (a : Around) → Grows a (checked c bound index a)
 checked_grows c (Ok bound) (Ok index) a = by _
   where
-    by : (b : Bool) → Grows a (cond b (Goes [] On a) (raises c bound_error a))
+    by : (b : Bool) → Grows a (cond b (Goes [] On a) (raise_act c bound_error a))
     by true = same a
     by false = raises_grows c bound_error a
 checked_grows c (Ok bound) (Err kind) a = tt
@@ -293,7 +293,7 @@ dropped zero tries = omega arith
 dropped (suc n) [] = omega arith
 dropped (suc n) (l ∷ tries) = let h = dropped n tries in omega (arith, h)
 
-branch_grows : (a : Around) (one other : Target) (o : Option Bool) → Grows a (branches a one other o)
+branch_grows : (a : Around) (one other : Target) (o : Option Bool) → Grows a (goes_by_test a one other o)
 branch_grows a one other (Some b) = same a
 branch_grows a one other None = tt
 
@@ -334,12 +334,12 @@ lin_grows c (lin.Flow f) vs a = flow_grows f vs a
 
 -- ---- steps
 
-module _ (functions : ℕ → Lin) (named : ℕ → NamedAt) (c : Place) where
+module _ (functions : ℕ → Lin) (named : ℕ → NamedAt) (c : ActivationSetting) where
   abbrev IsRegular' : ℕ → ℕ → Step State → Type 0
   IsRegular' stack heap x = IsRegularStep State (linear_program functions named) c stack heap x
 
   wrote_regular : (a after : Around) (rest : List Line) (o : Option Locations) → Further a after →
-      IsRegular' (taken c a) (heap_need a.memory) (wrote rest after o)
+      IsRegular' (stack_in_use c a) (heap_need a.memory) (wrote rest after o)
   wrote_regular a after rest None f = tt
   wrote_regular a after rest (Some file) f = let t = f.tries in (omega (arith, t), f.heap)
 
@@ -359,7 +359,7 @@ module _ (functions : ℕ → Lin) (named : ℕ → NamedAt) (c : Place) where
 
   module _ (m : Lin) (i : Line) (next : List Line) (file : Locations) (a : Around) where
     free_paid : (x : Act) → IsFree x → paid_by (on_act c m i next file a x) ≡ 0
-    free_paid (Goes vs to after) f = wrote_free after (code_at m.code next to) (put_all c.setting.end i.results vs (clear (destroyed_by i.op) file))
+    free_paid (Goes vs to after) f = wrote_free after (code_at m.code next to) (put_all c.setting.end i.results vs (clear_destroyed (destroyed_by i.op) file))
     free_paid (Pushes after) f = refl
     free_paid (Jumps to after) f = absurd f
     free_paid (Unwinds after) f = refl
@@ -373,8 +373,8 @@ module _ (functions : ℕ → Lin) (named : ℕ → NamedAt) (c : Place) where
     behind_paid (Inside f) x free = let e = free_paid x free in omega (arith, e)
     behind_paid (Outside row frame) x free = let e = paid_once (on_act c m i next file a x) in omega (arith, e)
 
-    act_regular : (x : Act) → Grows a x → IsRegular' (taken c a) (heap_need a.memory) (on_act c m i next file a x)
-    act_regular (Goes vs to after) g = wrote_regular a after (code_at m.code next to) (put_all c.setting.end i.results vs (clear (destroyed_by i.op) file)) g
+    act_regular : (x : Act) → Grows a x → IsRegular' (stack_in_use c a) (heap_need a.memory) (on_act c m i next file a x)
+    act_regular (Goes vs to after) g = wrote_regular a after (code_at m.code next to) (put_all c.setting.end i.results vs (clear_destroyed (destroyed_by i.op) file)) g
     act_regular (Pushes after) g = (omega arith, g)
     act_regular (Jumps to after) g = let t = g.tries in (omega (arith, t), g.heap)
     act_regular (Unwinds after) g = let t = g.tries in (omega (arith, t), g.heap)
@@ -389,18 +389,18 @@ module _ (functions : ℕ → Lin) (named : ℕ → NamedAt) (c : Place) where
     misnamed_regular stack heap false x g = tt
 
   values_regular : (m : Lin) (names : List _) (i : Line) (next : List Line) (file : Locations) (a : Around) (o : Option (List Value)) →
-      IsRegular' (taken c a) (heap_need a.memory) (on_values c names m i next file a o)
+      IsRegular' (stack_in_use c a) (heap_need a.memory) (on_values c names m i next file a o)
   values_regular m names i next file a None = tt
   values_regular m names i next file a (Some vs) =
-      misnamed_regular m i next file a (taken c a) (heap_need a.memory) (not (passes_frame i.op) || are_vals c.setting.end names file) _
+      misnamed_regular m i next file a (stack_in_use c a) (heap_need a.memory) (not (passes_frame i.op) || are_vals c.setting.end names file) _
       (act_regular m i next (past_frame (passes_frame i.op) names file) a (lin_act c.setting i.op vs a) (lin_grows c.setting i.op vs a))
 
   code_regular : (named : NamedAt) (m : Lin) (rest : List Line) (file : Locations) (a : Around) →
-      IsRegular' (taken c a) (heap_need a.memory) (at_code c named m rest file a)
+      IsRegular' (stack_in_use c a) (heap_need a.memory) (at_code c named m rest file a)
   code_regular named m [] file a = tt
   code_regular named m (i ∷ next) file a = values_regular m (named (length next)) i next file a (values c.setting.end file i.args)
 
-start_taken : (c : Place) (m : Lin) (memory : Memory) (o : Option Locations) (s : State) → begun m memory o ≡ Some s → taken c s.around ≤ c.below + c.frame
+start_taken : (c : ActivationSetting) (m : Lin) (memory : Memory) (o : Option Locations) (s : State) → begin_linear m memory o ≡ Some s → stack_in_use c s.around ≤ c.below + c.frame
 start_taken c m memory None s e = absurd (cc)
 start_taken c m memory (Some file) s e =
     let t : length s.around.tries ≡ 0 = ap (λ (o : Option State). tries_in o) (sym e) in
@@ -411,7 +411,7 @@ start_taken c m memory (Some file) s e =
     tries_in (Some s) = length s.around.tries
 
 -- The Linear program is regular.
-pub linear_regular : (functions : ℕ → Lin) (named : ℕ → NamedAt) → IsRegular State (linear_program functions named)
+pub linear_regular : (functions : ℕ → Lin) (named : ℕ → NamedAt) → IsRegularProgram State (linear_program functions named)
 linear_regular functions named =
     record {
       start = λ f c arguments memory s e. start_taken c (functions f) memory (put_all c.setting.end (functions f).params arguments (λ l. None)) s e;

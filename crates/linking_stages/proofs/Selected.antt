@@ -10,27 +10,27 @@ use Rattle.cmm_meaning.specs.Evaluation.{OutOfFuel, NotProper, NoAnswer, Asking,
 use Rattle.cmm_meaning.specs.Layout.{Layout}
 use Rattle.cmm_meaning.specs.State.{Doing, Asked, World}
 use Rattle.correctness.specs.Setting.{AreWords}
-use Rattle.mach_ir.specs.Runs.{Place, Tally, Run}
+use Rattle.mach_ir.specs.Runs.{ActivationSetting, Tally, RunProgress}
 use Rattle.mach_ir.specs.Runs as run
 use Rattle.mach_ir.specs.Meaning as mach
 use Rattle.mach_ir.specs.declared.mach.Mach.{Mach}
-use Rattle.meaning_laws.specs.Pace.{pending}
+use Rattle.meaning_laws.specs.Pace.{pending_calls}
 use Rattle.meaning_laws.specs.Units.{world_of}
 use Rattle.meaning_laws.proofs.LinksWhole.{bound_error_fits}
 use Rattle.selection_rules.specs.Bounded.{AllBounded, BoundedDoing, BoundedDoings, BoundedAsked, AllAsked, BoundedEvaluation}
 use Rattle.selection_rules.proofs.BoundedRuns.{alone_bounded}
 use Rattle.selection_rules.proofs.Plays.{Meets, returned, threw, running, asking, improper, left_by_exit}
-use Rattle.linking.specs.Assembled.{IsKnownAsked, IsKnown, IsPassedOn}
+use Rattle.linking.specs.Assembled.{IsKnownAsked, IsKnownEvaluation, IsPassedOn}
 use Rattle.linking.specs.Keeps.{gives, raises, out_of_units, asks, Same, alone_in}
-use Rattle.linking.specs.Program.{place_in}
-use Rattle.linking_stages.specs.Chain.{Selects, IsGivenWords, IsSelected, HoldsWords}
+use Rattle.linking.specs.Program.{activation_in}
+use Rattle.linking_stages.specs.Chain.{SelectsFile, IsGivenWords, IsSelected, HoldsWords}
 use Rattle.linking_stages.specs.Stages.{mach_program}
 
 -- ---- what is selected
 
 -- a run that meets an evaluation is the same
-met : (machs : ℕ → Mach) (most n units nodes : ℕ) (e : Evaluation) {r : Run mach.State} → Meets units e r → IsProperEnd e →
-    units + (pending e + (world_of e).left) ≤ n → n ≤ (world_of e).left + nodes * suc units → nodes ≤ most →
+met : (machs : ℕ → Mach) (most n units nodes : ℕ) (e : Evaluation) {r : RunProgress mach.State} → Meets units e r → IsProperEnd e →
+    units + (pending_calls e + (world_of e).left) ≤ n → n ≤ (world_of e).left + nodes * suc units → nodes ≤ most →
     ((u : World) (s : mach.State) (t : Tally) → e ≡ Stops OutOfFuel u → r ≡ run.Running s t → heap_need s.around.memory ≤ heap_need u.memory) →
     Same mach.State (mach_program machs) most n e r
 met machs most n units nodes _ (returned {t = t} a b) ok no_more enough le heap =
@@ -81,12 +81,12 @@ all_doings (d ∷ doings) all = (all.0, all_doings doings all.1)
 
 -- What is selected does what the text does, on words.
 pub selected_selects : (file : FileTree) (layout : Layout) (machs : ℕ → Mach) (most : ℕ) → IsSelected file layout machs most →
-    Selects file layout machs most IsGivenWords BoundedDoing
+    SelectsFile file layout machs most IsGivenWords BoundedDoing
 selected_selects file layout machs most s =
     record {
       runs = λ f tree is arguments fit below memory doings n given done ok handed.
           let k = s.runs f tree is arguments fit below memory doings n given (all_doings doings done) ok in
-          let c : Place = place_in file layout f below in
+          let c : ActivationSetting = activation_in file layout f below in
           record {
             run = record {
               begun = k.run.begun;
@@ -105,7 +105,7 @@ all_asked : (calls : List Asked) → AllAsked calls → AllByRecursion (IsKnownA
 all_asked [] all = tt
 all_asked (call ∷ calls) all = let a : BoundedAsked call = all.0 in ((a.arguments, a.memory), all_asked calls all.1)
 
-known : (e : Evaluation) → BoundedEvaluation e → IsKnown IsGivenWords BoundedDoing e
+known : (e : Evaluation) → BoundedEvaluation e → IsKnownEvaluation IsGivenWords BoundedDoing e
 known (Gives v h w) b = (all_asked w.asked b.1.1, (b.0, b.1.0))
 known (Exits label values h w) b = tt
 known (Raises v h w) b = (all_asked w.asked b.1.1, (b.0, b.1.0))
@@ -123,8 +123,8 @@ words_passed file layout holds =
     record {
       entry = λ words all. (all_words words all, holds.memory);
       alone = λ f tree is arguments fit below memory doings n given done.
-          known (alone_in file (place_in file layout f below) tree arguments memory doings n)
-          (alone_bounded (place_in file layout f below) tree (bound_error_fits file) (holds.width f tree is) holds.symbols (holds.code f tree is)
+          known (alone_in file (activation_in file layout f below) tree arguments memory doings n)
+          (alone_bounded (activation_in file layout f below) tree (bound_error_fits file) (holds.width f tree is) holds.symbols (holds.code f tree is)
           arguments memory doings n
           given.0 given.1 (all_doings doings done) fit);
       nothing = λ arguments memory given. (tt, given.1);

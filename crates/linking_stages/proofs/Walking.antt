@@ -17,8 +17,8 @@ use Rattle.cmm_meaning.specs.Setting.{Setting}
 use Rattle.cmm_meaning.specs.State as state
 use Rattle.cmm_meaning.specs.State.{Doing, Gave, Threw, Inside, Outside}
 use Rattle.mach_ir.specs.Acts as acts
-use Rattle.mach_ir.specs.Acts.{without, Around, Act, Goes, Pushes, Jumps, Unwinds, Asks, Replaces, Ends, EndsRaising, Stuck, On, At, Target, AtLabel, AtHandler, only_if, one_result, if_known, pure_act, loaded_act, after_store, header_written, first_written, stored_act, is_among, with_block, new_blocks, access_act, callee_raises, raised_by, raises, answered, as_list, after_call, after_external, asks, asks_value, asks_callee, checked, leaving_act, act, branches, goes_to_case, row_of, is_complete}
-use Rattle.mach_ir.specs.Runs.{entered, Place, Step}
+use Rattle.mach_ir.specs.Acts.{without, Around, Act, Goes, Pushes, Jumps, Unwinds, Asks, Replaces, Ends, EndsRaising, Stuck, On, At, Target, AtLabel, AtHandler, stuck_unless, one_result, if_known, pure_act, loaded_act, after_store, header_written, first_written, stored_act, is_among_cells, with_block, new_blocks, access_act, callee_raises, raised_by, raise_act, call_answered, as_list, act_after_call, after_external, asks, asks_value, asks_callee, checked, leaving_act, act, goes_by_test, goes_to_case, external_row, is_complete}
+use Rattle.mach_ir.specs.Runs.{entry_around, ActivationSetting, Step}
 use Rattle.mach_ir.specs.Walks.{OneOf}
 use Rattle.mach_ir.specs.Walks as mach_walks
 use Rattle.mach_ir.specs.declared.blocks.NewBlock.{NewBlock}
@@ -35,7 +35,7 @@ use Rattle.mach_ir.specs.declared.op.Pure.{Pure}
 use Rattle.mach_ir.specs.declared.op.Pure.TheVariants as pure
 use Rattle.mach_ir.specs.declared.mach.Test.{Test}
 use Rattle.mach_ir.specs.declared.op.Right.TheVariants as right
-use Rattle.lin_ir.specs.Meaning.{Locations, NamedAt, State, flow_act, lin_act, wrote, on_act, unless_misnamed, on_values, at_code, put_all, begun, code_at, landing_code, clear, destroyed_by, past_frame, passes_frame, are_vals, values}
+use Rattle.lin_ir.specs.Meaning.{Locations, NamedAt, State, flow_act, lin_act, wrote, on_act, unless_misnamed, on_values, at_code, put_all, begin_linear, code_at, landing_code, clear_destroyed, destroyed_by, past_frame, passes_frame, are_vals, values}
 use Rattle.lin_ir.specs.Walks.{targets, may_raise, tries_after, Reached}
 use Rattle.lin_ir.specs.Walks as walks
 use Rattle.lin_ir.specs.declared.lin.Flow.{Flow}
@@ -44,7 +44,7 @@ use Rattle.lin_ir.specs.declared.lin.LinOp.{LinOp}
 use Rattle.lin_ir.specs.declared.lin.LinOp.TheVariants as lin
 use Rattle.lin_ir.specs.declared.lin.Lin.{Lin}
 use Rattle.lin_ir.specs.declared.lin.Line.{Line}
-use Rattle.linking.specs.Pace.{LeadsTo, continues, pays, deepens, behind, IsReached, at_start, by_step}
+use Rattle.linking.specs.Pace.{StepLeadsTo, continues, pays, deepens, behind, IsReached, at_start, by_step}
 use Rattle.linking_stages.specs.Stages.{linear_program}
 
 -- ---- acts
@@ -72,7 +72,7 @@ Keeps f a (Ends d) = Unit {0}
 Keeps f a (EndsRaising d) = Unit {0}
 Keeps f a Stuck = Unit {0}
 
-keeps_if : (f : LinOp) (a : Around) (b : Bool) (x : Act) → Keeps f a x → Keeps f a (only_if b x)
+keeps_if : (f : LinOp) (a : Around) (b : Bool) (x : Act) → Keeps f a x → Keeps f a (stuck_unless b x)
 keeps_if f a true x g = g
 keeps_if f a false x g = tt
 
@@ -104,7 +104,7 @@ module _ (f : LinOp) (a : Around) (next : (after : Around) → after.tries ≡ a
 
   loaded_keeps : (o : Option Cell) (r : Result Value Kind) → Keeps f a (loaded_act a o r)
   loaded_keeps None r = tt
-  loaded_keeps (Some cell) r = by (is_among cell a.unwritten)
+  loaded_keeps (Some cell) r = by (is_among_cells cell a.unwritten)
     where
       by : (b : Bool) → Keeps f a (cond b Stuck (one_result a r))
       by true = tt
@@ -137,7 +137,7 @@ module _ (f : LinOp) (a : Around) (next : (after : Around) → after.tries ≡ a
 
   stored_keeps : (k : Chunk) (o : Option Cell) (x v : Value) → Keeps f a (stored_act k a o x v)
   stored_keeps k None x v = tt
-  stored_keeps k (Some cell) x v = by (is_among cell a.unwritten)
+  stored_keeps k (Some cell) x v = by (is_among_cells cell a.unwritten)
     where
       by : (b : Bool) → Keeps f a (cond b (first_written k a cell x v) (after_store a a.unwritten (stored k a.memory x v)))
       by true = first_keeps k cell x v
@@ -159,7 +159,7 @@ module _ (f : LinOp) (a : Around) (next : (after : Around) → after.tries ≡ a
   access_keeps (access.Alloc blocks) (v ∷ vs) = tt
 
   answered_keeps : (end : ℕ) (result : Ret) (v : Option Value) (go : Option Value → Act) → ((v : Option Value) → Keeps f a (go v)) →
-      Keeps f a (answered end result v go)
+      Keeps f a (call_answered end result v go)
   answered_keeps end ret.Unit v go g = g None
   answered_keeps end (ret.Comp t) (Some v) go g = keeps_if f a _ _ (g (Some v))
   answered_keeps end (ret.Comp t) None go g = tt
@@ -174,7 +174,7 @@ module _ (f : LinOp) (a : Around) (next : (after : Around) → after.tries ≡ a
     raise_keeps v [] e = tt
     raise_keeps v (l ∷ tries) e = record { raises = may; handler = l; tries = e }
 
-    after_call_keeps : (c : Setting) (result : Ret) (d : Doing) → Keeps f a (after_call c result a d)
+    after_call_keeps : (c : Setting) (result : Ret) (d : Doing) → Keeps f a (act_after_call c result a d)
     after_call_keeps c result (Gave v m) = answered_keeps c.end result v (λ v. Goes (as_list v) On (record a { memory = m }))
         (λ v. next (record a { memory = m }) refl)
     after_call_keeps c result (Threw v m) = keeps_if f a _ _ (callee_raise_keeps v m a.tries refl)
@@ -182,7 +182,7 @@ module _ (f : LinOp) (a : Around) (next : (after : Around) → after.tries ≡ a
     checked_keeps : (c : Setting) (bound index : Result ℕ Kind) → Keeps f a (checked c bound index a)
     checked_keeps c (Ok bound) (Ok index) = by _
       where
-        by : (b : Bool) → Keeps f a (cond b (Goes [] On a) (raises c bound_error a))
+        by : (b : Bool) → Keeps f a (cond b (Goes [] On a) (raise_act c bound_error a))
         by true = next a refl
         by false = keeps_if f a _ _ (raise_keeps bound_error a.tries refl)
     checked_keeps c (Ok bound) (Err kind) = tt
@@ -216,7 +216,7 @@ module _ (f : LinOp) (a : Around) where
   asks_callee_keeps c callee.Register [] call k = tt
   asks_callee_keeps c callee.Register (v ∷ vs) call k = asks_value_keeps c (Some v) vs call k
 
-to_next : (g : Op) (a after : Around) → acts.goes_on g ≡ true → after.tries ≡ a.tries → On_to (lin.Op g) a On after
+to_next : (g : Op) (a after : Around) → acts.falls_through g ≡ true → after.tries ≡ a.tries → On_to (lin.Op g) a On after
 to_next g a after e same = record { goes = subst (λ b. OneOf On (mach_walks.next_if b)) (sym e) mach_walks.this; tries = same }
 
 leaving_keeps : (c : Setting) (g : Leaving) (vs : List Value) (a : Around) → Keeps (lin.Op (op.Leaving g)) a (leaving_act c g vs a)
@@ -244,13 +244,13 @@ op_keeps : (c : Setting) (g : Op) (vs : List Value) (a : Around) → Keeps (lin.
 op_keeps c (op.Pure g) vs a = pure_keeps (lin.Op (op.Pure g)) a (λ after e. to_next (op.Pure g) a after refl e) c g vs
 op_keeps c (op.Access g) vs a = access_keeps (lin.Op (op.Access g)) a (λ after e. to_next (op.Access g) a after refl e) g vs
 op_keeps c (op.Calling (calling.Call whom result)) vs a =
-    asks_callee_keeps (lin.Op (op.Calling (calling.Call whom result))) a c whom vs (λ f arguments. Asks f arguments (after_call c result a))
+    asks_callee_keeps (lin.Op (op.Calling (calling.Call whom result))) a c whom vs (λ f arguments. Asks f arguments (act_after_call c result a))
     (λ f vs d. after_call_keeps (lin.Op (op.Calling (calling.Call whom result))) a
     (λ after e. to_next (op.Calling (calling.Call whom result)) a after refl e) refl c result d)
 op_keeps c (op.Calling (calling.TailCall whom result)) vs a =
     asks_callee_keeps (lin.Op (op.Calling (calling.TailCall whom result))) a c whom vs (λ f arguments. Replaces f arguments result) (λ f vs. tt)
 op_keeps c (op.Calling (calling.External row frame)) vs a =
-    keeps_if (lin.Op (op.Calling (calling.External row frame))) a (is_complete a) (Asks (Outside (row_of row) frame) vs (after_external c row.result frame a))
+    keeps_if (lin.Op (op.Calling (calling.External row frame))) a (is_complete a) (Asks (Outside (external_row row) frame) vs (after_external c row.result frame a))
     (λ d. after_external_keeps (lin.Op (op.Calling (calling.External row frame))) a
     (λ after e. to_next (op.Calling (calling.External row frame)) a after refl e) c row.result frame (λ e. e) d)
 op_keeps c (op.Leaving g) vs a = leaving_keeps c g vs a
@@ -264,7 +264,7 @@ case_keeps all [] a in_all (Ok n) = tt
 case_keeps all (l ∷ labels) a in_all (Ok zero) = record { goes = in_all l mach_walks.this; tries = refl }
 case_keeps all (l ∷ labels) a in_all (Ok (suc n)) = case_keeps all labels a (λ k o. in_all k (mach_walks.other o)) (Ok n)
 
-branch_keeps : (t : Test) (l : ℕ) (a : Around) (o : Option Bool) → Keeps (lin.Flow (flow.Branch t l)) a (branches a (At l) On o)
+branch_keeps : (t : Test) (l : ℕ) (a : Around) (o : Option Bool) → Keeps (lin.Flow (flow.Branch t l)) a (goes_by_test a (At l) On o)
 branch_keeps t l a (Some true) = record { goes = mach_walks.other mach_walks.this; tries = refl }
 branch_keeps t l a (Some false) = record { goes = mach_walks.this; tries = refl }
 branch_keeps t l a None = tt
@@ -297,7 +297,7 @@ lin_keeps c (lin.Flow g) vs a = flow_keeps g vs a
 
 -- ---- steps
 
-module _ (c : Place) (m : Lin) (i : Line) (next : List Line) (a : Around) (here : Reached m (i ∷ next) a.tries) where
+module _ (c : ActivationSetting) (m : Lin) (i : Line) (next : List Line) (a : Around) (here : Reached m (i ∷ next) a.tries) where
   abbrev Stood : State → Type 0
   Stood u = Reached m u.rest u.around.tries
 
@@ -310,12 +310,12 @@ module _ (c : Place) (m : Lin) (i : Line) (next : List Line) (a : Around) (here 
       subst (λ (tries : List ℕ). Reached m (landing_code m.code tries AtHandler) after.tries) (sym t.tries) (walks.by_raise here' (walks.raises t.raises))
 
   wrote_stood : (rest : List Line) (after : Around) (o : Option Locations) → Reached m rest after.tries → (u : State) →
-      LeadsTo State u (wrote rest after o) → Stood u
+      StepLeadsTo State u (wrote rest after o) → Stood u
   wrote_stood rest after None r u l = elim l [ ]
   wrote_stood rest after (Some f) r u continues = r
 
-  act_stood : (f : Locations) (x : Act) → Keeps i.op a x → (u : State) → LeadsTo State u (on_act c m i next f a x) → Stood u
-  act_stood f (Goes vs to after) k u l = wrote_stood (code_at m.code next to) after (put_all c.setting.end i.results vs (clear (destroyed_by i.op) f))
+  act_stood : (f : Locations) (x : Act) → Keeps i.op a x → (u : State) → StepLeadsTo State u (on_act c m i next f a x) → Stood u
+  act_stood f (Goes vs to after) k u l = wrote_stood (code_at m.code next to) after (put_all c.setting.end i.results vs (clear_destroyed (destroyed_by i.op) f))
       (goes_there to after k) u l
   act_stood f (Pushes after) k u deepens = goes_there On after k
   act_stood f (Jumps (AtLabel t) after) k u pays = goes_there (At t) after k
@@ -327,29 +327,29 @@ module _ (c : Place) (m : Lin) (i : Line) (next : List Line) (a : Around) (here 
   act_stood f (EndsRaising d) k u l = elim l [ ]
   act_stood f Stuck k u l = elim l [ ]
 
-  misnamed_stood : (b : Bool) (x : Step State) → ((u : State) → LeadsTo State u x → Stood u) → (u : State) → LeadsTo State u (unless_misnamed b x) → Stood u
+  misnamed_stood : (b : Bool) (x : Step State) → ((u : State) → StepLeadsTo State u x → Stood u) → (u : State) → StepLeadsTo State u (unless_misnamed b x) → Stood u
   misnamed_stood true x k u l = k u l
   misnamed_stood false x k u l = elim l [ ]
 
-  values_stood : (names : List Loc) (f : Locations) (o : Option (List Value)) (u : State) → LeadsTo State u (on_values c names m i next f a o) → Stood u
+  values_stood : (names : List Loc) (f : Locations) (o : Option (List Value)) (u : State) → StepLeadsTo State u (on_values c names m i next f a o) → Stood u
   values_stood names f None u l = elim l [ ]
   values_stood names f (Some vs) u l =
       misnamed_stood (not (passes_frame i.op) || are_vals c.setting.end names f) _
       (act_stood (past_frame (passes_frame i.op) names f) (lin_act c.setting i.op vs a) (lin_keeps c.setting i.op vs a)) u l
 
-code_stood : (c : Place) (named : NamedAt) (m : Lin) (rest : List Line) (f : Locations) (a : Around) → Reached m rest a.tries → (u : State) →
-    LeadsTo State u (at_code c named m rest f a) → Reached m u.rest u.around.tries
+code_stood : (c : ActivationSetting) (named : NamedAt) (m : Lin) (rest : List Line) (f : Locations) (a : Around) → Reached m rest a.tries → (u : State) →
+    StepLeadsTo State u (at_code c named m rest f a) → Reached m u.rest u.around.tries
 code_stood c named m [] f a here u l = elim l [ ]
 code_stood c named m (i ∷ next) f a here u l = values_stood c m i next a here (named (length next)) f (values c.setting.end f i.args) u l
 
-start_stood : (m : Lin) (memory : Memory) (o : Option Locations) (s : State) → begun m memory o ≡ Some s → Reached m s.rest s.around.tries
+start_stood : (m : Lin) (memory : Memory) (o : Option Locations) (s : State) → begin_linear m memory o ≡ Some s → Reached m s.rest s.around.tries
 start_stood m memory None s e = absurd (let no' : None ≡ Some s = e in cc)
 start_stood m memory (Some f) s e =
-    let same : record { rest = m.code; file = f; around = entered memory } ≡ s = cc in
+    let same : record { rest = m.code; file = f; around = entry_around memory } ≡ s = cc in
     subst (λ (z : State). Reached m z.rest z.around.tries) same walks.at_entry
 
 -- Where a run of a Linear function comes, some walk comes with the tries that are pushed there.
-pub reached_walks : (lins : ℕ → Lin) (named : ℕ → NamedAt) (f : ℕ) (c : Place) {u : State} → IsReached State (linear_program lins named) f c u →
+pub reached_walks : (lins : ℕ → Lin) (named : ℕ → NamedAt) (f : ℕ) (c : ActivationSetting) {u : State} → IsReached State (linear_program lins named) f c u →
     Reached (lins f) u.rest u.around.tries
 reached_walks lins named f c (at_start {arguments = arguments} {memory = memory} {s = s} e) =
     start_stood (lins f) memory (put_all c.setting.end (lins f).params arguments (λ l. None)) s e

@@ -12,9 +12,9 @@ use Rattle.cmm_meaning.specs.Evaluation.{OutOfFuel, Evaluation, Stops, fit_param
 use Rattle.cmm_meaning.specs.Layout.{Layout}
 use Rattle.cmm_meaning.specs.State.{Doing, World}
 use Rattle.mach_ir.specs.Keeps.{Proper}
-use Rattle.mach_ir.specs.Runs.{Place, Tally, Running, first_tally}
+use Rattle.mach_ir.specs.Runs.{ActivationSetting, Tally, Running, first_tally}
 use Rattle.mach_ir.specs.declared.mach.Mach.{Mach}
-use Rattle.lin_ir.specs.Keeps.{Keeps}
+use Rattle.lin_ir.specs.Keeps.{LinearKeeps}
 use Rattle.lin_ir.specs.Meaning.{NamedAt}
 use Rattle.lin_ir.specs.declared.lin.Lin.{Lin}
 use Rattle.meaning_laws.specs.Handed.{AreHanded}
@@ -23,24 +23,24 @@ use Rattle.selection_rules.specs.Bounded.{AllBounded, BoundedMemory, BoundedCode
 use Rattle.selection_rules.specs.Select.{selected, width}
 use Rattle.selection_rules.proofs.Selection.{SelectedRun}
 use Rattle.linking.specs.Keeps.{Runs, alone_in}
-use Rattle.linking.specs.Program.{setting_in, place_in}
+use Rattle.linking.specs.Program.{setting_in, activation_in}
 use Rattle.linking_stages.specs.Stages.{mach_program}
 use Rattle.mach_ir.specs.Meaning as mach
 
 -- A run of a Mach function that does what the function of the text does, and is nowhere stuck.
-pub record RunsProper (functions : ℕ → Mach) (most f : ℕ) (c : Place) (arguments : List Value)
+pub record RunsProper (functions : ℕ → Mach) (most f : ℕ) (c : ActivationSetting) (arguments : List Value)
     (memory : Memory) (doings : List Doing) (n : ℕ) (e : Evaluation) : Type 0 where
   pub run : Runs mach.State (mach_program functions) most f c arguments memory doings n e
   pub proper : Proper c (functions f) run.steps run.begun (first_tally c doings)
 
 -- Selection makes Mach functions that do what those of the text do, on what is known.
-pub record Selects (file : FileTree) (layout : Layout) (machs : ℕ → Mach) (most : ℕ)
+pub record SelectsFile (file : FileTree) (layout : Layout) (machs : ℕ → Mach) (most : ℕ)
     (IsGiven : List Value → Memory → Type 0) (IsDone : Doing → Type 0) : Type 0 where
   pub runs : (f : ℕ) (tree : FunctionTree) → slice_get (functions file) f ≡ Some tree →
       (arguments : List Value) → fit_parameters (data_end file) (comps_of tree) arguments ≡ true →
       (below : ℕ) (memory : Memory) (doings : List Doing) (n : ℕ) → IsGiven arguments memory →
       AllByRecursion IsDone doings →
-      let c : Place = place_in file layout f below in
+      let c : ActivationSetting = activation_in file layout f below in
       let e : Evaluation = alone_in file c tree arguments memory doings n in
       IsProperEnd e → AreHanded file (world_of e).asked doings →
       RunsProper machs most f c arguments memory doings n e
@@ -50,7 +50,7 @@ pub record Selects (file : FileTree) (layout : Layout) (machs : ℕ → Mach) (m
 pub record AreLowered (file : FileTree) (machs : ℕ → Mach) (lins : ℕ → Lin) (named : ℕ → NamedAt)
     : Type 0 where
   pub keeps : (f : ℕ) (tree : FunctionTree) → slice_get (functions file) f ≡ Some tree →
-      Keeps (machs f) (lins f) (named f)
+      LinearKeeps (machs f) (lins f) (named f)
 
 -- ---- words
 
@@ -60,12 +60,12 @@ IsGivenWords arguments memory = AllBounded arguments × BoundedMemory memory
 
 -- A run of a selected function that comes to the end of the text's function, in words, and is nowhere
 -- stuck. Where that has no units left, it has asked for no more heap.
-pub record SelectedSo (c : Place) (m : Mach) (tree : FunctionTree) (arguments : List Value)
+pub record SelectedSo (c : ActivationSetting) (m : Mach) (tree : FunctionTree) (arguments : List Value)
     (memory : Memory) (doings : List Doing) (n : ℕ) (e : Evaluation) : Type 0 where
-  pub run : SelectedRun mach.run c m tree arguments memory doings n
+  pub run : SelectedRun mach.run_of_mach c m tree arguments memory doings n
   pub proper : Proper c m run.steps run.begun (first_tally c doings)
   pub heap : (u : World) (s : mach.State) (t : Tally) → e ≡ Stops OutOfFuel u →
-      mach.run c m run.steps run.begun (first_tally c doings) ≡ Running s t →
+      mach.run_of_mach c m run.steps run.begun (first_tally c doings) ≡ Running s t →
       heap_need s.around.memory ≤ heap_need u.memory
 
 -- Selection has made these functions of those of a file: of each it is known that its runs are so,
@@ -79,7 +79,7 @@ pub record IsSelected (file : FileTree) (layout : Layout) (machs : ℕ → Mach)
         fit_parameters (data_end file) (comps_of tree) arguments ≡ true → (below : ℕ)
         (memory : Memory) (doings : List Doing) (n : ℕ) → IsGivenWords arguments memory →
         BoundedDoings doings →
-        let c : Place = place_in file layout f below in
+        let c : ActivationSetting = activation_in file layout f below in
         let e : Evaluation = alone_in file c tree arguments memory doings n in
         IsProperEnd e → SelectedSo c (machs f) tree arguments memory doings n e
 

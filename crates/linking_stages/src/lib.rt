@@ -11,12 +11,12 @@ ghost use Rattle.lin_ir.specs.Meaning.{NamedAt, State};
 ghost use Rattle.lin_ir.specs.Walks.{Reached};
 ghost use Rattle.lin_ir.specs.declared.lin.Lin.{Lin};
 ghost use Rattle.linking.specs.Assembled.{IsPassedOn};
-ghost use Rattle.linking.specs.Keeps.{Keeps};
+ghost use Rattle.linking.specs.Keeps.{ProgramKeeps};
 ghost use Rattle.linking.specs.Pace.{IsReached};
-ghost use Rattle.linking.specs.Program.{IsRegular};
+ghost use Rattle.linking.specs.Program.{IsRegularProgram};
 ghost use Rattle.linking_stages.specs.Chain.{AreLowered, HoldsWords, IsGivenWords, IsSelected};
 ghost use Rattle.linking_stages.specs.Stages.{linear_program};
-ghost use Rattle.mach_ir.specs.Runs.{Place};
+ghost use Rattle.mach_ir.specs.Runs.{ActivationSetting};
 ghost use Rattle.mach_ir.specs.declared.mach.Mach.{Mach};
 ghost use Rattle.selection_rules.specs.Bounded.{BoundedDoing};
 
@@ -25,7 +25,7 @@ pub fn stages_compose()
     ensures { (file : FileTree) (layout : Layout) (most : ℕ) (machs : ℕ → Mach) (lins : ℕ → Lin)
         (named : ℕ → NamedAt) → IsSelected file layout machs most →
         AreLowered file machs lins named →
-        Keeps State (linear_program lins named) file layout most IsGivenWords BoundedDoing }
+        ProgramKeeps State (linear_program lins named) file layout most IsGivenWords BoundedDoing }
 {}
 
 /// Law: a function that is handed words hands words to those that it calls, and back.
@@ -36,12 +36,12 @@ pub fn words_are_passed_on()
 
 /// Law: the needs of Linear functions are what their tallies and memories say.
 pub fn linear_is_regular()
-    ensures { (lins : ℕ → Lin) (named : ℕ → NamedAt) → IsRegular State (linear_program lins named) }
+    ensures { (lins : ℕ → Lin) (named : ℕ → NamedAt) → IsRegularProgram State (linear_program lins named) }
 {}
 
 /// Law: where a run of a Linear function comes, some walk comes with the tries that are pushed there.
 pub fn runs_keep_to_walks()
-    ensures { (lins : ℕ → Lin) (named : ℕ → NamedAt) (f : ℕ) (c : Place) (u : State) →
+    ensures { (lins : ℕ → Lin) (named : ℕ → NamedAt) (f : ℕ) (c : ActivationSetting) (u : State) →
         IsReached State (linear_program lins named) f c u →
         Reached (lins f) u.rest u.around.tries }
 {}

@@ -4,22 +4,22 @@ use Rattle.std.specs.List.{All, Contains}
 use Rattle.std.specs.Prelude.{slice_index_or}
 use Rattle.std.proofs.lemmas.List.{append-nil, map-append, take_more}
 use Rattle.std.proofs.lemmas.List.Elements.{Contains-get_or, Contains-append_cases, All-cons, All-nil, Contains-append_left, Contains-append_right}
-use Rattle.mach_ir.specs.Meaning.{Destroyed, Nothing, Temporaries, Everything, destroyed_by, is_destroyed, is_at_one_of, killed_among, killed_by, killed, written}
+use Rattle.mach_ir.specs.Meaning.{Destroyed, Nothing, Temporaries, Everything, destroyed_by, is_destroyed, is_at_one_of, killed_among, killed_by, killed, registers_written}
 use Rattle.mach_ir.specs.Walks.{InCode, in_args, in_results, further, IsRegister, is_param, is_colour, is_in_code}
 use Rattle.mach_ir.specs.declared.reg.Reg.{Reg}
 use Rattle.mach_ir.specs.declared.mach.Instr.{Instr}
 use Rattle.mach_ir.specs.declared.mach.Mach.{Mach}
-use Rattle.mach_laws.specs.Graph.{numbers}
+use Rattle.mach_laws.specs.Graph.{numbers_of_registers}
 use Rattle.bs_words.proofs.Lists.{none_in, first_in, later_in, in_cons}
-use Rattle.liveness.specs.Numbers.{IsAbove, IsAboveCode}
+use Rattle.liveness.specs.Numbers.{IsLeastAbove, IsAboveCode}
 
 -- ---- lists
 
 pub numbers_below : (bound : ℕ) (rs : List Reg) → ((r : Reg) → Contains rs r → r.number < bound) →
-    All (λ n. n < bound) (numbers rs)
+    All (λ n. n < bound) (numbers_of_registers rs)
 numbers_below bound [] h = All-nil (λ n. n < bound)
 numbers_below bound (r ∷ rs) h =
-    All-cons (λ n. n < bound) r.number (numbers rs) (h r (first_in r rs)) (numbers_below bound rs (λ q c. h q (later_in r q rs c)))
+    All-cons (λ n. n < bound) r.number (numbers_of_registers rs) (h r (first_in r rs)) (numbers_below bound rs (λ q c. h q (later_in r q rs c)))
 
 -- ---- what an operation destroys is at a colour
 
@@ -40,9 +40,9 @@ nothing_killed [] rs = refl
 nothing_killed (x ∷ cs) rs = nothing_killed cs rs
 
 pub nothing_added : (found : List ℕ) (cs : List Reg) (d : Destroyed) (rs : List Reg) → d ≡ Nothing →
-    found ≡ found ++ numbers (killed_among cs d rs)
+    found ≡ found ++ numbers_of_registers (killed_among cs d rs)
 nothing_added found cs d rs e =
-    sym (ap (λ ks. found ++ numbers ks) (ap (λ d. killed_among cs d rs) e ∙ nothing_killed cs rs) ∙ append-nil found)
+    sym (ap (λ ks. found ++ numbers_of_registers ks) (ap (λ d. killed_among cs d rs) e ∙ nothing_killed cs rs) ∙ append-nil found)
 
 -- the case of an operation that destroys nothing is no exception
 pub killed_is : (cs : List Reg) (d : Destroyed) (rs : List Reg) → killed_by cs d rs ≡ killed_among cs d rs
@@ -81,12 +81,12 @@ code_more b d (j ∷ is) (suc k) i lt e le old args results r c =
 -- ---- what is written
 
 pub written_is : (m : Mach) (i : Instr) (results colours : List Reg) (found all made : List ℕ) → results ≡ i.results →
-    colours ≡ m.colours → found ≡ numbers results →
-    all ≡ found ++ numbers (killed_among colours (destroyed_by i.op) results) → made ≡ all → made ≡ numbers (written m i)
+    colours ≡ m.colours → found ≡ numbers_of_registers results →
+    all ≡ found ++ numbers_of_registers (killed_among colours (destroyed_by i.op) results) → made ≡ all → made ≡ numbers_of_registers (registers_written m i)
 written_is m i results colours found all made e g f a h =
     h ∙ a
-    ∙ ap (λ ns. ns ++ numbers (killed_among colours (destroyed_by i.op) results)) (f ∙ ap numbers e)
-    ∙ ap (λ rs. numbers i.results ++ numbers rs)
+    ∙ ap (λ ns. ns ++ numbers_of_registers (killed_among colours (destroyed_by i.op) results)) (f ∙ ap numbers_of_registers e)
+    ∙ ap (λ rs. numbers_of_registers i.results ++ numbers_of_registers rs)
     (ap (λ cs. killed_among cs (destroyed_by i.op) results) g
     ∙ ap (killed_among m.colours (destroyed_by i.op)) e ∙ sym (killed_is m.colours (destroyed_by i.op) i.results))
     ∙ sym (map-append (λ (r : Reg). r.number) i.results (killed m i))
@@ -99,8 +99,8 @@ member P xs q all c = subst P c.2 (all c.0 q c.1)
 pub members : (P : Reg → Type 0) (xs : List Reg) → ((q : Reg) → Contains xs q → P q) → All P xs
 members P xs h = λ k d lt. h (slice_index_or xs k d) (Contains-get_or xs k d lt)
 
-pub above_step : (bound old new next k : ℕ) (rs : List Reg) (d : Reg) → k < length rs → IsAbove bound (take k rs) old →
-    next ≡ (slice_index_or rs k d).number + 1 → new ≡ max old next → IsAbove bound (take (k + 1) rs) new
+pub above_step : (bound old new next k : ℕ) (rs : List Reg) (d : Reg) → k < length rs → IsLeastAbove bound (take k rs) old →
+    next ≡ (slice_index_or rs k d).number + 1 → new ≡ max old next → IsLeastAbove bound (take (k + 1) rs) new
 above_step bound old new next k rs d lt before e greatest =
     let low = before.above in
     record {
@@ -167,8 +167,8 @@ last_results (j ∷ is) zero i r lt e c = in_results (subst (λ (i : Instr). Con
 last_results (j ∷ is) (suc k) i r lt e c = further (last_results is k i r (omega (arith, lt)) e c)
 
 pub code_step : (bound old mid new k : ℕ) (code : List Instr) (i : Instr) (args results : List Reg) → k < length code →
-    i ≡ slice_index_or code k i → args ≡ i.args → results ≡ i.results → IsAboveCode bound (take k code) old → IsAbove old args mid →
-    IsAbove mid results new → IsAboveCode bound (take (k + 1) code) new
+    i ≡ slice_index_or code k i → args ≡ i.args → results ≡ i.results → IsAboveCode bound (take k code) old → IsLeastAbove old args mid →
+    IsLeastAbove mid results new → IsAboveCode bound (take (k + 1) code) new
 code_step bound old mid new k code i args results lt at e h before one two =
     let same : suc k ≡ k + 1 = omega arith in
     let zero_one = before.above in
@@ -193,7 +193,7 @@ code_step bound old mid new k code i args results lt at e h before one two =
     less : (x : ℕ) → x < mid → x < new
     less x h = let second = two.above in omega (arith, h, second)
 
-pub above_begun : (bound : ℕ) (rs : List Reg) → IsAbove bound (take 0 rs) bound
+pub above_begun : (bound : ℕ) (rs : List Reg) → IsLeastAbove bound (take 0 rs) bound
 above_begun bound rs =
     record {
       above = omega arith;
@@ -218,7 +218,7 @@ code_begun bound code =
     none (i ∷ is) r c = elim c [ ]
 
 -- the number above all of a function, from those of its parts
-pub first_least : (m : Mach) (params colours free : ℕ) → IsAbove 0 m.params params → IsAbove params m.colours colours →
+pub first_least : (m : Mach) (params colours free : ℕ) → IsLeastAbove 0 m.params params → IsLeastAbove params m.colours colours →
     IsAboveCode colours m.code free → (b : ℕ) → ((r : Reg) → IsRegister m r → r.number < b) → free ≤ b
 first_least m params colours free one two three b h =
     three.least b

@@ -4,28 +4,28 @@ use Rattle.std.specs.List.{All}
 use Rattle.std.specs.Prelude.{slice_index_or}
 use Rattle.std.proofs.lemmas.List.Elements.{All-nil, All-cons, Contains-append_cases}
 use Rattle.bs_words.specs.Contents.{contents}
-use Rattle.dataflow.specs.Flow.{IsPlace, WellFormed}
+use Rattle.dataflow.specs.Flow.{IsPlace, IsFlowFormed}
 use Rattle.dataflow.specs.declared.flow.Flow as flow
 use Rattle.dataflow.specs.declared.flow.Place as place
 use Rattle.mach_ir.specs.Acts.{Target}
-use Rattle.mach_ir.specs.Meaning.{code_at, from_handler, killed, written, tries_at}
+use Rattle.mach_ir.specs.Meaning.{code_at, from_handler, killed, registers_written, tries_at}
 use Rattle.mach_ir.specs.Walks.{IsRegister, is_colour, is_in_code, InCode, in_args, in_results, further, targets, may_raise}
 use Rattle.mach_ir.specs.declared.reg.Reg.{Reg}
 use Rattle.mach_ir.specs.declared.mach.Instr.{Instr}
 use Rattle.mach_ir.specs.declared.mach.Mach.{Mach}
-use Rattle.mach_laws.specs.Graph.{place_of, handler_places, next_places, raise_places, numbers_read, numbers_written, IsFlowOf}
-use Rattle.liveness.specs.Nodes.{Uses, register_uses, IsNode, AreNodes, at_end, before}
+use Rattle.mach_laws.specs.Graph.{code_index, handler_places, next_places, raise_places, numbers_read, numbers_written, IsFlowOf}
+use Rattle.liveness.specs.Nodes.{Uses, register_uses, IsLivenessNode, AreLivenessNodes, at_end, before}
 use Rattle.liveness.proofs.Bounds.{numbers_below, killed_is_colour}
 
 module _ (m : Mach) (uses : Uses) where
-  pub count_is : {rest : List Instr} {nodes : List place.Place} → AreNodes m uses rest nodes → length nodes ≡ suc (length rest)
+  pub count_is : {rest : List Instr} {nodes : List place.Place} → AreLivenessNodes m uses rest nodes → length nodes ≡ suc (length rest)
   count_is (at_end n) = refl
   count_is (before n ns) = ap suc (count_is ns)
 
   -- what each node has, where each is right and the last one has none
   pub part_is : (part : place.Place → List ℕ) (is : List Instr → List ℕ) → is [] ≡ [] →
-      ((rest : List Instr) (node : place.Place) → IsNode m uses rest node → part node ≡ is rest) →
-      {rest : List Instr} {nodes : List place.Place} → AreNodes m uses rest nodes → (p : ℕ) →
+      ((rest : List Instr) (node : place.Place) → IsLivenessNode m uses rest node → part node ≡ is rest) →
+      {rest : List Instr} {nodes : List place.Place} → AreLivenessNodes m uses rest nodes → (p : ℕ) →
       slice_index_or (map part nodes) p [] ≡ is (drop p rest)
   part_is part is none each (at_end {node = node} n) zero = each [] node n
   part_is part is none each (at_end n) (suc p) = sym none
@@ -41,16 +41,16 @@ module _ (m : Mach) (uses : Uses) where
     abbrev AreBelow : List ℕ → Type 0
     AreBelow ns = All (λ n. n < bound) ns
 
-    place_within : (rest : List Instr) → place_of m rest < count
+    place_within : (rest : List Instr) → code_index m rest < count
     place_within rest = by (length m.code) (length rest) more
       where
         by : (a b : ℕ) → a < count → a - b < count
         by a b lt = omega (arith, lt)
 
-    targets_within : (next : List Instr) (ts : List Target) → IsWithin (map (λ t. place_of m (code_at m.code next t)) ts)
+    targets_within : (next : List Instr) (ts : List Target) → IsWithin (map (λ t. code_index m (code_at m.code next t)) ts)
     targets_within next [] = All-nil (λ q. q < count)
     targets_within next (t ∷ ts) =
-        All-cons (λ q. q < count) (place_of m (code_at m.code next t)) (map (λ t. place_of m (code_at m.code next t)) ts)
+        All-cons (λ q. q < count) (code_index m (code_at m.code next t)) (map (λ t. code_index m (code_at m.code next t)) ts)
         (place_within (code_at m.code next t)) (targets_within next ts)
 
     next_within : (rest : List Instr) → IsWithin (next_places m rest)
@@ -61,7 +61,7 @@ module _ (m : Mach) (uses : Uses) where
     handlers_within false tries = All-nil (λ q. q < count)
     handlers_within true [] = All-nil (λ q. q < count)
     handlers_within true (l ∷ tries) =
-        All-cons (λ q. q < count) (place_of m (from_handler l m.code)) [] (place_within (from_handler l m.code))
+        All-cons (λ q. q < count) (code_index m (from_handler l m.code)) [] (place_within (from_handler l m.code))
         (All-nil (λ q. q < count))
 
     aside_within : (rest : List Instr) → IsWithin (raise_places m rest)
@@ -72,7 +72,7 @@ module _ (m : Mach) (uses : Uses) where
     abbrev pub AreSmall : List Instr → Type 0
     AreSmall code = (p : ℕ) → AreBelow (uses.reads (drop p code)) × AreBelow (uses.writes (drop p code))
 
-    node_within : (rest : List Instr) {node : place.Place} → IsNode m uses rest node → AreBelow (uses.reads rest) →
+    node_within : (rest : List Instr) {node : place.Place} → IsLivenessNode m uses rest node → AreBelow (uses.reads rest) →
         AreBelow (uses.writes rest) → IsPlace count bound node
     node_within rest n reads writes =
         record {
@@ -82,7 +82,7 @@ module _ (m : Mach) (uses : Uses) where
           writes = subst AreBelow (sym n.writes) writes;
         }
 
-    pub nodes_within : {rest : List Instr} {nodes : List place.Place} → AreNodes m uses rest nodes → AreSmall rest →
+    pub nodes_within : {rest : List Instr} {nodes : List place.Place} → AreLivenessNodes m uses rest nodes → AreSmall rest →
         All (IsPlace count bound) nodes
     nodes_within (at_end {node = node} n) small =
         All-cons (IsPlace count bound) node [] (node_within [] n (small 0).0 (small 0).1) (All-nil (IsPlace count bound))
@@ -100,7 +100,7 @@ module _ (m : Mach) (bound : ℕ) (above : (r : Reg) → IsRegister m r → r.nu
       All (λ n. n < bound) (numbers_written m rest)
   writes_below [] in_code = All-nil (λ n. n < bound)
   writes_below (i ∷ next) in_code =
-      numbers_below bound (written m i)
+      numbers_below bound (registers_written m i)
       (λ r c.
       ⊎_elim (λ h. above r (in_code r (in_results h))) (λ h. above r (is_colour (killed_is_colour m i r h)))
       (Contains-append_cases i.results (killed m i) r c))
@@ -120,7 +120,7 @@ module _ (m : Mach) (bound : ℕ) (above : (r : Reg) → IsRegister m r → r.nu
 
 -- ---- the flow graph of a function
 
-module _ (m : Mach) (f : flow.Flow) (nodes : AreNodes m (register_uses m) m.code (contents f.places)) where
+module _ (m : Mach) (f : flow.Flow) (nodes : AreLivenessNodes m (register_uses m) m.code (contents f.places)) where
   pub are_flow : IsFlowOf m f
   are_flow =
       let uses : Uses = register_uses m in
@@ -132,7 +132,7 @@ module _ (m : Mach) (f : flow.Flow) (nodes : AreNodes m (register_uses m) m.code
         writes = λ p. part_is m uses (λ x. contents x.writes) (numbers_written m) refl (λ rest node n. n.writes) nodes p;
       }
 
-  pub is_formed : ((r : Reg) → IsRegister m r → r.number < f.bound) → WellFormed f
+  pub is_formed : ((r : Reg) → IsRegister m r → r.number < f.bound) → IsFlowFormed f
   is_formed above =
       let count : length (contents f.places) ≡ suc (length m.code) = count_is m (register_uses m) nodes in
       nodes_within m (register_uses m) (length (contents f.places)) f.bound (omega (arith, count)) nodes

@@ -6,7 +6,7 @@ use Rattle.dataflow.specs.declared.flow.Place as place
 use Rattle.mach_ir.specs.Meaning.{tries_at, tries_past}
 use Rattle.mach_ir.specs.declared.mach.Instr.{Instr}
 use Rattle.mach_ir.specs.declared.mach.Mach.{Mach}
-use Rattle.liveness.specs.Nodes.{Uses, IsNode, AreNodes, at_end, before}
+use Rattle.liveness.specs.Nodes.{Uses, IsLivenessNode, AreLivenessNodes, at_end, before}
 
 module _ (m : Mach) where
   none_left : (k : ℕ) → k ≡ length m.code → drop k m.code ≡ []
@@ -16,10 +16,10 @@ module _ (m : Mach) where
   tries_begun k tries e h = h ∙ sym (ap tries_at (none_left k e))
 
   pub nodes_begun : (uses : Uses) (k : ℕ) (last : place.Place) (old nodes : List place.Place) → k ≡ length m.code →
-      IsNode m uses [] last → old ≡ [] → nodes ≡ last ∷ old → AreNodes m uses (drop k m.code) nodes
+      IsLivenessNode m uses [] last → old ≡ [] → nodes ≡ last ∷ old → AreLivenessNodes m uses (drop k m.code) nodes
   nodes_begun uses k last old nodes e node none made =
-      subst (λ rest. AreNodes m uses rest nodes) (sym (none_left k e))
-      (subst (AreNodes m uses []) (sym (made ∙ ap (λ xs. last ∷ xs) none)) (at_end node))
+      subst (λ rest. AreLivenessNodes m uses rest nodes) (sym (none_left k e))
+      (subst (AreLivenessNodes m uses []) (sym (made ∙ ap (λ xs. last ∷ xs) none)) (at_end node))
 
   -- the instruction at a place, and the code after it
   pub code_at_place : (code : List Instr) (left : ℕ) (i : Instr) → code ≡ m.code → 0 < left → left ≤ length m.code →
@@ -36,17 +36,17 @@ module _ (m : Mach) where
   tries_more left i old new at was made = made ∙ ap (tries_past i.op) was ∙ sym (ap tries_at at)
 
   pub nodes_more : (uses : Uses) (left : ℕ) (i : Instr) (node : place.Place) (old new : List place.Place) →
-      drop (left - 1) m.code ≡ i ∷ drop left m.code → AreNodes m uses (drop left m.code) old →
-      IsNode m uses (i ∷ drop left m.code) node → new ≡ node ∷ old → AreNodes m uses (drop (left - 1) m.code) new
+      drop (left - 1) m.code ≡ i ∷ drop left m.code → AreLivenessNodes m uses (drop left m.code) old →
+      IsLivenessNode m uses (i ∷ drop left m.code) node → new ≡ node ∷ old → AreLivenessNodes m uses (drop (left - 1) m.code) new
   nodes_more uses left i node old new at nodes one made =
-      subst (λ rest. AreNodes m uses rest new) (sym at) (subst (AreNodes m uses (i ∷ drop left m.code)) (sym made) (before one nodes))
+      subst (λ rest. AreLivenessNodes m uses rest new) (sym at) (subst (AreLivenessNodes m uses (i ∷ drop left m.code)) (sym made) (before one nodes))
 
-  pub nodes_done : (uses : Uses) (left : ℕ) (nodes all : List place.Place) → left ≤ 0 → AreNodes m uses (drop left m.code) nodes →
-      all ≡ nodes → AreNodes m uses m.code all
+  pub nodes_done : (uses : Uses) (left : ℕ) (nodes all : List place.Place) → left ≤ 0 → AreLivenessNodes m uses (drop left m.code) nodes →
+      all ≡ nodes → AreLivenessNodes m uses m.code all
   nodes_done uses left nodes all none are same =
       let zero_left : left ≡ 0 = omega (arith, none) in
-      subst (λ rest. AreNodes m uses rest all) (ap (λ k. drop k m.code) zero_left ∙ whole m.code)
-      (subst (AreNodes m uses (drop left m.code)) (sym same) are)
+      subst (λ rest. AreLivenessNodes m uses rest all) (ap (λ k. drop k m.code) zero_left ∙ whole m.code)
+      (subst (AreLivenessNodes m uses (drop left m.code)) (sym same) are)
     where
       whole : (xs : List Instr) → drop 0 xs ≡ xs
       whole [] = refl

@@ -11,14 +11,14 @@ use Rattle.dataflow.specs.declared.flow.Flow as flow
 use Rattle.dataflow.specs.declared.flow.Place as place
 use Rattle.mach_ir.specs.Acts.{Target, On}
 use Rattle.mach_ir.specs.Meaning.{Nothing, Everything, destroyed_by, code_at, from_handler, tries_at}
-use Rattle.mach_ir.specs.Walks.{OneOf, this, other, next_if, targets, may_raise, goes, raises, Leads, Raises, Live, read, on, aside}
+use Rattle.mach_ir.specs.Walks.{OneOf, this, other, next_if, targets, may_raise, goes, raises, WalkStep, Raises, Live, read, on, aside}
 use Rattle.mach_ir.specs.declared.mach.Mark.TheVariants as mark
 use Rattle.mach_ir.specs.declared.mach.MachOp.{MachOp}
 use Rattle.mach_ir.specs.declared.mach.MachOp.TheVariants as mach
 use Rattle.mach_ir.specs.declared.mach.Instr.{Instr}
 use Rattle.mach_ir.specs.declared.mach.Mach.{Mach}
 use Rattle.mach_laws.specs.Expand.{Ending}
-use Rattle.mach_laws.specs.Graph.{place_of, numbers, next_places, raise_places, numbers_read, numbers_written, IsFlowOf}
+use Rattle.mach_laws.specs.Graph.{code_index, numbers_of_registers, next_places, raise_places, numbers_read, numbers_written, IsFlowOf}
 use Rattle.mach_laws.proofs.Places.{ending_from_handler}
 use Rattle.mach_laws.proofs.Walking.{in_numbers, ending_at, place_is, place_at, place_within, ending_place, target_of, in_targets, handler_of, in_handlers, ending_leads, ending_raises}
 
@@ -76,7 +76,7 @@ module _ (m : Mach) where
         lands = subst (λ q. q ≤ length m.code) t.2 (place_within m (code_at m.code next t.0));
       }
 
-  pub steps_to : {i : Instr} {next to : List Instr} → Leads m i next to → Contains (next_places m (i ∷ next)) (place_of m to)
+  pub steps_to : {i : Instr} {next to : List Instr} → WalkStep m i next to → Contains (next_places m (i ∷ next)) (code_index m to)
   steps_to {i} {next} (goes t o) = in_targets m next o
 
   pub record Raised (o q : ℕ) : Type 0 where
@@ -102,12 +102,12 @@ module _ (m : Mach) where
         lands = subst (λ q. q ≤ length m.code) h.4 (place_within m (from_handler h.0 m.code));
       }
 
-  pub raises_to : {i : Instr} {next to : List Instr} → Raises m i next to → Contains (raise_places m (i ∷ next)) (place_of m to)
+  pub raises_to : {i : Instr} {next to : List Instr} → Raises m i next to → Contains (raise_places m (i ∷ next)) (code_index m to)
   raises_to {i} {next} (raises {l = l} {tries = tries} b e) = in_handlers m (may_raise i.op) (tries_at (i ∷ next)) l tries b e
 
   -- ---- the graph of liveness
 
-  module _ (f : flow.Flow) (is : IsFlowOf m f) (formed : flows.WellFormed f) where
+  module _ (f : flow.Flow) (is : IsFlowOf m f) (formed : flows.IsFlowFormed f) where
     abbrev pub IsSmall : List ℕ → Type 0
     IsSmall ns = All (λ n. n < f.bound) ns
 
@@ -144,7 +144,7 @@ module _ (m : Mach) where
     -- what is live is below the bound
     pub live_small : {n : ℕ} {rest : List Instr} → Live m n rest → Ending rest m.code → n < f.bound
     live_small {n} (read {i = i} {next = next} a) e =
-        let p = place_of m (i ∷ next) in
-        All-contains (λ n. n < f.bound) (numbers i.args) n (subst (λ rest. IsSmall (numbers_read rest)) (place_is m e) (reads_small p)) (in_numbers a)
+        let p = code_index m (i ∷ next) in
+        All-contains (λ n. n < f.bound) (numbers_of_registers i.args) n (subst (λ rest. IsSmall (numbers_read rest)) (place_is m e) (reads_small p)) (in_numbers a)
     live_small (on w l v) e = live_small v (ending_leads l e)
     live_small (aside r v) e = live_small v (ending_raises r)

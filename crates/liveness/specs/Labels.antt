@@ -3,21 +3,21 @@ use Rattle.std.specs.Prelude.{◌≡◌, ℕ, Bool, true, false, List, [], ◌�
 use Rattle.mach_ir.specs.Labels as table
 use Rattle.mach_ir.specs.Meaning.{after_label, from_handler}
 use Rattle.mach_ir.specs.declared.mach.Mach.{Mach}
-use Rattle.mach_laws.specs.Graph.{place_of}
+use Rattle.mach_laws.specs.Graph.{code_index}
 use Rattle.liveness.specs.declared.labels.Labels.{Labels}
 
 -- the place of a label
-abbrev pub place_in : Labels → ℕ → ℕ
-place_in labels l = table.place_in labels.places l
+abbrev pub instruction_of_label : Labels → ℕ → ℕ
+instruction_of_label labels l = table.place_of_label labels.places l
 
 -- the place of a handler
 abbrev pub handler_in : Labels → ℕ → ℕ
-handler_in labels l = table.place_in labels.handlers l
+handler_in labels l = table.place_of_label labels.handlers l
 
 -- it has the place after each label of the function, and that of each handler
 pub record AreLabelsOf (m : Mach) (labels : Labels) : Type 0 where
-  pub places : (l : ℕ) → place_in labels l ≡ place_of m (after_label l m.code)
-  pub handlers : (l : ℕ) → handler_in labels l ≡ place_of m (from_handler l m.code)
+  pub places : (l : ℕ) → instruction_of_label labels l ≡ code_index m (after_label l m.code)
+  pub handlers : (l : ℕ) → handler_in labels l ≡ code_index m (from_handler l m.code)
 
 -- where a raise leads, by the table
 abbrev pub handler_places_in : Labels → Bool → List ℕ → List ℕ

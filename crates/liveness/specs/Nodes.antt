@@ -24,18 +24,18 @@ pub record Uses : Type 0 where
   pub writes : List Instr → List ℕ
 
 -- the node of the place from which this code is left
-pub record IsNode (m : Mach) (uses : Uses) (rest : List Instr) (node : place.Place) : Type 0 where
+pub record IsLivenessNode (m : Mach) (uses : Uses) (rest : List Instr) (node : place.Place) : Type 0 where
   pub next : contents node.next ≡ next_places m rest
   pub aside : contents node.aside ≡ raise_places m rest
   pub reads : contents node.reads ≡ uses.reads rest
   pub writes : contents node.writes ≡ uses.writes rest
 
 -- those of this place and of all after it
-pub data AreNodes (m : Mach) (uses : Uses) : List Instr → List place.Place → Type 0 where
-  at_end : {node : place.Place} → IsNode m uses [] node → AreNodes m uses [] (node ∷ [])
+pub data AreLivenessNodes (m : Mach) (uses : Uses) : List Instr → List place.Place → Type 0 where
+  at_end : {node : place.Place} → IsLivenessNode m uses [] node → AreLivenessNodes m uses [] (node ∷ [])
   before : {i : Instr} {next : List Instr} {node : place.Place} {nodes : List place.Place} →
-      IsNode m uses (i ∷ next) node → AreNodes m uses next nodes →
-      AreNodes m uses (i ∷ next) (node ∷ nodes)
+      IsLivenessNode m uses (i ∷ next) node → AreLivenessNodes m uses next nodes →
+      AreLivenessNodes m uses (i ∷ next) (node ∷ nodes)
 
 -- the registers that instructions read and write
 abbrev pub register_uses : Mach → Uses
@@ -44,4 +44,4 @@ register_uses m = record { reads = numbers_read; writes = numbers_written m }
 -- the node of an instruction from which control goes so
 pub record IsNodeWith (m : Mach) (uses : Uses) (i : Instr) (edges : Edges) (node : place.Place) :
     Type 0 where
-  pub there : (next : List Instr) → AreEdges m (i ∷ next) edges → IsNode m uses (i ∷ next) node
+  pub there : (next : List Instr) → AreEdges m (i ∷ next) edges → IsLivenessNode m uses (i ∷ next) node

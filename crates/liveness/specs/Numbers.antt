@@ -5,7 +5,7 @@ use Rattle.mach_ir.specs.declared.reg.Reg.{Reg}
 use Rattle.mach_ir.specs.declared.mach.Instr.{Instr}
 
 -- the least number that is not below a bound, and above those of these registers
-pub record IsAbove (bound : ℕ) (regs : List Reg) (n : ℕ) : Type 0 where
+pub record IsLeastAbove (bound : ℕ) (regs : List Reg) (n : ℕ) : Type 0 where
   pub above : bound ≤ n
   pub all : All (λ (r : Reg). r.number < n) regs
   pub least : (b : ℕ) → bound ≤ b → All (λ (r : Reg). r.number < b) regs → n ≤ b

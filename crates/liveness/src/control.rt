@@ -4,7 +4,7 @@ ghost use Rattle.mach_ir.specs.Labels.{place_to};
 ghost use Rattle.mach_ir.specs.Meaning.{tries_past};
 ghost use Rattle.mach_ir.specs.Walks.{targets};
 ghost use Rattle.mach_ir.specs.Walks as walks;
-ghost use Rattle.liveness.specs.Labels.{place_in, handler_places_in};
+ghost use Rattle.liveness.specs.Labels.{instruction_of_label, handler_places_in};
 
 use crate::backward::Backward;
 use crate::labels::Labels;
@@ -30,7 +30,7 @@ fn places_after_mark(
 ) -> Result<Vec<u32>, AllocError>
     requires { suc place < 2 ^ 32 }
     ensures { IfOk result (λ places. places.items ≡
-        map (place_to (place_in labels.now) place) (targets (MachOp.Mark mark.now))) }
+        map (place_to (instruction_of_label labels.now) place) (targets (MachOp.Mark mark.now))) }
 {
     match mark {
         Mark::Exit { label, tries: _ } => one_place(alloc, labels.place_of(*label)),
@@ -68,7 +68,7 @@ pub fn places_after(
 ) -> Result<Vec<u32>, AllocError>
     requires { suc place < 2 ^ 32 }
     ensures { IfOk result (λ places.
-        places.items ≡ map (place_to (place_in labels.now) place) (targets op.now)) }
+        places.items ≡ map (place_to (instruction_of_label labels.now) place) (targets op.now)) }
 {
     match op {
         MachOp::Op(op) => places_after_op(alloc, op, place),

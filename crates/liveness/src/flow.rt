@@ -1,10 +1,10 @@
 //! The flow graph of a function.
 ghost use Rattle.std.specs.Prelude.{◌<◌, ◌^◌, suc, length, IfOk};
-ghost use Rattle.dataflow.specs.Flow.{WellFormed};
+ghost use Rattle.dataflow.specs.Flow.{IsFlowFormed};
 ghost use Rattle.mach_ir.specs.Sizes.{IsCountable};
 ghost use Rattle.mach_laws.specs.Graph.{IsFlowOf};
 ghost use Rattle.liveness.specs.Labels.{AreLabelsOf};
-ghost use Rattle.liveness.specs.Nodes.{AreNodes, register_uses};
+ghost use Rattle.liveness.specs.Nodes.{AreLivenessNodes, register_uses};
 
 use crate::backward::Backward;
 use crate::control::pass_tries;
@@ -22,7 +22,7 @@ fn nodes_of(alloc: Global, mach: &Mach, labels: &Labels) -> Result<Vec<Place>, A
     requires labels { AreLabelsOf mach.now labels.now }
     requires fits { suc (length mach.now.code) < 2 ^ 32 }
     ensures { IfOk result (λ nodes.
-        AreNodes mach.now (register_uses mach.now) mach.now.code nodes.items) }
+        AreLivenessNodes mach.now (register_uses mach.now) mach.now.code nodes.items) }
 {
     let code = mach.code.as_slice();
     let mut nodes = Backward::with_capacity(alloc, code.len() + 1)?;
@@ -45,7 +45,7 @@ fn nodes_of(alloc: Global, mach: &Mach, labels: &Labels) -> Result<Vec<Place>, A
 pub fn flow_of(alloc: Global, mach: &Mach) -> Result<Flow, AllocError>
     requires countable { IsCountable mach.now }
     ensures flow { IfOk result (IsFlowOf mach.now) }
-    ensures formed { IfOk result WellFormed }
+    ensures formed { IfOk result IsFlowFormed }
 {
     let bound = first_free(mach);
     let labels = Labels::of_function(alloc, mach)?;

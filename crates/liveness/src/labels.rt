@@ -3,7 +3,7 @@ ghost use Rattle.std.specs.Prelude.{◌≡◌, ◌<◌, ℕ, ◌^◌, suc, cond,
 ghost use Rattle.mach_ir.specs.Meaning.{has_label, is_handler_of};
 ghost use Rattle.mach_ir.specs.Acts.{At};
 ghost use Rattle.mach_ir.specs.Labels.{is_that_label, place_to};
-ghost use Rattle.liveness.specs.Labels.{place_in, handler_in, AreLabelsOf};
+ghost use Rattle.liveness.specs.Labels.{instruction_of_label, handler_in, AreLabelsOf};
 
 use mach_ir::{Label, LabelPlaces, Mach, MachOp, Mark};
 use std::alloc::{AllocError, Global};
@@ -74,8 +74,8 @@ impl Labels {
     /// Enters the labels of the instruction at the place, if it has one.
     fn put(&mut self, op: &MachOp, place: u32) -> Result<(), AllocError>
         requires { suc place < 2 ^ 32 }
-        ensures places { IfOk result (λ _. (l : ℕ) → place_in self.new l ≡
-            cond (has_label l op.now) (suc place) (place_in self.old l)) }
+        ensures places { IfOk result (λ _. (l : ℕ) → instruction_of_label self.new l ≡
+            cond (has_label l op.now) (suc place) (instruction_of_label self.old l)) }
         ensures handlers { IfOk result (λ _. (l : ℕ) → handler_in self.new l ≡
             cond (is_handler_of l op.now) place (handler_in self.old l)) }
     {
@@ -90,7 +90,7 @@ impl Labels {
 
     /// The place after the label.
     pub fn place_of(&self, label: Label) -> u32
-        ensures { result ≡ place_in self.now label }
+        ensures { result ≡ instruction_of_label self.now label }
     {
         self.places.place_of(label)
     }
@@ -98,7 +98,7 @@ impl Labels {
     /// The places after these labels, in their order. The only error is want of memory.
     pub fn places_of(&self, alloc: Global, among: &[Label]) -> Result<Vec<u32>, AllocError>
         ensures { IfOk result (λ places. (p : ℕ) →
-            places.items ≡ map (place_to (place_in self.now) p) (map At among.now)) }
+            places.items ≡ map (place_to (instruction_of_label self.now) p) (map At among.now)) }
     {
         self.places.places_of(alloc, among)
     }

@@ -1,6 +1,6 @@
 //! What is live.
 ghost use Rattle.std.specs.Prelude.{IfOk};
-ghost use Rattle.dataflow.specs.Flow.{WellFormed};
+ghost use Rattle.dataflow.specs.Flow.{IsFlowFormed};
 ghost use Rattle.mach_ir.specs.Graph.{IsLiveMap};
 ghost use Rattle.mach_ir.specs.Sizes.{IsCountable};
 ghost use Rattle.mach_laws.specs.Graph.{IsFlowOf};
@@ -29,7 +29,7 @@ pub struct LiveFlow {
 pub fn live_flow(alloc: Global, mach: &Mach) -> Result<LiveFlow, AllocError>
     requires countable { IsCountable mach.now }
     ensures flow { IfOk result (λ found. IsFlowOf mach.now found.flow) }
-    ensures formed { IfOk result (λ found. WellFormed found.flow) }
+    ensures formed { IfOk result (λ found. IsFlowFormed found.flow) }
     ensures live { IfOk result (λ found. IsLiveMap mach.now found.live) }
 {
     let flow = flow_of(alloc, mach)?;

@@ -1,6 +1,6 @@
 //! The nodes of the flow graph.
 ghost use Rattle.std.specs.Prelude.{[], IfOk};
-ghost use Rattle.liveness.specs.Nodes.{IsNode, IsNodeWith, register_uses};
+ghost use Rattle.liveness.specs.Nodes.{IsLivenessNode, IsNodeWith, register_uses};
 
 use crate::edges::{Edges, no_edges};
 use crate::written::{numbers_of, numbers_written};
@@ -11,7 +11,7 @@ use std::alloc::{AllocError, Global};
 
 /// The node after the last instruction.
 pub fn last_node(alloc: Global, mach: &Mach) -> Place
-    ensures { IsNode mach.now (register_uses mach.now) [] result }
+    ensures { IsLivenessNode mach.now (register_uses mach.now) [] result }
 {
     let Edges { next, aside } = no_edges(alloc, mach);
     Place {

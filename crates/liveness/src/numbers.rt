@@ -3,14 +3,14 @@ ghost use Rattle.std.specs.Prelude.{◌<◌, ◌≤◌, ℕ, suc, All};
 ghost use Rattle.mach_ir.specs.Sizes.{IsCountable, number_limit};
 ghost use Rattle.mach_ir.specs.Walks.{InCode, IsRegister};
 ghost use Rattle.mach_ir.specs.declared.reg.Reg.{Reg};
-ghost use Rattle.liveness.specs.Numbers.{IsAbove, IsAboveCode};
+ghost use Rattle.liveness.specs.Numbers.{IsLeastAbove, IsAboveCode};
 
 use mach_ir::{Instr, Mach, Reg};
 
 /// The least number, from `bound` on, that is above those of these registers.
 fn above(bound: u32, regs: &[Reg]) -> u32
     requires { All (λ (r : Reg). suc r.number < number_limit) regs.now }
-    ensures { IsAbove bound regs.now result }
+    ensures { IsLeastAbove bound regs.now result }
 {
     let mut above = bound;
     for reg in regs {

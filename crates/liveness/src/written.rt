@@ -1,8 +1,8 @@
 //! Which registers instructions write, by their numbers.
 ghost use Rattle.std.specs.Prelude.{◌≡◌, ◌++◌, ◌↔◌, IsTrue, IfOk};
 ghost use Rattle.bs_words.specs.Contents.{contents};
-ghost use Rattle.mach_ir.specs.Meaning.{Nothing, is_temporary, same_colour, is_at_one_of, is_destroyed, destroyed_by, killed_among, written};
-ghost use Rattle.mach_laws.specs.Graph.{numbers};
+ghost use Rattle.mach_ir.specs.Meaning.{Nothing, is_temporary, same_colour, is_at_one_of, is_destroyed, destroyed_by, killed_among, registers_written};
+ghost use Rattle.mach_laws.specs.Graph.{numbers_of_registers};
 
 use bs_words::{List, Loc};
 use mach_ir::{Instr, Mach, MachOp, Reg};
@@ -69,7 +69,7 @@ fn is_at_one_of(place: Loc, regs: &[Reg]) -> bool
 
 /// The numbers of registers, in their order. The only error is want of memory.
 pub fn numbers_of(alloc: Global, regs: &[Reg]) -> Result<Vec<u32>, AllocError>
-    ensures { IfOk result (λ found. found.items ≡ numbers regs.now) }
+    ensures { IfOk result (λ found. found.items ≡ numbers_of_registers regs.now) }
 {
     let mut found = Vec::with_capacity(alloc, regs.len())?;
     for reg in regs {
@@ -99,7 +99,7 @@ fn push_killed(
 ) -> Result<(), AllocError>
     ensures { IfOk result (λ _.
         found.new.items
-        ≡ found.old.items ++ numbers (killed_among colours.now (destroyed_by op.now) results.now)) }
+        ≡ found.old.items ++ numbers_of_registers (killed_among colours.now (destroyed_by op.now) results.now)) }
 {
     if destroys_nothing(op) {
         return Ok(());
@@ -116,7 +116,7 @@ fn push_killed(
 
 /// The numbers of all registers that the instruction writes. The only error is want of memory.
 pub fn numbers_written(alloc: Global, mach: &Mach, instr: &Instr) -> Result<List<u32>, AllocError>
-    ensures { IfOk result (λ found. contents found ≡ numbers (written mach.now instr.now)) }
+    ensures { IfOk result (λ found. contents found ≡ numbers_of_registers (registers_written mach.now instr.now)) }
 {
     let results = instr.results.as_slice();
     let mut found = numbers_of(alloc, results)?;

@@ -2,9 +2,9 @@
 use Rattle.std.proofs.Common.{◌≡◌, ◌⊎◌, inl, inr, ⊎_elim, ℕ, List, [], ◌∷◌, ◌++◌, map, refl, sym, ap, ◌∙◌, subst, append_assoc}
 use Rattle.cmm_meaning.specs.Extends.{shape_of}
 use Rattle.mach_ir.specs.Acts.{Around, with_block}
-use Rattle.mach_ir.specs.Runs.{Place, Tally, Run, Running, Asking, Ended, Wrong, first_tally}
-use Rattle.mach_ir.specs.Meaning.{State, run}
-use Rattle.mach_ir.specs.Keeps.{Proper, ahead, Ahead, Trails, Alike, SuitRound, both_running, both_asking, both_ended, Comes, Follows, Does, HasSlot, Keeps}
+use Rattle.mach_ir.specs.Runs.{ActivationSetting, Tally, RunProgress, Running, Asking, Ended, Wrong, first_tally}
+use Rattle.mach_ir.specs.Meaning.{State, run_of_mach}
+use Rattle.mach_ir.specs.Keeps.{Proper, ahead, Ahead, Trails, RunsAlike, SuitRound, both_running, both_asking, both_ended, Comes, Follows, MachSimulation, HasSlot, Keeps}
 use Rattle.mach_ir.specs.declared.blocks.NewBlock.{NewBlock}
 use Rattle.mach_ir.specs.declared.mach.Mach.{Mach}
 
@@ -34,33 +34,33 @@ trails_then x y z e q =
       blocks = e.blocks ∙ ap (λ shapes. shapes ++ e.more) q.blocks ∙ append_assoc (map shape_of z.memory.blocks) q.more e.more;
     }
 
-pub alike_then : {S U V : Type 0} {One : S → U → Type 0} {Two : U → V → Type 0} {Both : S → V → Type 0} {x : Run S} {y : Run U} {z : Run V} →
-    ((a : S) (b : U) (d : V) → One a b → Two b d → Both a d) → Alike One x y → Alike Two y z → Alike Both x z
+pub alike_then : {S U V : Type 0} {One : S → U → Type 0} {Two : U → V → Type 0} {Both : S → V → Type 0} {x : RunProgress S} {y : RunProgress U} {z : RunProgress V} →
+    ((a : S) (b : U) (d : V) → One a b → Two b d → Both a d) → RunsAlike One x y → RunsAlike Two y z → RunsAlike Both x z
 alike_then h (both_running {s = s} {u = u} e) (both_running {u = v} q) = both_running (h s u v e q)
 alike_then h both_asking both_asking = both_asking
 alike_then h both_ended both_ended = both_ended
 
 module _ (Suit : Around → Around → Type 0) where
-  alike_self : ((a : Around) → Suit a a) → (x r : Run State) → (x ≡ Wrong → ⊥) → x ≡ r → Alike (SuitRound Suit) r x
-  alike_self h x (Running u y) goes e = subst (Alike (SuitRound Suit) (Running u y)) (sym e) (both_running (h u.around))
-  alike_self h x (Asking call y) goes e = subst (Alike (SuitRound Suit) (Asking call y)) (sym e) both_asking
-  alike_self h x (Ended d y) goes e = subst (Alike (SuitRound Suit) (Ended d y)) (sym e) both_ended
+  alike_self : ((a : Around) → Suit a a) → (x r : RunProgress State) → (x ≡ Wrong → ⊥) → x ≡ r → RunsAlike (SuitRound Suit) r x
+  alike_self h x (Running u y) goes e = subst (RunsAlike (SuitRound Suit) (Running u y)) (sym e) (both_running (h u.around))
+  alike_self h x (Asking call y) goes e = subst (RunsAlike (SuitRound Suit) (Asking call y)) (sym e) both_asking
+  alike_self h x (Ended d y) goes e = subst (RunsAlike (SuitRound Suit) (Ended d y)) (sym e) both_ended
   alike_self h x Wrong goes e = absurd (goes e)
 
-  comes_self : ((a : Around) → Suit a a) → (c : Place) (m : Mach) (n : ℕ) (s : State) (t : Tally) → Proper c m n s t → Comes Suit (run c m n s t) c m s t
+  comes_self : ((a : Around) → Suit a a) → (c : ActivationSetting) (m : Mach) (n : ℕ) (s : State) (t : Tally) → Proper c m n s t → Comes Suit (run_of_mach c m n s t) c m s t
   comes_self h c m n s t proper =
-      record { steps = n; alike = alike_self h (run c m n s t) (run c m n s t) proper.goes refl; proper = proper }
+      record { steps = n; alike = alike_self h (run_of_mach c m n s t) (run_of_mach c m n s t) proper.goes refl; proper = proper }
 
-module _ (c : Place) (m : Mach) (n : ℕ) (s : State) (t : Tally) (proper : Proper c m n s t) where
+module _ (c : ActivationSetting) (m : Mach) (n : ℕ) (s : State) (t : Tally) (proper : Proper c m n s t) where
   pub follows_self : Follows c m m s s t n
   follows_self =
       record { no_less = comes_self Ahead level c m n s t proper; no_more = comes_self Trails level_trail c m n s t proper }
 
-does_self : (m : Mach) → Does m m
+does_self : (m : Mach) → MachSimulation m m
 does_self m c arguments memory doings s e =
     record { state = s; begins = e; follows = λ n proper. follows_self c m n s (first_tally c doings) proper }
 
-module _ (c : Place) (p q r : Mach) (s u v : State) (t : Tally) where
+module _ (c : ActivationSetting) (p q r : Mach) (s u v : State) (t : Tally) where
   pub follows_then : (n : ℕ) → Follows c p q s u t n → ((k : ℕ) → Proper c q k u t → Follows c q r u v t k) → Follows c p r s v t n
   follows_then n one two =
       let less = one.no_less in
@@ -72,7 +72,7 @@ module _ (c : Place) (p q r : Mach) (s u v : State) (t : Tally) where
         no_more = record { steps = y.steps; alike = alike_then (λ a b d. trails_then a.around b.around d.around) more.alike y.alike; proper = y.proper };
       }
 
-does_then : {p q r : Mach} → Does p q → Does q r → Does p r
+does_then : {p q r : Mach} → MachSimulation p q → MachSimulation q r → MachSimulation p r
 does_then {p} {q} {r} one two c arguments memory doings s e =
     let u = one c arguments memory doings s e in
     let v = two c arguments memory doings u.state u.begins in

@@ -1,11 +1,11 @@
 -- More steps show the same once a run is over.
 use Rattle.std.proofs.Common.{◌≡◌, ℕ, zero, suc, ◌+◌, List, [], ◌∷◌, refl, ap, ◌∙◌, subst, arith}
 use Rattle.cmm_meaning.specs.State.{Doing, Asked}
-use Rattle.mach_ir.specs.Runs.{Step, Continues, Pays, Deepens, Waits, FinishesBy, Finishes, FinishesRaising, IsStuck, Tally, Run, Running, Asking, Ended, Wrong, paid, came_back, kept_of, handed, onward, runs}
+use Rattle.mach_ir.specs.Runs.{Step, Continues, Pays, Deepens, Waits, FinishesBy, Finishes, FinishesRaising, IsStuck, Tally, RunProgress, Running, Asking, Ended, Wrong, paid, came_back, kept_of, handed, run_onward, runs}
 
 module _ {S : Type 0} (step : S → Step S) where
   -- so many more steps from where a run is
-  abbrev pub goes_on : ℕ → Run S → Run S
+  abbrev pub goes_on : ℕ → RunProgress S → RunProgress S
   goes_on n (Running s t) = runs step n s t
   goes_on n (Asking call t) = Asking call t
   goes_on n (Ended doing t) = Ended doing t
@@ -26,20 +26,20 @@ module _ {S : Type 0} (step : S → Step S) where
   After m k n = (s : S) (t : Tally) → runs step m s t ≡ goes_on n (runs step k s t)
 
   after_handed : (m k n : ℕ) (call : Asked) (next : Doing → Step S) →
-      ((d : Doing) (t : Tally) → onward (runs step m) (next d) t ≡ goes_on n (onward (runs step k) (next d) t)) →
+      ((d : Doing) (t : Tally) → run_onward (runs step m) (next d) t ≡ goes_on n (run_onward (runs step k) (next d) t)) →
       (ds : List Doing) (t : Tally) →
-      handed (λ d t. onward (runs step m) (next d) t) call ds t ≡ goes_on n (handed (λ d t. onward (runs step k) (next d) t) call ds t)
+      handed (λ d t. run_onward (runs step m) (next d) t) call ds t ≡ goes_on n (handed (λ d t. run_onward (runs step k) (next d) t) call ds t)
   after_handed m k n call next e [] t = refl
   after_handed m k n call next e (d ∷ ds) t = e d (came_back call ds t)
 
-  after_finished : (n : ℕ) (call : Asked) (end : Doing → Tally → Run S) →
+  after_finished : (n : ℕ) (call : Asked) (end : Doing → Tally → RunProgress S) →
       ((d : Doing) (t : Tally) → end d t ≡ goes_on n (end d t)) → (ds : List Doing) (t : Tally) →
       handed end call ds t ≡ goes_on n (handed end call ds t)
   after_finished n call end e [] t = refl
   after_finished n call end e (d ∷ ds) t = e d (came_back call ds t)
 
   after_step : (m k n : ℕ) → After m k n → (x : Step S) (t : Tally) →
-      onward (runs step m) x t ≡ goes_on n (onward (runs step k) x t)
+      run_onward (runs step m) x t ≡ goes_on n (run_onward (runs step k) x t)
   after_step m k n ih (Continues s) t = ih s t
   after_step m k n ih (Pays s) t = ih s (paid t)
   after_step m k n ih (Deepens bytes s) t = ih s _

@@ -1,6 +1,6 @@
 -- The bytes of an allocation that grows.
 use Rattle.std.proofs.Common.{◌≡◌, ℕ, ◌+◌, List, [], ◌∷◌, ◌++◌, ap, ◌∙◌, arith}
-use Rattle.mach_ir.specs.Blocks.{block_bytes, bytes_of}
+use Rattle.mach_ir.specs.Blocks.{new_block_bytes, total_block_bytes}
 use Rattle.mach_ir.specs.declared.blocks.NewBlock.{NewBlock}
 
 around_none : (k : ℕ) → k + 0 ≡ 0 + k
@@ -10,8 +10,8 @@ from_left : (a b c : ℕ) → a + (b + c) ≡ (a + b) + c
 from_left a b c = omega arith
 
 pub bytes_push : (blocks : List NewBlock) (block : NewBlock) →
-    bytes_of (blocks ++ block ∷ []) ≡ bytes_of blocks + block_bytes block
-bytes_push [] block = around_none (block_bytes block)
+    total_block_bytes (blocks ++ block ∷ []) ≡ total_block_bytes blocks + new_block_bytes block
+bytes_push [] block = around_none (new_block_bytes block)
 bytes_push (b ∷ blocks) block =
-    ap (λ k. block_bytes b + k) (bytes_push blocks block)
-    ∙ from_left (block_bytes b) (bytes_of blocks) (block_bytes block)
+    ap (λ k. new_block_bytes b + k) (bytes_push blocks block)
+    ∙ from_left (new_block_bytes b) (total_block_bytes blocks) (new_block_bytes block)

@@ -54,9 +54,9 @@ same_cell (InBlock s i) (InBlock t j) = nat_eq s t && nat_eq i j
 same_cell (InStatic s i) (InStatic t j) = nat_eq s t && nat_eq i j
 same_cell _ _ = false
 
-abbrev pub is_among : Cell → List Cell → Bool
-is_among c [] = false
-is_among c (d ∷ ds) = same_cell c d || is_among c ds
+abbrev pub is_among_cells : Cell → List Cell → Bool
+is_among_cells c [] = false
+is_among_cells c (d ∷ ds) = same_cell c d || is_among_cells c ds
 
 abbrev pub without : Cell → List Cell → List Cell
 without c [] = []
@@ -105,9 +105,9 @@ pub data Act : Type 0 where
   EndsRaising : (doing : Doing) → Act
   Stuck : Act
 
-abbrev pub only_if : Bool → Act → Act
-only_if true act = act
-only_if false act = Stuck
+abbrev pub stuck_unless : Bool → Act → Act
+stuck_unless true act = act
+stuck_unless false act = Stuck
 
 -- ---- what reads registers alone
 
@@ -140,7 +140,7 @@ moved_by offset (value.Function f) = value.Function f
 
 -- a read of what has not been written is stuck
 abbrev pub loaded_act : Around → Option Cell → Result Value Kind → Act
-loaded_act a (Some cell) r = cond (is_among cell a.unwritten) Stuck (one_result a r)
+loaded_act a (Some cell) r = cond (is_among_cells cell a.unwritten) Stuck (one_result a r)
 loaded_act a None r = Stuck
 
 abbrev pub after_store : Around → List Cell → Result Memory Kind → Act
@@ -151,7 +151,7 @@ after_store a unwritten (Err kind) = Stuck
 -- since that word says which values fit the cells.
 abbrev pub header_written : Chunk → Around → ℕ → Value → Value → Act
 header_written chunk.Int a s (value.Word header) (value.Word w) =
-    only_if (nat_eq w header)
+    stuck_unless (nat_eq w header)
     (Goes [] On (record a { unwritten = without (InHeader s) a.unwritten }))
 header_written k a s old new = Stuck
 
@@ -159,14 +159,14 @@ header_written k a s old new = Stuck
 abbrev pub first_written : Chunk → Around → Cell → Value → Value → Act
 first_written k a (InHeader s) x v = header_written k a s (value_in a.memory (InHeader s)) v
 first_written k a (InBlock s n) x v =
-    only_if (nat_eq (width k) 8)
+    stuck_unless (nat_eq (width k) 8)
     (after_store a (without (InBlock s n) a.unwritten) (stored k a.memory x v))
 first_written k a (InStatic l n) x v = Stuck
 
 abbrev pub stored_act : Chunk → Around → Option Cell → Value → Value → Act
 stored_act k a None x v = Stuck
 stored_act k a (Some cell) x v =
-    cond (is_among cell a.unwritten) (first_written k a cell x v)
+    cond (is_among_cells cell a.unwritten) (first_written k a cell x v)
     (after_store a a.unwritten (stored k a.memory x v))
 
 -- a block as it is allocated: it will have this header, and its cells hold nothing yet
@@ -193,7 +193,7 @@ access_act (access.Load k offset) (x ∷ []) a =
     loaded_act a (cell_at a.memory (width k) at) (loaded k a.memory at)
 access_act (access.Store k offset) (x ∷ v ∷ []) a =
     let at : Value = moved_by offset x in stored_act k a (cell_at a.memory (width k) at) at v
-access_act (access.Alloc blocks) [] a = only_if (is_complete a) (new_blocks blocks [] a)
+access_act (access.Alloc blocks) [] a = stuck_unless (is_complete a) (new_blocks blocks [] a)
 access_act _ _ a = Stuck
 
 -- ---- raising
@@ -208,38 +208,38 @@ abbrev pub raised_by : Value → Around → List ℕ → Act
 raised_by v a [] = EndsRaising (Threw v a.memory)
 raised_by v a (l ∷ tries) = Jumps AtHandler (record a { tries = tries; raised = Some v })
 
-abbrev pub raises : Setting → Value → Around → Act
-raises c v a = only_if (is_complete a && fits c.end ty.Val v) (raised_by v a a.tries)
+abbrev pub raise_act : Setting → Value → Around → Act
+raise_act c v a = stuck_unless (is_complete a && fits c.end ty.Val v) (raised_by v a a.tries)
 
 -- ---- calls
 
 -- the row of an external call
-abbrev pub row_of : declared.External → External
-row_of e = record { name = e.name; params = e.params; result = e.result }
+abbrev pub external_row : declared.External → External
+external_row e = record { name = e.name; params = e.params; result = e.result }
 
 -- what a call that is written so gives: a value that fits comes where it is written with a type,
 -- and else it is dropped
-abbrev pub answered : ℕ → Ret → Option Value → (Option Value → Act) → Act
-answered end ret.Unit v go = go None
-answered end (ret.Comp t) (Some v) go = only_if (fits end (type_of_comp t) v) (go (Some v))
-answered end (ret.Comp t) None go = Stuck
+abbrev pub call_answered : ℕ → Ret → Option Value → (Option Value → Act) → Act
+call_answered end ret.Unit v go = go None
+call_answered end (ret.Comp t) (Some v) go = stuck_unless (fits end (type_of_comp t) v) (go (Some v))
+call_answered end (ret.Comp t) None go = Stuck
 
 abbrev pub as_list : Option Value → List Value
 as_list None = []
 as_list (Some v) = v ∷ []
 
 -- a call of a function
-abbrev pub after_call : Setting → Ret → Around → Doing → Act
-after_call c result a (Gave v m) =
-    answered c.end result v (λ v. Goes (as_list v) On (record a { memory = m }))
-after_call c result a (Threw v m) = only_if (fits c.end ty.Val v) (callee_raises v m a a.tries)
+abbrev pub act_after_call : Setting → Ret → Around → Doing → Act
+act_after_call c result a (Gave v m) =
+    call_answered c.end result v (λ v. Goes (as_list v) On (record a { memory = m }))
+act_after_call c result a (Threw v m) = stuck_unless (fits c.end ty.Val v) (callee_raises v m a a.tries)
 
 -- An external call leaves the memory as it was, and raises only where it is a frame call. It is no
 -- call of a function, so that its raise is one of the function itself: a unit.
 abbrev pub after_external : Setting → Ret → Bool → Around → Doing → Act
-after_external c result frame a (Gave v m) = answered c.end result v (λ v. Goes (as_list v) On a)
+after_external c result frame a (Gave v m) = call_answered c.end result v (λ v. Goes (as_list v) On a)
 after_external c result true a (Threw v m) =
-    only_if (fits c.end ty.Val v) (raised_by v a a.tries)
+    stuck_unless (fits c.end ty.Val v) (raised_by v a a.tries)
 after_external c result false a (Threw v m) = Stuck
 
 -- whatever is then done with a function and its arguments, they fit its parameters
@@ -247,7 +247,7 @@ abbrev pub asks : Setting → Option (List Comp) → ℕ → List Value → Arou
     (state.Callee → List Value → Act) → Act
 asks c None f arguments a call = Stuck
 asks c (Some comps) f arguments a call =
-    only_if (fit_parameters c.end comps arguments && is_complete a) (call (Inside f) arguments)
+    stuck_unless (fit_parameters c.end comps arguments && is_complete a) (call (Inside f) arguments)
 
 abbrev pub asks_value : Setting → Option Value → List Value → Around →
     (state.Callee → List Value → Act) → Act
@@ -263,18 +263,18 @@ asks_callee c callee.Register [] a call = Stuck
 
 abbrev pub calling_act : Setting → Calling → List Value → Around → Act
 calling_act c (calling.Call whom result) vs a =
-    asks_callee c whom vs a (λ f arguments. Asks f arguments (after_call c result a))
+    asks_callee c whom vs a (λ f arguments. Asks f arguments (act_after_call c result a))
 calling_act c (calling.TailCall whom result) vs a =
     asks_callee c whom vs a (λ f arguments. Replaces f arguments result)
 calling_act c (calling.External row frame) vs a =
-    only_if (is_complete a)
-    (Asks (Outside (row_of row) frame) vs (after_external c row.result frame a))
+    stuck_unless (is_complete a)
+    (Asks (Outside (external_row row) frame) vs (after_external c row.result frame a))
 
 -- ---- leaving
 
 abbrev pub checked : Setting → Result ℕ Kind → Result ℕ Kind → Around → Act
 checked c (Ok bound) (Ok index) a =
-    cond (nat_lt index bound) (Goes [] On a) (raises c bound_error a)
+    cond (nat_lt index bound) (Goes [] On a) (raise_act c bound_error a)
 checked c _ _ a = Stuck
 
 abbrev pub leaving_act : Setting → Leaving → List Value → Around → Act
@@ -282,9 +282,9 @@ leaving_act c (leaving.Checkbound right.Register) (bound ∷ index ∷ []) a =
     checked c (word_in bound) (word_in index) a
 leaving_act c (leaving.Checkbound (right.Constant w)) (bound ∷ []) a =
     checked c (word_in bound) (Ok w) a
-leaving_act c leaving.Raise (v ∷ []) a = raises c v a
-leaving_act c leaving.Return [] a = only_if (is_complete a) (Ends (Gave None a.memory))
-leaving_act c leaving.Return (v ∷ []) a = only_if (is_complete a) (Ends (Gave (Some v) a.memory))
+leaving_act c leaving.Raise (v ∷ []) a = raise_act c v a
+leaving_act c leaving.Return [] a = stuck_unless (is_complete a) (Ends (Gave None a.memory))
+leaving_act c leaving.Return (v ∷ []) a = stuck_unless (is_complete a) (Ends (Gave (Some v) a.memory))
 leaving_act c _ _ a = Stuck
 
 abbrev pub act : Setting → Op → List Value → Around → Act
@@ -296,22 +296,22 @@ act c (op.Leaving f) vs a = leaving_act c f vs a
 -- ---- tests
 
 -- whether a condition holds, or nothing where that is improper
-abbrev pub proper : Result Bool Kind → Option Bool
-proper (Ok holds) = Some holds
-proper (Err kind) = None
+abbrev pub proper_condition : Result Bool Kind → Option Bool
+proper_condition (Ok holds) = Some holds
+proper_condition (Err kind) = None
 
 abbrev pub opposite : Option Bool → Option Bool
 opposite (Some holds) = Some (not holds)
 opposite None = None
 
 abbrev pub as_condition : List ℕ → Result Value Kind → Option Bool
-as_condition sizes (Ok v) = proper (condition_of sizes v)
+as_condition sizes (Ok v) = proper_condition (condition_of sizes v)
 as_condition sizes (Err kind) = None
 
 -- whether a test of these values holds; nothing where it is improper
 abbrev pub truth_of : List ℕ → Test → List Value → Option Bool
-truth_of sizes test.Holds (v ∷ []) = proper (condition_of sizes v)
-truth_of sizes test.Fails (v ∷ []) = opposite (proper (condition_of sizes v))
+truth_of sizes test.Holds (v ∷ []) = proper_condition (condition_of sizes v)
+truth_of sizes test.Fails (v ∷ []) = opposite (proper_condition (condition_of sizes v))
 truth_of sizes (test.Signed f right.Register) (x ∷ y ∷ []) =
     as_condition sizes (apply (operator.Cmp f) sizes x y)
 truth_of sizes (test.Signed f (right.Constant w)) (x ∷ []) =
@@ -323,9 +323,9 @@ truth_of sizes (test.Unsigned f (right.Constant w)) (x ∷ []) =
 truth_of sizes _ _ = None
 
 -- goes to one place where the test holds, and to another where it fails
-abbrev pub branches : Around → Target → Target → Option Bool → Act
-branches a holds fails (Some b) = Goes [] (cond b holds fails) a
-branches a holds fails None = Stuck
+abbrev pub goes_by_test : Around → Target → Target → Option Bool → Act
+goes_by_test a holds fails (Some b) = Goes [] (cond b holds fails) a
+goes_by_test a holds fails None = Stuck
 
 -- goes to the label of an index
 abbrev pub goes_to_case : Around → List ℕ → Result ℕ Kind → Act
@@ -374,15 +374,15 @@ may_raise (op.Access f) = false
 may_raise (op.Pure f) = false
 
 -- whether control goes on after it
-abbrev pub goes_on : Op → Bool
-goes_on (op.Calling (calling.TailCall whom result)) = false
-goes_on (op.Calling (calling.Call whom result)) = true
-goes_on (op.Calling (calling.External row frame)) = true
-goes_on (op.Leaving (leaving.Checkbound r)) = true
-goes_on (op.Leaving leaving.Raise) = false
-goes_on (op.Leaving leaving.Return) = false
-goes_on (op.Access f) = true
-goes_on (op.Pure f) = true
+abbrev pub falls_through : Op → Bool
+falls_through (op.Calling (calling.TailCall whom result)) = false
+falls_through (op.Calling (calling.Call whom result)) = true
+falls_through (op.Calling (calling.External row frame)) = true
+falls_through (op.Leaving (leaving.Checkbound r)) = true
+falls_through (op.Leaving leaving.Raise) = false
+falls_through (op.Leaving leaving.Return) = false
+falls_through (op.Access f) = true
+falls_through (op.Pure f) = true
 
 -- whether a function is left by it: returns and tail calls
 abbrev pub leaves_function : Op → Bool

@@ -3,9 +3,9 @@ use Rattle.std.specs.Prelude.{ℕ, ◌+◌, ◌*◌, List, [], ◌∷◌}
 use Rattle.mach_ir.specs.declared.blocks.NewBlock.{NewBlock}
 
 -- a header word, and a word for each cell
-abbrev pub block_bytes : NewBlock → ℕ
-block_bytes b = 8 * (b.cells + 1)
+abbrev pub new_block_bytes : NewBlock → ℕ
+new_block_bytes b = 8 * (b.cells + 1)
 
-abbrev pub bytes_of : List NewBlock → ℕ
-bytes_of [] = 0
-bytes_of (b ∷ blocks) = block_bytes b + bytes_of blocks
+abbrev pub total_block_bytes : List NewBlock → ℕ
+total_block_bytes [] = 0
+total_block_bytes (b ∷ blocks) = new_block_bytes b + total_block_bytes blocks

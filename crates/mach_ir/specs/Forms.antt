@@ -9,7 +9,7 @@ use Rattle.bs_words.specs.declared.types.Comp.{Comp}
 use Rattle.bs_words.specs.declared.types.Ret.{Ret}
 use Rattle.bs_words.specs.declared.types.Ret.TheVariants as ret
 use Rattle.cmm_types.specs.Faults.{is_header}
-use Rattle.mach_ir.specs.Blocks.{bytes_of}
+use Rattle.mach_ir.specs.Blocks.{total_block_bytes}
 use Rattle.mach_ir.specs.declared.op.Right.{Right}
 use Rattle.mach_ir.specs.declared.op.Right.TheVariants as right
 use Rattle.mach_ir.specs.declared.op.CopyKind.{CopyKind}
@@ -66,9 +66,9 @@ pub data IsRight (f : IntOp) : Right → List Comp → Type 0 where
   a_constant : {w : ℕ} → is_immediate f w ≡ true → IsRight f (right.Constant w) []
 
 -- the results of what is written with this type
-abbrev pub results_of : Ret → List Comp
-results_of ret.Unit = []
-results_of (ret.Comp t) = t ∷ []
+abbrev pub results_of_type : Ret → List Comp
+results_of_type ret.Unit = []
+results_of_type (ret.Comp t) = t ∷ []
 
 -- what a callee takes before the arguments
 pub data IsCallee : Callee → List Comp → Type 0 where
@@ -97,21 +97,21 @@ pub data HasForm : Op → List Comp → List Comp → Type 0 where
   stores : {k : Chunk} {offset : ℕ} {address value : Comp} →
       HasForm (op.Access (access.Store k offset)) (address ∷ value ∷ []) []
   allocates : {blocks : List NewBlock} {results : List Comp} → blocks ≢ [] → All IsBlock blocks →
-      bytes_of blocks ≤ reservation_most → length results ≡ length blocks →
+      total_block_bytes blocks ≤ reservation_most → length results ≡ length blocks →
       HasForm (op.Access (access.Alloc blocks)) [] results
   calls : {whom : Callee} {result : Ret} {first : List Comp} (arguments : List Comp) →
       IsCallee whom first →
-      HasForm (op.Calling (calling.Call whom result)) (first ++ arguments) (results_of result)
+      HasForm (op.Calling (calling.Call whom result)) (first ++ arguments) (results_of_type result)
   tail_calls : {whom : Callee} {result : Ret} {first : List Comp} (arguments : List Comp) →
       IsCallee whom first →
       HasForm (op.Calling (calling.TailCall whom result)) (first ++ arguments) []
   calls_out : {row : declared.External} {frame : Bool} →
-      HasForm (op.Calling (calling.External row frame)) row.params (results_of row.result)
+      HasForm (op.Calling (calling.External row frame)) row.params (results_of_type row.result)
   checks : {r : Right} {rest : List Comp} {bound : Comp} →
       IsRight (operator.CmpU compare.Lt) r rest →
       HasForm (op.Leaving (leaving.Checkbound r)) (bound ∷ rest) []
   raises : {raised : Comp} → HasForm (op.Leaving leaving.Raise) (raised ∷ []) []
-  returns : (result : Ret) → HasForm (op.Leaving leaving.Return) (results_of result) []
+  returns : (result : Ret) → HasForm (op.Leaving leaving.Return) (results_of_type result) []
 
 -- the components of the operands that go with a test
 pub data IsTested : Test → List Comp → Type 0 where

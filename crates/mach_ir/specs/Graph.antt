@@ -2,8 +2,8 @@
 use Rattle.std.specs.Prelude.{◌≡◌, ◌↔◌, ℕ, suc, ◌+◌, ◌<◌, true, cond, nat_eq, List, [], ◌∷◌, ◌++◌, drop, length, map, slice_index_or, All, AllPairs, Contains}
 use Rattle.bs_words.specs.declared.types.Loc.TheVariants as loc
 use Rattle.bs_bits.specs.Set.{has}
-use Rattle.dataflow.specs.Rows.{row}
-use Rattle.mach_ir.specs.Placed.{Colouring, PlacesAgree}
+use Rattle.dataflow.specs.Rows.{set_in_row}
+use Rattle.mach_ir.specs.Placed.{Colouring, LocationsAgree}
 use Rattle.mach_ir.specs.Walks.{Live, IsRegister, Joined}
 use Rattle.mach_ir.specs.declared.op.Op.{Op}
 use Rattle.mach_ir.specs.declared.op.Op.TheVariants as op
@@ -24,7 +24,7 @@ use Rattle.mach_ir.specs.declared.graph.Colours.{Colours}
 pub record IsLiveMap (m : Mach) (live : LiveMap) : Type 0 where
   pub len : length live.before.rows.items ≡ suc (length m.code)
   pub exact : (p n : ℕ) →
-      (has (row live.before.rows.items p) n ≡ true) ↔ Live m n (drop p m.code)
+      (has (set_in_row live.before.rows.items p) n ≡ true) ↔ Live m n (drop p m.code)
 
 -- ---- a graph alone
 
@@ -90,10 +90,10 @@ pub record IsColourable (g : Graph) : Type 0 where
   pub order : IsOrdered g
   pub symmetric : (n k : ℕ) → JoinedIn g n k → JoinedIn g k n
   pub apart_from_itself : (n : ℕ) → JoinedIn g n n → ⊥
-  pub agree : PlacesAgree (InGraph g) (JoinedIn g)
+  pub agree : LocationsAgree (InGraph g) (JoinedIn g)
 
 -- ---- places
 
 -- a register that the table does not have is open
-abbrev pub place_in : Colours → Colouring
-place_in c n = slice_index_or c.places n loc.Unset
+abbrev pub coloured_location : Colours → Colouring
+coloured_location c n = slice_index_or c.places n loc.Unset

@@ -7,10 +7,10 @@ use Rattle.bs_words.specs.declared.types.Loc.TheVariants as loc
 use Rattle.bs_words.specs.declared.values.Value.{Value}
 use Rattle.cmm_meaning.specs.State.{Doing, Asked}
 use Rattle.cmm_meaning.specs.Extends.{Shape, shape_of}
-use Rattle.mach_ir.specs.Acts.{Around, with_block, row_of}
-use Rattle.mach_ir.specs.Runs.{Place, Tally, Run, Running, Asking, Ended, Wrong, first_tally}
-use Rattle.mach_ir.specs.Meaning.{Held, State, start, run, passes_frame, written}
-use Rattle.mach_ir.specs.Walks.{Among, Live, LiveAcross, IsRegister, NoAddrLive}
+use Rattle.mach_ir.specs.Acts.{Around, with_block, external_row}
+use Rattle.mach_ir.specs.Runs.{ActivationSetting, Tally, RunProgress, Running, Asking, Ended, Wrong, first_tally}
+use Rattle.mach_ir.specs.Meaning.{Held, State, mach_start, run_of_mach, passes_frame, registers_written}
+use Rattle.mach_ir.specs.Walks.{AmongRegisters, Live, LiveAcross, IsRegister, NoAddrLive}
 use Rattle.mach_ir.specs.declared.blocks.NewBlock.{NewBlock}
 use Rattle.mach_ir.specs.declared.op.External as declared
 use Rattle.mach_ir.specs.declared.op.Op.TheVariants as op
@@ -38,8 +38,8 @@ pub record ValsWritten (m : Mach) (s : State) : Type 0 where
 -- Two registers of one origin, each live here or just written, hold no different values.
 pub record OriginsAgree (m : Mach) (just_written : List Reg) (s : State) : Type 0 where
   pub agree : (r q : Reg) → IsRegister m r → IsRegister m q → r.origin ≡ q.origin →
-      Live m r.number s.rest ⊎ Among r.number just_written →
-      Live m q.number s.rest ⊎ Among q.number just_written →
+      Live m r.number s.rest ⊎ AmongRegisters r.number just_written →
+      Live m q.number s.rest ⊎ AmongRegisters q.number just_written →
       (x y : Held) → s.file r.number ≡ Some x → s.file q.number ≡ Some y → x.value ≡ y.value
 
 -- what the step from one state to another has written: nothing on the way to a handler
@@ -49,18 +49,18 @@ wrote_unless (Some raised) rs = []
 
 abbrev pub wrote_at : Mach → List Instr → List Reg
 wrote_at m [] = []
-wrote_at m (i ∷ next) = written m i
+wrote_at m (i ∷ next) = registers_written m i
 
 abbrev pub just_written : Mach → State → State → List Reg
 just_written m s u = wrote_unless u.around.raised (wrote_at m s.rest)
 
 -- A run of n steps from a state is nowhere stuck.
-pub record Proper (c : Place) (m : Mach) (n : ℕ) (s : State) (t : Tally) : Type 0 where
-  pub goes : run c m n s t ≢ Wrong
-  pub vals : (k : ℕ) → k < n → (u : State) (y : Tally) → run c m k s t ≡ Running u y →
+pub record Proper (c : ActivationSetting) (m : Mach) (n : ℕ) (s : State) (t : Tally) : Type 0 where
+  pub goes : run_of_mach c m n s t ≢ Wrong
+  pub vals : (k : ℕ) → k < n → (u : State) (y : Tally) → run_of_mach c m k s t ≡ Running u y →
       ValsWritten m u
-  pub origins : (k : ℕ) → k < n → (u v : State) (y z : Tally) → run c m k s t ≡ Running u y →
-      run c m (suc k) s t ≡ Running v z → OriginsAgree m (just_written m u v) v
+  pub origins : (k : ℕ) → k < n → (u v : State) (y z : Tally) → run_of_mach c m k s t ≡ Running u y →
+      run_of_mach c m (suc k) s t ≡ Running v z → OriginsAgree m (just_written m u v) v
 
 -- ---- the same
 
@@ -84,40 +84,40 @@ pub record Trails (x y : Around) : Type 0 where
 
 -- The second run, of the same language or the next, reports what the first does: calls and their
 -- memories, end, units, and stack bytes; and running states suit each other.
-pub data Alike {S U : Type 0} (Suit : S → U → Type 0) : Run S → Run U → Type 0 where
-  both_running : {s : S} {u : U} {t : Tally} → Suit s u → Alike Suit (Running s t) (Running u t)
-  both_asking : {call : Asked} {t : Tally} → Alike Suit (Asking call t) (Asking call t)
-  both_ended : {doing : Doing} {t : Tally} → Alike Suit (Ended doing t) (Ended doing t)
+pub data RunsAlike {S U : Type 0} (Suit : S → U → Type 0) : RunProgress S → RunProgress U → Type 0 where
+  both_running : {s : S} {u : U} {t : Tally} → Suit s u → RunsAlike Suit (Running s t) (Running u t)
+  both_asking : {call : Asked} {t : Tally} → RunsAlike Suit (Asking call t) (Asking call t)
+  both_ended : {doing : Doing} {t : Tally} → RunsAlike Suit (Ended doing t) (Ended doing t)
 
 -- what is round two states suits
 abbrev pub SuitRound : (Around → Around → Type 0) → State → State → Type 0
 SuitRound Suit s u = Suit s.around u.around
 
 -- some number of steps of a function comes to such a run, and is nowhere stuck
-pub record Comes (Suit : Around → Around → Type 0) (r : Run State) (c : Place) (m : Mach)
+pub record Comes (Suit : Around → Around → Type 0) (r : RunProgress State) (c : ActivationSetting) (m : Mach)
     (s : State) (t : Tally) : Type 0 where
   pub steps : ℕ
-  pub alike : Alike (SuitRound Suit) r (run c m steps s t)
+  pub alike : RunsAlike (SuitRound Suit) r (run_of_mach c m steps s t)
   pub proper : Proper c m steps s t
 
 -- Wherever the first is not stuck in n steps, the second comes to a run that has allocated no less,
 -- and to one that has allocated no more: so both allocate the same blocks.
-pub record Follows (c : Place) (p q : Mach) (s u : State) (t : Tally) (n : ℕ) : Type 0 where
-  pub no_less : Comes Ahead (run c p n s t) c q u t
-  pub no_more : Comes Trails (run c p n s t) c q u t
+pub record Follows (c : ActivationSetting) (p q : Mach) (s u : State) (t : Tally) (n : ℕ) : Type 0 where
+  pub no_less : Comes Ahead (run_of_mach c p n s t) c q u t
+  pub no_more : Comes Trails (run_of_mach c p n s t) c q u t
 
 -- the second begins where the first does, and follows it from there
-pub record Begins (c : Place) (p q : Mach) (arguments : List Value) (memory : Memory)
+pub record Begins (c : ActivationSetting) (p q : Mach) (arguments : List Value) (memory : Memory)
     (doings : List Doing) (s : State) : Type 0 where
   pub state : State
-  pub begins : start c q arguments memory ≡ Some state
+  pub begins : mach_start c q arguments memory ≡ Some state
   pub follows : (n : ℕ) → Proper c p n s (first_tally c doings) →
       Follows c p q s state (first_tally c doings) n
 
-abbrev pub Does : Mach → Mach → Type 0
-Does p q =
-    (c : Place) (arguments : List Value) (memory : Memory) (doings : List Doing) (s : State) →
-    start c p arguments memory ≡ Some s → Begins c p q arguments memory doings s
+abbrev pub MachSimulation : Mach → Mach → Type 0
+MachSimulation p q =
+    (c : ActivationSetting) (arguments : List Value) (memory : Memory) (doings : List Doing) (s : State) →
+    mach_start c p arguments memory ≡ Some s → Begins c p q arguments memory doings s
 
 -- ---- the static parts
 
@@ -150,7 +150,7 @@ pub data NamesSymbol (name : List ℕ) : MachOp → Type 0 where
 
 -- or an external call, by its row
 pub data NamesExternal (row : External) : MachOp → Type 0 where
-  calls_out : {e : declared.External} {frame : Bool} → row_of e ≡ row →
+  calls_out : {e : declared.External} {frame : Bool} → external_row e ≡ row →
       NamesExternal row (mach.Op (op.Calling (calling.External e frame)))
 
 -- some instruction of the function names it
@@ -166,7 +166,7 @@ pub record Keeps (p q : Mach) : Type 0 where
   pub name : q.name ≡ p.name
   pub result : q.result ≡ p.result
   -- calls, memories, blocks, tries, end and units are the same wherever the first is not stuck
-  pub does : Does p q
+  pub does : MachSimulation p q
   -- no new origin among the registers that are open or are in slots
   pub origins : (r : Reg) → IsRegister q r → IsLoose r → HasOrigin p r.origin
   -- A new slot is numbered as its register's origin; so is one that the first has for other origins

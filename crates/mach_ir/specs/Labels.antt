@@ -31,8 +31,8 @@ is_that_label None l = false
 is_that_label (Some k) l = nat_eq k l
 
 -- the place of a label that was entered; of any other the end
-abbrev pub place_in : LabelPlaces → ℕ → ℕ
-place_in labels l = unwrap_or (tree.get nat_cmp labels.places l) labels.end
+abbrev pub place_of_label : LabelPlaces → ℕ → ℕ
+place_of_label labels l = unwrap_or (tree.get nat_cmp labels.places l) labels.end
 
 -- where what is at this place goes on, by the table
 abbrev pub place_to : (ℕ → ℕ) → ℕ → Target → ℕ

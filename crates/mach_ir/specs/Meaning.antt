@@ -9,12 +9,12 @@ use Rattle.bs_words.specs.declared.types.Comp.TheVariants as comp
 use Rattle.bs_words.specs.declared.types.Loc.{Loc}
 use Rattle.bs_words.specs.declared.types.Loc.TheVariants as loc
 use Rattle.bs_words.specs.declared.values.Value.{Value}
-use Rattle.rv_isa.specs.Registers.{number}
+use Rattle.rv_isa.specs.Registers.{register_number}
 use Rattle.rv_isa.specs.declared.register.Register.TheVariants.{A0, A7, T3}
 use Rattle.cmm_meaning.specs.Setting.{Setting}
-use Rattle.mach_ir.specs.Acts.{Around, Target, On, At, Landing, AtLabel, AtHandler, Act, Goes, Pushes, Jumps, Unwinds, Asks, Replaces, Ends, EndsRaising, Stuck, act, truth_of, branches, switched, drop_tries, takes_raised}
+use Rattle.mach_ir.specs.Acts.{Around, Target, On, At, Landing, AtLabel, AtHandler, Act, Goes, Pushes, Jumps, Unwinds, Asks, Replaces, Ends, EndsRaising, Stuck, act, truth_of, goes_by_test, switched, drop_tries, takes_raised}
 use Rattle.mach_ir.specs.Acts as acts
-use Rattle.mach_ir.specs.Runs.{Place, taken, asked, Step, Continues, Pays, Deepens, Waits, FinishesBy, Finishes, FinishesRaising, IsStuck, Tally, Run, runs, entered}
+use Rattle.mach_ir.specs.Runs.{ActivationSetting, stack_in_use, asked_call, Step, Continues, Pays, Deepens, Waits, FinishesBy, Finishes, FinishesRaising, IsStuck, Tally, RunProgress, runs, entry_around}
 use Rattle.mach_ir.specs.declared.op.Op.{Op}
 use Rattle.mach_ir.specs.declared.op.Op.TheVariants as op
 use Rattle.mach_ir.specs.declared.op.Calling.TheVariants as calling
@@ -37,16 +37,16 @@ pub record Held : Type 0 where
 abbrev pub File : Type 0
 File = ℕ → Option Held
 
-abbrev pub put : Reg → Value → File → File
-put r v f = λ n. cond (nat_eq r.number n) (Some (record { comp = r.comp; value = v })) (f n)
+abbrev pub assign_register : Reg → Value → File → File
+assign_register r v f = λ n. cond (nat_eq r.number n) (Some (record { comp = r.comp; value = v })) (f n)
 
-abbrev pub clear : List Reg → File → File
-clear [] f = f
-clear (r ∷ rs) f = λ n. cond (nat_eq r.number n) None (clear rs f n)
+abbrev pub clear_registers : List Reg → File → File
+clear_registers [] f = f
+clear_registers (r ∷ rs) f = λ n. cond (nat_eq r.number n) None (clear_registers rs f n)
 
 -- a write that does not fit is stuck
 abbrev pub put_if : Bool → Reg → Value → Option File → Option File
-put_if true r v (Some f) = Some (put r v f)
+put_if true r v (Some f) = Some (assign_register r v f)
 put_if true r v None = None
 put_if false r v o = None
 
@@ -88,23 +88,23 @@ pub data Destroyed : Type 0 where
   Temporaries : Destroyed
   Everything : Destroyed
 
-abbrev pub destroyed : Op → Destroyed
-destroyed (op.Calling (calling.External row frame)) = Temporaries
-destroyed (op.Calling (calling.Call whom result)) = Everything
-destroyed (op.Calling (calling.TailCall whom result)) = Everything
-destroyed (op.Pure f) = Nothing
-destroyed (op.Access f) = Nothing
-destroyed (op.Leaving f) = Nothing
+abbrev pub destroyed_by_operation : Op → Destroyed
+destroyed_by_operation (op.Calling (calling.External row frame)) = Temporaries
+destroyed_by_operation (op.Calling (calling.Call whom result)) = Everything
+destroyed_by_operation (op.Calling (calling.TailCall whom result)) = Everything
+destroyed_by_operation (op.Pure f) = Nothing
+destroyed_by_operation (op.Access f) = Nothing
+destroyed_by_operation (op.Leaving f) = Nothing
 
 -- so does the entry of a handler
 abbrev pub destroyed_by : MachOp → Destroyed
-destroyed_by (mach.Op f) = destroyed f
+destroyed_by (mach.Op f) = destroyed_by_operation f
 destroyed_by (mach.Mark (mark.Handler label)) = Everything
 destroyed_by (mach.Mark _) = Nothing
 
 -- a0 to a7 and t3 to t6
 abbrev pub is_temporary : ℕ → Bool
-is_temporary n = (nat_le (number A0) n && nat_le n (number A7)) || nat_le (number T3) n
+is_temporary n = (nat_le (register_number A0) n && nat_le n (register_number A7)) || nat_le (register_number T3) n
 
 abbrev pub is_destroyed : Destroyed → Loc → Bool
 is_destroyed Everything (loc.Machine n) = true
@@ -136,8 +136,8 @@ abbrev pub killed : Mach → Instr → List Reg
 killed m i = killed_by m.colours (destroyed_by i.op) i.results
 
 -- every register that it writes
-abbrev pub written : Mach → Instr → List Reg
-written m i = i.results ++ killed m i
+abbrev pub registers_written : Mach → Instr → List Reg
+registers_written m i = i.results ++ killed m i
 
 abbrev pub passes_frame : MachOp → Bool
 passes_frame (mach.Op f) = acts.has_descriptor f
@@ -147,7 +147,7 @@ passes_frame (mach.Mark f) = false
 
 abbrev pub mark_act : Mark → List Value → Around → Act
 mark_act (mark.Exit l n) [] a = Jumps (AtLabel l) (record a { tries = drop_tries n a.tries })
-mark_act (mark.If t l) vs a = branches a On (At l) (truth_of (sizes a.memory) t vs)
+mark_act (mark.If t l) vs a = goes_by_test a On (At l) (truth_of (sizes a.memory) t vs)
 mark_act (mark.Else l end) [] a = Goes [] (At end) a
 mark_act (mark.Switch labels) vs a = switched a labels vs
 mark_act (mark.Case indexes l end) [] a = Goes [] (At end) a
@@ -228,45 +228,45 @@ wrote rest a None = IsStuck
 wrote rest a (Some f) = Continues (record { rest = rest; file = f; around = a })
 
 -- what an instruction does, before this code, by what its operation does
-abbrev pub on_act : Place → Mach → Instr → List Instr → File → Around → Act → Step State
+abbrev pub on_act : ActivationSetting → Mach → Instr → List Instr → File → Around → Act → Step State
 on_act c m i next f a (Goes vs to after) =
-    wrote (code_at m.code next to) after (put_all c.setting.end i.results vs (clear (killed m i) f))
+    wrote (code_at m.code next to) after (put_all c.setting.end i.results vs (clear_registers (killed m i) f))
 on_act c m i next f a (Pushes after) =
-    Deepens (taken c after) (record { rest = next; file = f; around = after })
+    Deepens (stack_in_use c after) (record { rest = next; file = f; around = after })
 on_act c m i next f a (Jumps to after) =
     Pays (record { rest = landing_code m.code (i ∷ next) to; file = f; around = after })
 on_act c m i next f a (Unwinds after) =
     Continues (record { rest = landing_code m.code (i ∷ next) AtHandler; file = f; around = after })
 on_act c m i next f a (Asks callee vs go) =
-    Waits (asked c callee vs false a) (λ d. on_act c m i next f a (go d))
-on_act c m i next f a (Replaces callee vs kept) = FinishesBy (asked c callee vs true a) kept
+    Waits (asked_call c callee vs false a) (λ d. on_act c m i next f a (go d))
+on_act c m i next f a (Replaces callee vs kept) = FinishesBy (asked_call c callee vs true a) kept
 on_act c m i next f a (Ends d) = Finishes d
 on_act c m i next f a (EndsRaising d) = FinishesRaising d
 on_act c m i next f a Stuck = IsStuck
 
-abbrev pub on_values : Place → Mach → Instr → List Instr → File → Around → Option (List Value) →
+abbrev pub on_values : ActivationSetting → Mach → Instr → List Instr → File → Around → Option (List Value) →
     Step State
 on_values c m i next f a None = IsStuck
 on_values c m i next f a (Some vs) =
     on_act c m i next (past_frame (passes_frame i.op) f) a (mach_act c.setting i.op vs a)
 
-abbrev pub at_code : Place → Mach → List Instr → File → Around → Step State
+abbrev pub at_code : ActivationSetting → Mach → List Instr → File → Around → Step State
 at_code c m [] f a = IsStuck
 at_code c m (i ∷ next) f a = on_values c m i next f a (values f i.args)
 
 -- reads, then the operation, then writes, then where control goes
-abbrev pub step : Place → Mach → State → Step State
+abbrev pub step : ActivationSetting → Mach → State → Step State
 step c m s = at_code c m s.rest s.file s.around
 
-abbrev pub run : Place → Mach → ℕ → State → Tally → Run State
-run c m = runs (step c m)
+abbrev pub run_of_mach : ActivationSetting → Mach → ℕ → State → Tally → RunProgress State
+run_of_mach c m = runs (step c m)
 
 -- ---- a function
 
-abbrev pub begun : Mach → Memory → Option File → Option State
-begun m memory None = None
-begun m memory (Some f) = Some (record { rest = m.code; file = f; around = entered memory })
+abbrev pub begin_mach : Mach → Memory → Option File → Option State
+begin_mach m memory None = None
+begin_mach m memory (Some f) = Some (record { rest = m.code; file = f; around = entry_around memory })
 
 -- its arguments are in its parameters; where they do not fit it does not begin
-abbrev pub start : Place → Mach → List Value → Memory → Option State
-start c m arguments memory = begun m memory (put_all c.setting.end m.params arguments (λ n. None))
+abbrev pub mach_start : ActivationSetting → Mach → List Value → Memory → Option State
+mach_start c m arguments memory = begin_mach m memory (put_all c.setting.end m.params arguments (λ n. None))

@@ -3,5 +3,5 @@ use Rattle.std.specs.Prelude.{◌≡◌, ℕ, ◌++◌, List}
 use Rattle.mach_ir.specs.declared.page.Page.{Page}
 
 -- the text has been put at the end of the page
-abbrev pub Adds : Page → Page → List ℕ → Type 0
-Adds old new text = new.bytes.items ≡ old.bytes.items ++ text
+abbrev pub AddsText : Page → Page → List ℕ → Type 0
+AddsText old new text = new.bytes.items ≡ old.bytes.items ++ text

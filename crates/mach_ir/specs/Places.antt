@@ -7,10 +7,10 @@ use Rattle.bs_words.specs.declared.types.Loc.TheVariants as loc
 use Rattle.mach_ir.specs.declared.reg.Reg.{Reg}
 
 -- whether no place is chosen yet
-abbrev pub is_open : Loc → Bool
-is_open loc.Unset = true
-is_open (loc.Machine n) = false
-is_open (loc.Slot n) = false
+abbrev pub is_unset_location : Loc → Bool
+is_unset_location loc.Unset = true
+is_unset_location (loc.Machine n) = false
+is_unset_location (loc.Slot n) = false
 
 abbrev pub same_comp : Comp → Comp → Bool
 same_comp comp.Int comp.Int = true

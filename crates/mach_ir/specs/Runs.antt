@@ -10,29 +10,29 @@ use Rattle.cmm_meaning.specs.Setting.{Setting}
 use Rattle.mach_ir.specs.Acts.{Around}
 
 -- What is round a function.
-pub record Place : Type 0 where
+pub record ActivationSetting : Type 0 where
   pub setting : Setting
   -- the stack bytes below it, and those of its frame
   pub below : ℕ
   pub frame : ℕ
 
 -- the stack bytes in use, 16 for each pushed try
-abbrev pub taken : Place → Around → ℕ
-taken c a = c.below + c.frame + 16 * length a.tries
+abbrev pub stack_in_use : ActivationSetting → Around → ℕ
+stack_in_use c a = c.below + c.frame + 16 * length a.tries
 
 -- the stack bytes that a call finds; a tail call takes its caller's place
-abbrev pub bytes_below : Callee → Bool → Place → Around → ℕ
+abbrev pub bytes_below : Callee → Bool → ActivationSetting → Around → ℕ
 bytes_below (Outside row frame) tail c a = 0
 bytes_below (Inside f) true c a = c.below
-bytes_below (Inside f) false c a = taken c a
+bytes_below (Inside f) false c a = stack_in_use c a
 
 abbrev pub tries_round : Callee → Around → ℕ
 tries_round (Outside row frame) a = 0
 tries_round (Inside f) a = length a.tries
 
 -- a call as it is asked
-abbrev pub asked : Place → Callee → List Value → Bool → Around → Asked
-asked c callee arguments tail a =
+abbrev pub asked_call : ActivationSetting → Callee → List Value → Bool → Around → Asked
+asked_call c callee arguments tail a =
     record {
       callee = callee;
       arguments = arguments;
@@ -70,12 +70,12 @@ pub record Tally : Type 0 where
   -- the most stack bytes
   pub need : ℕ
 
-pub data Run (S : Type 0) : Type 0 where
-  Running : (s : S) (t : Tally) → Run S
+pub data RunProgress (S : Type 0) : Type 0 where
+  Running : (s : S) (t : Tally) → RunProgress S
   -- at a call for which nothing was handed in
-  Asking : (call : Asked) (t : Tally) → Run S
-  Ended : (doing : Doing) (t : Tally) → Run S
-  Wrong : Run S
+  Asking : (call : Asked) (t : Tally) → RunProgress S
+  Ended : (doing : Doing) (t : Tally) → RunProgress S
+  Wrong : RunProgress S
 
 abbrev pub paid : Tally → Tally
 paid t = record t { units = suc t.units }
@@ -95,28 +95,28 @@ kept_of ret.Unit (Gave v m) = Gave None m
 kept_of ret.Unit (Threw v m) = Threw v m
 kept_of (ret.Comp t) d = d
 
-abbrev pub handed : {S : Type 0} → (Doing → Tally → Run S) → Asked → List Doing → Tally → Run S
+abbrev pub handed : {S : Type 0} → (Doing → Tally → RunProgress S) → Asked → List Doing → Tally → RunProgress S
 handed again call [] t = Asking call t
 handed again call (d ∷ ds) t = again d (came_back call ds t)
 
-abbrev pub onward : {S : Type 0} → (S → Tally → Run S) → Step S → Tally → Run S
-onward go (Continues s) t = go s t
-onward go (Pays s) t = go s (paid t)
-onward go (Deepens bytes s) t = go s (record t { need = max t.need bytes })
-onward go (Waits call next) t = handed (λ d t. onward go (next d) t) call t.doings t
-onward go (FinishesBy call kept) t = handed (λ d t. Ended (kept_of kept d) t) call t.doings t
-onward go (Finishes d) t = Ended d t
-onward go (FinishesRaising d) t = Ended d (paid t)
-onward go IsStuck t = Wrong
+abbrev pub run_onward : {S : Type 0} → (S → Tally → RunProgress S) → Step S → Tally → RunProgress S
+run_onward go (Continues s) t = go s t
+run_onward go (Pays s) t = go s (paid t)
+run_onward go (Deepens bytes s) t = go s (record t { need = max t.need bytes })
+run_onward go (Waits call next) t = handed (λ d t. run_onward go (next d) t) call t.doings t
+run_onward go (FinishesBy call kept) t = handed (λ d t. Ended (kept_of kept d) t) call t.doings t
+run_onward go (Finishes d) t = Ended d t
+run_onward go (FinishesRaising d) t = Ended d (paid t)
+run_onward go IsStuck t = Wrong
 
 -- at most n steps, by what a step from each state is
-abbrev pub runs : {S : Type 0} → (S → Step S) → ℕ → S → Tally → Run S
+abbrev pub runs : {S : Type 0} → (S → Step S) → ℕ → S → Tally → RunProgress S
 runs step zero s t = Running s t
-runs step (suc n) s t = onward (runs step n) (step s) t
+runs step (suc n) s t = run_onward (runs step n) (step s) t
 
 -- at the entry
-abbrev pub first_tally : Place → List Doing → Tally
+abbrev pub first_tally : ActivationSetting → List Doing → Tally
 first_tally c doings = record { asked = []; doings = doings; units = 0; need = c.below + c.frame }
 
-abbrev pub entered : Memory → Around
-entered m = record { memory = m; unwritten = []; tries = []; raised = None }
+abbrev pub entry_around : Memory → Around
+entry_around m = record { memory = m; unwritten = []; tries = []; raised = None }

@@ -32,7 +32,7 @@ number_limit = 4294967296
 
 -- There are numbers of 32 bits for the places of a code, of which one comes after its last instruction,
 -- for its operands and results, for its registers and for its labels.
-pub record IsSmall (s : Size) : Type 0 where
+pub record IsSmallSize (s : Size) : Type 0 where
   pub places : suc s.instrs < number_limit
   pub operands : s.operands < number_limit
   pub registers : s.registers < number_limit
@@ -43,7 +43,7 @@ pub record IsSmall (s : Size) : Type 0 where
 pub record HasRoom (grown : Size → Size) (m : Mach) : Type 0 where
   pub size : Size
   pub within : HasSize m size
-  pub small : IsSmall (grown size)
+  pub small : IsSmallSize (grown size)
 
 -- there are numbers for all that it has
 abbrev pub IsCountable : Mach → Type 0

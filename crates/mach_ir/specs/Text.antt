@@ -2,7 +2,7 @@
 use Rattle.std.specs.Prelude.{ℕ, ◌-◌, Bool, true, false, List, [], ◌∷◌, ◌++◌, codes, length, take}
 use Rattle.std.specs.Fmt.{decimal}
 use Rattle.mach_ir.specs.Places.{are_none}
-use Rattle.mach_ir.specs.Words.{comp_letter, place_text, label_text, separator, op_word, op_text, test_word, test_right, right_text}
+use Rattle.mach_ir.specs.Words.{comp_letter, location_text, label_text, separator, op_word, op_text, test_word, test_right, right_text}
 use Rattle.mach_ir.specs.declared.lines.Turn.{Turn}
 use Rattle.mach_ir.specs.declared.lines.Turn.TheVariants as turn
 use Rattle.mach_ir.specs.declared.reg.Reg.{Reg}
@@ -15,7 +15,7 @@ use Rattle.mach_ir.specs.declared.mach.Mach.{Mach}
 
 -- as `r5:i` while the register has no place, then as `a0:i` or `[3]:i`
 abbrev pub reg_text : Reg → List ℕ
-reg_text r = place_text (codes "r" ++ decimal r.number) r.loc ++ codes ":" ++ comp_letter r.comp
+reg_text r = location_text (codes "r" ++ decimal r.number) r.loc ++ codes ":" ++ comp_letter r.comp
 
 -- each register after its mark, the first of all operands or not
 abbrev pub regs_text : Bool → List Reg → List ℕ
@@ -88,8 +88,8 @@ turn_of (mach.Op f) = turn.Stays
 turn_of (mach.Mark f) = mark_turn f
 
 -- the indentation one level deeper, and one level less deep: two spaces
-abbrev pub deeper : List ℕ → List ℕ
-deeper indent = indent ++ codes "  "
+abbrev pub indented_deeper : List ℕ → List ℕ
+indented_deeper indent = indent ++ codes "  "
 
 abbrev pub shallower : List ℕ → List ℕ
 shallower indent = take (length indent - 2) indent
@@ -105,8 +105,8 @@ indent_at turn.Hides indent = indent
 -- the indentation after a line that has this one
 abbrev pub indent_on : Turn → List ℕ → List ℕ
 indent_on turn.Stays indent = indent
-indent_on turn.Opens indent = deeper indent
-indent_on turn.Parts indent = deeper indent
+indent_on turn.Opens indent = indented_deeper indent
+indent_on turn.Parts indent = indented_deeper indent
 indent_on turn.Closes indent = indent
 indent_on turn.Hides indent = indent
 
@@ -117,18 +117,18 @@ line_text indent i =
     ++ instr_text (are_none i.args) i.op ++ codes "\n"
 
 -- the end of a try's body is seen by its `with` alone
-abbrev pub shown : Turn → List ℕ → List ℕ
-shown turn.Hides line = []
-shown turn.Stays line = line
-shown turn.Opens line = line
-shown turn.Parts line = line
-shown turn.Closes line = line
+abbrev pub shown_line : Turn → List ℕ → List ℕ
+shown_line turn.Hides line = []
+shown_line turn.Stays line = line
+shown_line turn.Opens line = line
+shown_line turn.Parts line = line
+shown_line turn.Closes line = line
 
 abbrev pub lines_text : List ℕ → List Instr → List ℕ
 lines_text indent [] = []
 lines_text indent (i ∷ is) =
     let own : List ℕ = indent_at (turn_of i.op) indent in
-    shown (turn_of i.op) (line_text own i) ++ lines_text (indent_on (turn_of i.op) own) is
+    shown_line (turn_of i.op) (line_text own i) ++ lines_text (indent_on (turn_of i.op) own) is
 
 abbrev pub mach_text : Mach → List ℕ
 mach_text m = codes "function " ++ m.name ++ codes "\n" ++ lines_text (codes "  ") m.code

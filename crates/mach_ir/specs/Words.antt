@@ -12,9 +12,9 @@ use Rattle.bs_words.specs.declared.types.Comp.{Comp}
 use Rattle.bs_words.specs.declared.types.Comp.TheVariants as comp
 use Rattle.bs_words.specs.declared.types.Loc.{Loc}
 use Rattle.bs_words.specs.declared.types.Loc.TheVariants as loc
-use Rattle.rv_isa.specs.Registers.{number}
+use Rattle.rv_isa.specs.Registers.{register_number}
 use Rattle.rv_isa.specs.declared.register.Register.TheVariants.{T0, T2, S0, S1, A0, A7, S2, S11, T3, T6}
-use Rattle.mach_ir.specs.Blocks.{bytes_of}
+use Rattle.mach_ir.specs.Blocks.{total_block_bytes}
 use Rattle.mach_ir.specs.declared.op.Right.{Right}
 use Rattle.mach_ir.specs.declared.op.Right.TheVariants as right
 use Rattle.mach_ir.specs.declared.op.CopyKind.{CopyKind}
@@ -49,18 +49,18 @@ is_from_to low high n = nat_le low n && nat_le n high
 -- number after an x (RISC-V ABIs specification, "Integer Register Convention").
 abbrev pub register_name : ℕ → List ℕ
 register_name n =
-    cond (is_from_to (number T0) (number T2) n) (codes "t" ++ decimal (n - number T0))
-    (cond (is_from_to (number S0) (number S1) n) (codes "s" ++ decimal (n - number S0))
-    (cond (is_from_to (number A0) (number A7) n) (codes "a" ++ decimal (n - number A0))
-    (cond (is_from_to (number S2) (number S11) n) (codes "s" ++ decimal (2 + (n - number S2)))
-    (cond (is_from_to (number T3) (number T6) n) (codes "t" ++ decimal (3 + (n - number T3)))
+    cond (is_from_to (register_number T0) (register_number T2) n) (codes "t" ++ decimal (n - register_number T0))
+    (cond (is_from_to (register_number S0) (register_number S1) n) (codes "s" ++ decimal (n - register_number S0))
+    (cond (is_from_to (register_number A0) (register_number A7) n) (codes "a" ++ decimal (n - register_number A0))
+    (cond (is_from_to (register_number S2) (register_number S11) n) (codes "s" ++ decimal (2 + (n - register_number S2)))
+    (cond (is_from_to (register_number T3) (register_number T6) n) (codes "t" ++ decimal (3 + (n - register_number T3)))
     (codes "x" ++ decimal n)))))
 
 -- a place; what has none yet prints as given
-abbrev pub place_text : List ℕ → Loc → List ℕ
-place_text unset loc.Unset = unset
-place_text unset (loc.Machine n) = register_name n
-place_text unset (loc.Slot k) = codes "[" ++ decimal k ++ codes "]"
+abbrev pub location_text : List ℕ → Loc → List ℕ
+location_text unset loc.Unset = unset
+location_text unset (loc.Machine n) = register_name n
+location_text unset (loc.Slot k) = codes "[" ++ decimal k ++ codes "]"
 
 abbrev pub label_text : ℕ → List ℕ
 label_text l = codes "L" ++ decimal l
@@ -184,7 +184,7 @@ pure_text first (pure.Operator f r) = right_text first r
 abbrev pub access_text : Bool → Access → List ℕ
 access_text first (access.Load k offset) = separator first ++ word_text offset
 access_text first (access.Store k offset) = separator first ++ word_text offset
-access_text first (access.Alloc blocks) = separator first ++ decimal (bytes_of blocks)
+access_text first (access.Alloc blocks) = separator first ++ decimal (total_block_bytes blocks)
 
 abbrev pub callee_text : Bool → Callee → List ℕ
 callee_text first (callee.Symbol name) = separator first ++ name

@@ -1,6 +1,6 @@
 //! The blocks of an allocation.
 ghost use Rattle.std.specs.Prelude.{◌≡◌, ◌<◌, ◌+◌, ◌++◌, [], ◌∷◌, IfOk};
-ghost use Rattle.mach_ir.specs.Blocks.{block_bytes, bytes_of};
+ghost use Rattle.mach_ir.specs.Blocks.{new_block_bytes, total_block_bytes};
 
 use std::alloc::{AllocError, Global};
 use std::marker::Model;
@@ -24,20 +24,20 @@ pub struct Blocks {
 
 impl Model for Blocks {
     ghost use Rattle.std.specs.Prelude.{◌≡◌, List};
-    ghost use Rattle.mach_ir.specs.Blocks.{bytes_of};
+    ghost use Rattle.mach_ir.specs.Blocks.{total_block_bytes};
     ghost use Rattle.mach_ir.specs.declared.blocks.NewBlock.{NewBlock};
 
     ghost Value = { List NewBlock };
 
     ghost view = { λ blocks. blocks.items.items };
 
-    ghost invariant = { λ blocks. blocks.bytes ≡ bytes_of blocks.items.items };
+    ghost invariant = { λ blocks. blocks.bytes ≡ total_block_bytes blocks.items.items };
 }
 
 impl Blocks {
     /// The one block. The only error is want of memory.
     pub fn one(alloc: Global, block: NewBlock) -> Result<Self, AllocError>
-        requires { block_bytes block < 4294967296 }
+        requires { new_block_bytes block < 4294967296 }
         ensures { IfOk result (λ blocks. blocks ≡ block ∷ []) }
     {
         let mut items = Vec::new(alloc);
@@ -51,7 +51,7 @@ impl Blocks {
     #[tactic(auto, using(crate::proofs::Sums::bytes_push))]
     /// Allocates one block more, after the others. Where memory is used up nothing has changed.
     pub fn push(&mut self, block: NewBlock) -> Result<(), AllocError>
-        requires { bytes_of self.old + block_bytes block < 4294967296 }
+        requires { total_block_bytes self.old + new_block_bytes block < 4294967296 }
         ensures { IfOk result (λ _. self.new ≡ self.old ++ block ∷ []) }
     {
         self.items.push(block)?;
@@ -68,7 +68,7 @@ impl Blocks {
 
     /// The bytes of all of them together, a header word for each among them.
     pub fn bytes(&self) -> u32
-        ensures { result ≡ bytes_of self.now }
+        ensures { result ≡ total_block_bytes self.now }
     {
         self.bytes
     }

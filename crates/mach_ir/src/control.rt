@@ -1,6 +1,6 @@
 //! Where control goes on from an operation.
 ghost use Rattle.std.specs.Prelude.{◌≡◌, ◌<◌, ◌^◌, suc, IfOk};
-ghost use Rattle.mach_ir.specs.Acts.{goes_on};
+ghost use Rattle.mach_ir.specs.Acts.{falls_through};
 ghost use Rattle.mach_ir.specs.Labels.{next_place};
 
 use crate::op::Op;
@@ -11,7 +11,7 @@ use std::alloc::{AllocError, Global};
 /// memory.
 pub fn places_after_op(alloc: Global, op: &Op, place: u32) -> Result<Vec<u32>, AllocError>
     requires { suc place < 2 ^ 32 }
-    ensures { IfOk result (λ places. places.items ≡ next_place (goes_on op.now) place) }
+    ensures { IfOk result (λ places. places.items ≡ next_place (falls_through op.now) place) }
 {
     if op.goes_on() {
         one_place(alloc, place + 1)

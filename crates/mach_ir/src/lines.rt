@@ -1,11 +1,11 @@
 //! The text of a Mach function.
 ghost use Rattle.std.specs.Prelude.{◌≡◌, ◌++◌, true, false, codes, IfOk};
 ghost use Rattle.bs_words.specs.Contents.{contents};
-ghost use Rattle.mach_ir.specs.Pages.{Adds};
+ghost use Rattle.mach_ir.specs.Pages.{AddsText};
 ghost use Rattle.mach_ir.specs.Words.{label_text, separator};
 ghost use Rattle.mach_ir.specs.Text.{reg_text, regs_text, results_text, numbers_text, mark_word, mark_text};
 ghost use Rattle.mach_ir.specs.Text.{instr_word, instr_text, mark_turn, turn_of, indent_at, indent_on, line_text};
-ghost use Rattle.mach_ir.specs.Text.{shown, lines_text, mach_text};
+ghost use Rattle.mach_ir.specs.Text.{shown_line, lines_text, mach_text};
 
 use crate::label::Label;
 use crate::mach::{Instr, Mach, MachOp, Mark};
@@ -43,7 +43,7 @@ pub fn text(alloc: Global, mach: &Mach) -> Result<List<u8>, AllocError>
 
 impl Page {
     fn put_lines(&mut self, alloc: Global, code: &[Instr]) -> Result<(), AllocError>
-        ensures { IfOk result (λ _. Adds self.old self.new (lines_text (codes "  ") code.now)) }
+        ensures { IfOk result (λ _. AddsText self.old self.new (lines_text (codes "  ") code.now)) }
     {
         let mut indent = b"  ".to_vec(alloc)?;
         for instr in code {
@@ -57,7 +57,7 @@ impl Page {
 
     fn put_shown(&mut self, turn: Turn, indent: &[u8], instr: &Instr) -> Result<(), AllocError>
         ensures { IfOk result (λ _.
-            Adds self.old self.new (shown turn (line_text indent.now instr.now))) }
+            AddsText self.old self.new (shown_line turn (line_text indent.now instr.now))) }
     {
         match turn {
             Turn::Hides => Ok(()),
@@ -66,7 +66,7 @@ impl Page {
     }
 
     fn put_line(&mut self, indent: &[u8], instr: &Instr) -> Result<(), AllocError>
-        ensures { IfOk result (λ _. Adds self.old self.new (line_text indent.now instr.now)) }
+        ensures { IfOk result (λ _. AddsText self.old self.new (line_text indent.now instr.now)) }
     {
         let args = instr.args.as_slice();
         self.put(indent)?;
@@ -78,7 +78,7 @@ impl Page {
     }
 
     fn put_reg(&mut self, reg: Reg) -> Result<(), AllocError>
-        ensures { IfOk result (λ _. Adds self.old self.new (reg_text reg)) }
+        ensures { IfOk result (λ _. AddsText self.old self.new (reg_text reg)) }
     {
         match reg.loc {
             Loc::Unset => {
@@ -93,7 +93,7 @@ impl Page {
 
     /// Registers after others.
     fn put_more(&mut self, regs: &[Reg]) -> Result<(), AllocError>
-        ensures { IfOk result (λ _. Adds self.old self.new (regs_text false regs.now)) }
+        ensures { IfOk result (λ _. AddsText self.old self.new (regs_text false regs.now)) }
     {
         for reg in regs {
             self.put_separator(false)?;
@@ -103,7 +103,7 @@ impl Page {
     }
 
     fn put_args(&mut self, regs: &[Reg]) -> Result<(), AllocError>
-        ensures { IfOk result (λ _. Adds self.old self.new (regs_text true regs.now)) }
+        ensures { IfOk result (λ _. AddsText self.old self.new (regs_text true regs.now)) }
     {
         match regs.split_first() {
             None => Ok(()),
@@ -116,7 +116,7 @@ impl Page {
     }
 
     fn put_results(&mut self, regs: &[Reg]) -> Result<(), AllocError>
-        ensures { IfOk result (λ _. Adds self.old self.new (results_text regs.now)) }
+        ensures { IfOk result (λ _. AddsText self.old self.new (results_text regs.now)) }
     {
         match regs.split_first() {
             None => Ok(()),
@@ -129,7 +129,7 @@ impl Page {
     }
 
     fn put_instr_word(&mut self, op: &MachOp) -> Result<(), AllocError>
-        ensures { IfOk result (λ _. Adds self.old self.new (instr_word op.now)) }
+        ensures { IfOk result (λ _. AddsText self.old self.new (instr_word op.now)) }
     {
         match op {
             MachOp::Op(op) => self.put_op_word(op),
@@ -138,7 +138,7 @@ impl Page {
     }
 
     fn put_instr(&mut self, first: bool, op: &MachOp) -> Result<(), AllocError>
-        ensures { IfOk result (λ _. Adds self.old self.new (instr_text first op.now)) }
+        ensures { IfOk result (λ _. AddsText self.old self.new (instr_text first op.now)) }
     {
         match op {
             MachOp::Op(op) => self.put_op(first, op),
@@ -147,7 +147,7 @@ impl Page {
     }
 
     fn put_mark_word(&mut self, mark: &Mark) -> Result<(), AllocError>
-        ensures { IfOk result (λ _. Adds self.old self.new (mark_word mark.now)) }
+        ensures { IfOk result (λ _. AddsText self.old self.new (mark_word mark.now)) }
     {
         match mark {
             Mark::Exit { label: _, tries: _ } => self.put(b"exit"),
@@ -172,7 +172,7 @@ impl Page {
     }
 
     fn put_marked_label(&mut self, first: bool, label: Label) -> Result<(), AllocError>
-        ensures { IfOk result (λ _. Adds self.old self.new (separator first ++ label_text label)) }
+        ensures { IfOk result (λ _. AddsText self.old self.new (separator first ++ label_text label)) }
     {
         self.put_separator(first)?;
         self.put_label(label)
@@ -180,7 +180,7 @@ impl Page {
 
     /// The operands of a mark that are no registers.
     fn put_structure(&mut self, first: bool, mark: &Mark) -> Result<(), AllocError>
-        ensures { IfOk result (λ _. Adds self.old self.new (mark_text first mark.now)) }
+        ensures { IfOk result (λ _. AddsText self.old self.new (mark_text first mark.now)) }
     {
         match mark {
             Mark::Exit { label, tries: _ } => self.put_marked_label(first, *label),
@@ -203,7 +203,7 @@ impl Page {
 
     /// Numbers after others.
     fn put_more_numbers(&mut self, numbers: &[u32]) -> Result<(), AllocError>
-        ensures { IfOk result (λ _. Adds self.old self.new (numbers_text false numbers.now)) }
+        ensures { IfOk result (λ _. AddsText self.old self.new (numbers_text false numbers.now)) }
     {
         for number in numbers {
             self.put_separator(false)?;
@@ -213,7 +213,7 @@ impl Page {
     }
 
     fn put_numbers(&mut self, first: bool, numbers: &[u32]) -> Result<(), AllocError>
-        ensures { IfOk result (λ _. Adds self.old self.new (numbers_text first numbers.now)) }
+        ensures { IfOk result (λ _. AddsText self.old self.new (numbers_text first numbers.now)) }
     {
         match numbers.split_first() {
             None => Ok(()),

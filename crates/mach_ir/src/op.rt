@@ -138,10 +138,10 @@ pub enum Op {
 
 impl Calling {
     ghost use Rattle.std.specs.Prelude.{◌≡◌};
-    ghost use Rattle.mach_ir.specs.Acts.{goes_on, may_raise};
+    ghost use Rattle.mach_ir.specs.Acts.{falls_through, may_raise};
 
     fn goes_on(&self) -> bool
-        ensures { result ≡ goes_on (Op.Calling self.now) }
+        ensures { result ≡ falls_through (Op.Calling self.now) }
     {
         match self {
             Calling::Call { .. } => true,
@@ -163,10 +163,10 @@ impl Calling {
 
 impl Leaving {
     ghost use Rattle.std.specs.Prelude.{◌≡◌};
-    ghost use Rattle.mach_ir.specs.Acts.{goes_on, may_raise};
+    ghost use Rattle.mach_ir.specs.Acts.{falls_through, may_raise};
 
     fn goes_on(self) -> bool
-        ensures { result ≡ goes_on (Op.Leaving self) }
+        ensures { result ≡ falls_through (Op.Leaving self) }
     {
         match self {
             Leaving::Checkbound(_) => true,
@@ -188,11 +188,11 @@ impl Leaving {
 
 impl Op {
     ghost use Rattle.std.specs.Prelude.{◌≡◌};
-    ghost use Rattle.mach_ir.specs.Acts.{goes_on, may_raise};
+    ghost use Rattle.mach_ir.specs.Acts.{falls_through, may_raise};
 
     /// Whether control goes on after it.
     pub fn goes_on(&self) -> bool
-        ensures { result ≡ goes_on self.now }
+        ensures { result ≡ falls_through self.now }
     {
         match self {
             Op::Pure(_) => true,

@@ -1,7 +1,7 @@
 //! The words in which functions of both languages are printed.
 ghost use Rattle.std.specs.Prelude.{◌≡◌, ◌++◌, codes, IfOk};
 ghost use Rattle.std.specs.Fmt.{decimal};
-ghost use Rattle.mach_ir.specs.Pages.{Adds};
+ghost use Rattle.mach_ir.specs.Pages.{AddsText};
 ghost use Rattle.mach_ir.specs.Words.{comp_letter, register_name, label_text, word_text, separator, signed_word};
 ghost use Rattle.mach_ir.specs.Words.{unsigned_word, operator_word, chunk_word, copy_word, pure_word, access_word};
 ghost use Rattle.mach_ir.specs.Words.{calling_word, leaving_word, op_word, test_word, right_text, test_right};
@@ -34,7 +34,7 @@ impl Page {
 
     /// Adds a piece of text at the end. The only error is want of memory.
     pub fn put(&mut self, piece: &[u8]) -> Result<(), AllocError>
-        ensures { IfOk result (λ _. Adds self.old self.new piece.now) }
+        ensures { IfOk result (λ _. AddsText self.old self.new piece.now) }
     {
         self.bytes.extend_from_slice(piece)?;
         Ok(())
@@ -42,7 +42,7 @@ impl Page {
 
     /// Adds a number in decimal. The only error is want of memory.
     pub fn put_number(&mut self, number: u64) -> Result<(), AllocError>
-        ensures { IfOk result (λ _. Adds self.old self.new (decimal number)) }
+        ensures { IfOk result (λ _. AddsText self.old self.new (decimal number)) }
     {
         let mut digits = Buffer::new();
         self.put(digits.format(number).as_bytes())
@@ -50,7 +50,7 @@ impl Page {
 
     /// A word by its signed reading. The only error is want of memory.
     pub fn put_word(&mut self, word: u64) -> Result<(), AllocError>
-        ensures { IfOk result (λ _. Adds self.old self.new (word_text word)) }
+        ensures { IfOk result (λ _. AddsText self.old self.new (word_text word)) }
     {
         let mut digits = Buffer::new();
         self.put(digits.format(signed(word)).as_bytes())
@@ -58,7 +58,7 @@ impl Page {
 
     /// Adds a label: `L` and its number. The only error is want of memory.
     pub fn put_label(&mut self, label: Label) -> Result<(), AllocError>
-        ensures { IfOk result (λ _. Adds self.old self.new (label_text label)) }
+        ensures { IfOk result (λ _. AddsText self.old self.new (label_text label)) }
     {
         self.put(b"L")?;
         self.put_number(u64::from(label.0))
@@ -66,13 +66,13 @@ impl Page {
 
     /// What is before an operand. The only error is want of memory.
     pub fn put_separator(&mut self, first: bool) -> Result<(), AllocError>
-        ensures { IfOk result (λ _. Adds self.old self.new (separator first)) }
+        ensures { IfOk result (λ _. AddsText self.old self.new (separator first)) }
     {
         self.put(if first { b" " } else { b", " })
     }
 
     fn put_named(&mut self, letter: &[u8], number: u8) -> Result<(), AllocError>
-        ensures { IfOk result (λ _. Adds self.old self.new (letter.now ++ decimal number)) }
+        ensures { IfOk result (λ _. AddsText self.old self.new (letter.now ++ decimal number)) }
     {
         self.put(letter)?;
         self.put_number(u64::from(number))
@@ -80,7 +80,7 @@ impl Page {
 
     /// The name of a register of the machine. The only error is want of memory.
     pub fn put_register(&mut self, number: u8) -> Result<(), AllocError>
-        ensures { IfOk result (λ _. Adds self.old self.new (register_name number)) }
+        ensures { IfOk result (λ _. AddsText self.old self.new (register_name number)) }
     {
         if Register::T0 as u8 <= number && number <= Register::T2 as u8 {
             self.put_named(b"t", number - Register::T0 as u8)
@@ -100,7 +100,7 @@ impl Page {
     /// A slot. The only error is want of memory.
     pub fn put_slot(&mut self, slot: u32) -> Result<(), AllocError>
         ensures { IfOk result (λ _.
-            Adds self.old self.new (codes "[" ++ decimal slot ++ codes "]")) }
+            AddsText self.old self.new (codes "[" ++ decimal slot ++ codes "]")) }
     {
         self.put(b"[")?;
         self.put_number(u64::from(slot))?;
@@ -109,7 +109,7 @@ impl Page {
 
     /// The component of what is before it. The only error is want of memory.
     pub fn put_comp(&mut self, comp: Comp) -> Result<(), AllocError>
-        ensures { IfOk result (λ _. Adds self.old self.new (codes ":" ++ comp_letter comp)) }
+        ensures { IfOk result (λ _. AddsText self.old self.new (codes ":" ++ comp_letter comp)) }
     {
         self.put(b":")?;
         self.put(letter_of(comp))
@@ -117,7 +117,7 @@ impl Page {
 
     /// The word of an operation. The only error is want of memory.
     pub fn put_op_word(&mut self, op: &Op) -> Result<(), AllocError>
-        ensures { IfOk result (λ _. Adds self.old self.new (op_word op.now)) }
+        ensures { IfOk result (λ _. AddsText self.old self.new (op_word op.now)) }
     {
         match op {
             Op::Pure(pure) => self.put(word_of_pure(pure)),
@@ -128,7 +128,7 @@ impl Page {
     }
 
     fn put_access_word(&mut self, access: &Access) -> Result<(), AllocError>
-        ensures { IfOk result (λ _. Adds self.old self.new (access_word access.now)) }
+        ensures { IfOk result (λ _. AddsText self.old self.new (access_word access.now)) }
     {
         match access {
             Access::Load { chunk, offset: _ } => {
@@ -145,7 +145,7 @@ impl Page {
 
     /// The word of a test, after that of what tests. The only error is want of memory.
     pub fn put_test_word(&mut self, test: Test) -> Result<(), AllocError>
-        ensures { IfOk result (λ _. Adds self.old self.new (test_word test)) }
+        ensures { IfOk result (λ _. AddsText self.old self.new (test_word test)) }
     {
         match test {
             Test::Holds => Ok(()),
@@ -163,7 +163,7 @@ impl Page {
 
     /// A right operand that is a constant. The only error is want of memory.
     pub fn put_right(&mut self, first: bool, right: Right) -> Result<(), AllocError>
-        ensures { IfOk result (λ _. Adds self.old self.new (right_text first right)) }
+        ensures { IfOk result (λ _. AddsText self.old self.new (right_text first right)) }
     {
         match right {
             Right::Register => Ok(()),
@@ -175,21 +175,21 @@ impl Page {
     }
 
     fn put_name(&mut self, first: bool, name: &[u8]) -> Result<(), AllocError>
-        ensures { IfOk result (λ _. Adds self.old self.new (separator first ++ name.now)) }
+        ensures { IfOk result (λ _. AddsText self.old self.new (separator first ++ name.now)) }
     {
         self.put_separator(first)?;
         self.put(name)
     }
 
     fn put_constant(&mut self, first: bool, word: u64) -> Result<(), AllocError>
-        ensures { IfOk result (λ _. Adds self.old self.new (separator first ++ word_text word)) }
+        ensures { IfOk result (λ _. AddsText self.old self.new (separator first ++ word_text word)) }
     {
         self.put_separator(first)?;
         self.put_word(word)
     }
 
     fn put_pure(&mut self, first: bool, pure: &Pure) -> Result<(), AllocError>
-        ensures { IfOk result (λ _. Adds self.old self.new (pure_text first pure.now)) }
+        ensures { IfOk result (λ _. AddsText self.old self.new (pure_text first pure.now)) }
     {
         match pure {
             Pure::Copy(_) => Ok(()),
@@ -200,7 +200,7 @@ impl Page {
     }
 
     fn put_access(&mut self, first: bool, access: &Access) -> Result<(), AllocError>
-        ensures { IfOk result (λ _. Adds self.old self.new (access_text first access.now)) }
+        ensures { IfOk result (λ _. AddsText self.old self.new (access_text first access.now)) }
     {
         match access {
             Access::Load { chunk: _, offset } => self.put_constant(first, *offset),
@@ -213,7 +213,7 @@ impl Page {
     }
 
     fn put_callee(&mut self, first: bool, callee: &Callee) -> Result<(), AllocError>
-        ensures { IfOk result (λ _. Adds self.old self.new (callee_text first callee.now)) }
+        ensures { IfOk result (λ _. AddsText self.old self.new (callee_text first callee.now)) }
     {
         match callee {
             Callee::Symbol(name) => self.put_name(first, name.as_bytes()),
@@ -222,7 +222,7 @@ impl Page {
     }
 
     fn put_calling(&mut self, first: bool, calling: &Calling) -> Result<(), AllocError>
-        ensures { IfOk result (λ _. Adds self.old self.new (calling_text first calling.now)) }
+        ensures { IfOk result (λ _. AddsText self.old self.new (calling_text first calling.now)) }
     {
         match calling {
             Calling::Call { callee, result: _ } => self.put_callee(first, callee),
@@ -232,7 +232,7 @@ impl Page {
     }
 
     fn put_leaving(&mut self, first: bool, leaving: Leaving) -> Result<(), AllocError>
-        ensures { IfOk result (λ _. Adds self.old self.new (leaving_text first leaving)) }
+        ensures { IfOk result (λ _. AddsText self.old self.new (leaving_text first leaving)) }
     {
         match leaving {
             Leaving::Checkbound(right) => self.put_right(first, right),
@@ -243,7 +243,7 @@ impl Page {
 
     /// The operands of an operation that are no registers. The only error is want of memory.
     pub fn put_op(&mut self, first: bool, op: &Op) -> Result<(), AllocError>
-        ensures { IfOk result (λ _. Adds self.old self.new (op_text first op.now)) }
+        ensures { IfOk result (λ _. AddsText self.old self.new (op_text first op.now)) }
     {
         match op {
             Op::Pure(pure) => self.put_pure(first, pure),

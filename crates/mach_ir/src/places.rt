@@ -1,7 +1,7 @@
 //! Places of labels.
 ghost use Rattle.std.specs.Prelude.{◌≡◌, ℕ, cond, map, nat_eq, IfOk};
 ghost use Rattle.mach_ir.specs.Acts.{At};
-ghost use Rattle.mach_ir.specs.Labels.{place_in, place_to};
+ghost use Rattle.mach_ir.specs.Labels.{place_of_label, place_to};
 
 use crate::label::Label;
 use std::alloc::{AllocError, Global};
@@ -17,7 +17,7 @@ pub struct LabelPlaces {
 impl LabelPlaces {
     /// Those of no label. It takes no memory.
     pub fn new(alloc: Global, end: u32) -> Self
-        ensures { (l : ℕ) → place_in result l ≡ end }
+        ensures { (l : ℕ) → place_of_label result l ≡ end }
     {
         LabelPlaces {
             places: BTreeMap::new(alloc),
@@ -27,8 +27,8 @@ impl LabelPlaces {
 
     /// Enters a label, in place of what it had. The only error is want of memory.
     pub fn put(&mut self, label: Label, place: u32) -> Result<(), AllocError>
-        ensures { IfOk result (λ _. (l : ℕ) → place_in self.new l ≡
-            cond (nat_eq label l) place (place_in self.old l)) }
+        ensures { IfOk result (λ _. (l : ℕ) → place_of_label self.new l ≡
+            cond (nat_eq label l) place (place_of_label self.old l)) }
     {
         self.places.insert(label.0, place)?;
         Ok(())
@@ -36,7 +36,7 @@ impl LabelPlaces {
 
     /// The place of the label.
     pub fn place_of(&self, label: Label) -> u32
-        ensures { result ≡ place_in self.now label }
+        ensures { result ≡ place_of_label self.now label }
     {
         match self.places.get(&label.0) {
             None => self.end,
@@ -48,7 +48,7 @@ impl LabelPlaces {
     /// of memory.
     pub fn places_of(&self, alloc: Global, among: &[Label]) -> Result<Vec<u32>, AllocError>
         ensures { IfOk result (λ places. (p : ℕ) →
-            places.items ≡ map (place_to (place_in self.now) p) (map At among.now)) }
+            places.items ≡ map (place_to (place_of_label self.now) p) (map At among.now)) }
     {
         let mut places = Vec::with_capacity(alloc, among.len())?;
         for label in among {

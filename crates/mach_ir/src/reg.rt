@@ -1,6 +1,6 @@
 //! Registers.
 ghost use Rattle.std.specs.Prelude.{◌≡◌};
-ghost use Rattle.mach_ir.specs.Places.{is_open, same_comp};
+ghost use Rattle.mach_ir.specs.Places.{is_unset_location, same_comp};
 
 use bs_words::{Comp, Loc};
 
@@ -25,7 +25,7 @@ pub struct Reg {
 impl Reg {
     /// Whether its place is open.
     pub fn is_open(self) -> bool
-        ensures { result ≡ is_open self.loc }
+        ensures { result ≡ is_unset_location self.loc }
     {
         match self.loc {
             Loc::Unset => true,

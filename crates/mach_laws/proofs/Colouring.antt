@@ -2,9 +2,9 @@
 use Rattle.std.proofs.Common.{◌≡◌, ℕ, Bool, true, false, cond, not, ◌&&◌, ◌⊎◌, inl, inr, ⊎_elim, List, [], ◌∷◌, map, refl, sym, subst}
 use Rattle.std.specs.List.{Contains}
 use Rattle.mach_ir.specs.Graph.{InGraph, JoinedIn, IsGraph, IsColourable}
-use Rattle.mach_ir.specs.Meaning.{Destroyed, Nothing, Temporaries, Everything, destroyed_by, is_destroyed, is_at_one_of, killed_among, killed_by, killed, written}
-use Rattle.mach_ir.specs.Placed.{Colouring, IsColouring, WellPlaced}
-use Rattle.mach_ir.specs.Walks.{Among, first, later, goes, raises, Live, read, on, aside, LiveAfter, after_step, InCode, in_args, in_results, further, IsRegister, is_param, is_colour, is_in_code, Meets, at_write, at_params, Joined, one_way, other_way}
+use Rattle.mach_ir.specs.Meaning.{Destroyed, Nothing, Temporaries, Everything, destroyed_by, is_destroyed, is_at_one_of, killed_among, killed_by, killed, registers_written}
+use Rattle.mach_ir.specs.Placed.{Colouring, IsProperColouring, WellPlaced}
+use Rattle.mach_ir.specs.Walks.{AmongRegisters, first, later, goes, raises, Live, read, on, aside, LiveAfter, after_step, InCode, in_args, in_results, further, IsRegister, is_param, is_colour, is_in_code, Meets, at_write, at_params, Joined, one_way, other_way}
 use Rattle.mach_ir.specs.declared.graph.Node.{Node}
 use Rattle.mach_ir.specs.declared.graph.Graph.{Graph}
 use Rattle.mach_ir.specs.declared.reg.Reg.{Reg}
@@ -28,24 +28,24 @@ record IsNumber (m : Mach) (n : ℕ) : Type 0 where
   is : IsRegister m reg
   same : reg.number ≡ n
 
-number_among : {n : ℕ} {rs : List Reg} → Among n rs → HasNumber n rs
+number_among : {n : ℕ} {rs : List Reg} → AmongRegisters n rs → HasNumber n rs
 number_among (first {r = r} {rs = rs} e) = record { reg = r; among = first_in r rs; same = e }
 number_among (later {r = r} {rs = rs} a) =
     let h = number_among a in record { reg = h.reg; among = later_in r h.reg rs h.among; same = h.same }
 
-if_killed : (n : ℕ) (r : Reg) (rs others : List Reg) → (Among n others → Among n rs) → (b : Bool) →
-    Among n (cond b (r ∷ others) others) → Among n (r ∷ rs)
+if_killed : (n : ℕ) (r : Reg) (rs others : List Reg) → (AmongRegisters n others → AmongRegisters n rs) → (b : Bool) →
+    AmongRegisters n (cond b (r ∷ others) others) → AmongRegisters n (r ∷ rs)
 if_killed n r rs others h true (first e) = first e
 if_killed n r rs others h true (later a) = later (h a)
 if_killed n r rs others h false a = later (h a)
 
-pub of_killed : (n : ℕ) (rs : List Reg) (d : Destroyed) (results : List Reg) → Among n (killed_among rs d results) → Among n rs
+pub of_killed : (n : ℕ) (rs : List Reg) (d : Destroyed) (results : List Reg) → AmongRegisters n (killed_among rs d results) → AmongRegisters n rs
 of_killed n [] d results a = a
 of_killed n (r ∷ rs) d results a =
     if_killed n r rs (killed_among rs d results) (of_killed n rs d results)
     (is_destroyed d r.loc && not (is_at_one_of r.loc results)) a
 
-pub of_killed_by : (n : ℕ) (rs : List Reg) (d : Destroyed) (results : List Reg) → Among n (killed_by rs d results) → Among n rs
+pub of_killed_by : (n : ℕ) (rs : List Reg) (d : Destroyed) (results : List Reg) → AmongRegisters n (killed_by rs d results) → AmongRegisters n rs
 of_killed_by n rs Nothing results a = elim a [ ]
 of_killed_by n rs Temporaries results a = of_killed n rs Temporaries results a
 of_killed_by n rs Everything results a = of_killed n rs Everything results a
@@ -56,20 +56,20 @@ module _ (m : Mach) where
   in_code all c = ⊎_elim in_args in_results c
   in_code (more e) c = further (in_code e c)
 
-  of_args : {n : ℕ} {i : Instr} {next : List Instr} → Ending (i ∷ next) m.code → Among n i.args → IsNumber m n
+  of_args : {n : ℕ} {i : Instr} {next : List Instr} → Ending (i ∷ next) m.code → AmongRegisters n i.args → IsNumber m n
   of_args e a =
       let h = number_among a in
       record { reg = h.reg; is = is_in_code (in_code e (inl h.among)); same = h.same }
 
-  of_written : (n : ℕ) (i : Instr) (next : List Instr) → Ending (i ∷ next) m.code → Among n (written m i) → IsNumber m n
+  of_written : (n : ℕ) (i : Instr) (next : List Instr) → Ending (i ∷ next) m.code → AmongRegisters n (registers_written m i) → IsNumber m n
   of_written n i next e a = ⊎_elim of_results of_colours (split_among n i.results (killed m i) a)
     where
-      of_results : Among n i.results → IsNumber m n
+      of_results : AmongRegisters n i.results → IsNumber m n
       of_results b =
           let h = number_among b in
           record { reg = h.reg; is = is_in_code (in_code e (inr h.among)); same = h.same }
 
-      of_colours : Among n (killed m i) → IsNumber m n
+      of_colours : AmongRegisters n (killed m i) → IsNumber m n
       of_colours b =
           let h = number_among (of_killed_by n m.colours (destroyed_by i.op) i.results b) in
           record { reg = h.reg; is = is_colour h.among; same = h.same }
@@ -141,8 +141,8 @@ module _ (m : Mach) where
         }
 
     -- a colouring of it is one of the function
-    pub colouring_of : (place : Colouring) → IsColouring (InGraph g) (JoinedIn g) place →
-        IsColouring (IsRegister m) (Joined m) place
+    pub colouring_of : (place : Colouring) → IsProperColouring (InGraph g) (JoinedIn g) place →
+        IsProperColouring (IsRegister m) (Joined m) place
     colouring_of place h =
         record {
           fixed = λ r i. h.fixed r ((is.registers r).1 i);

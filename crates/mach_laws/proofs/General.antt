@@ -5,8 +5,8 @@ use Rattle.bs_words.specs.declared.types.Ret.{Ret}
 use Rattle.bs_words.specs.declared.values.Value.{Value}
 use Rattle.cmm_meaning.specs.State.{Doing, Callee, Inside, Outside, Asked}
 use Rattle.mach_ir.specs.Acts.{Around, Target, On, At, Landing, AtLabel, AtHandler, Act, Goes, Pushes, Jumps, Unwinds, Asks, Replaces as TakesPlace, Ends, EndsRaising, Stuck}
-use Rattle.mach_ir.specs.Runs.{Place, taken, asked, Step, Continues, Deepens, Waits, FinishesBy, Tally}
-use Rattle.mach_ir.specs.Meaning.{State, File, put_all, clear, killed, written, past_frame, passes_frame, values, mach_act, after_label, from_handler, at_handler, code_at, tries_at, landing_code, wrote, on_act, on_values, step, run}
+use Rattle.mach_ir.specs.Runs.{ActivationSetting, stack_in_use, asked_call, Step, Continues, Deepens, Waits, FinishesBy, Tally}
+use Rattle.mach_ir.specs.Meaning.{State, File, put_all, clear_registers, killed, registers_written, past_frame, passes_frame, values, mach_act, after_label, from_handler, at_handler, code_at, tries_at, landing_code, wrote, on_act, on_values, step, run_of_mach}
 use Rattle.mach_ir.specs.Keeps.{ValsWritten, wrote_at, Proper, Comes}
 use Rattle.mach_ir.specs.declared.reg.Reg.{Reg}
 use Rattle.mach_ir.specs.declared.mach.Instr.{Instr}
@@ -23,25 +23,25 @@ pub record Seen (x y : Around) : Type 0 where
   pub memory : x.memory ≡ y.memory
   pub tries : x.tries ≡ y.tries
 
-abbrev asked_of : Place → Callee → List Value → Bool → Memory → List ℕ → Asked
+abbrev asked_of : ActivationSetting → Callee → List Value → Bool → Memory → List ℕ → Asked
 asked_of c callee vs tail memory tries =
-    asked c callee vs tail (record { memory = memory; unwritten = []; tries = tries; raised = None })
+    asked_call c callee vs tail (record { memory = memory; unwritten = []; tries = tries; raised = None })
 
-asked_by_seen : (c : Place) (callee : Callee) (vs : List Value) (tail : Bool) (x : Around) →
-    asked c callee vs tail x ≡ asked_of c callee vs tail x.memory x.tries
+asked_by_seen : (c : ActivationSetting) (callee : Callee) (vs : List Value) (tail : Bool) (x : Around) →
+    asked_call c callee vs tail x ≡ asked_of c callee vs tail x.memory x.tries
 asked_by_seen c (Outside row frame) vs tail x = refl
 asked_by_seen c (Inside f) vs true x = refl
 asked_by_seen c (Inside f) vs false x = refl
 
-asked_same : (c : Place) (callee : Callee) (vs : List Value) (tail : Bool) (x y : Around) → Seen x y →
-    asked c callee vs tail x ≡ asked c callee vs tail y
+asked_same : (c : ActivationSetting) (callee : Callee) (vs : List Value) (tail : Bool) (x y : Around) → Seen x y →
+    asked_call c callee vs tail x ≡ asked_call c callee vs tail y
 asked_same c callee vs tail x y seen =
     asked_by_seen c callee vs tail x
     ∙ ap (λ m. asked_of c callee vs tail m x.tries) seen.memory
     ∙ ap (λ ts. asked_of c callee vs tail y.memory ts) seen.tries
     ∙ sym (asked_by_seen c callee vs tail y)
 
-module _ (c : Place) (p q : Mach) (f : ℕ → Instr → List Instr) (keeps : KeepsMarks f) (is_code : q.code ≡ expand f p.code)
+module _ (c : ActivationSetting) (p q : Mach) (f : ℕ → Instr → List Instr) (keeps : KeepsMarks f) (is_code : q.code ≡ expand f p.code)
     (Suit : Around → Around → Type 0) (Rel : List Instr → Around → Around → File → File → Type 0) where
   -- the second is at the code for what the first is at
   pub data Related : State → State → Type 0 where
@@ -71,7 +71,7 @@ module _ (c : Place) (p q : Mach) (f : ℕ → Instr → List Instr) (keeps : Ke
     passed : {next : List Instr} {b : File} → Passes Given y [] next b b
     passes : {i : Instr} {xs next : List Instr} {b d e : File} →
         step c q (at (i ∷ (xs ++ next)) b y) ≡ Continues (at (xs ++ next) d y) →
-        ValsWritten q (at (i ∷ (xs ++ next)) b y) → (Given → Agrees q (written q i) (at (xs ++ next) d y)) →
+        ValsWritten q (at (i ∷ (xs ++ next)) b y) → (Given → Agrees q (registers_written q i) (at (xs ++ next) d y)) →
         Passes Given y xs next d e → Passes Given y (i ∷ xs) next b e
 
   passes_on : {Given : Type 0} {y : Around} {xs next : List Instr} {b e : File} {ws vs : List Reg} {x : Step State} →
@@ -82,7 +82,7 @@ module _ (c : Place) (p q : Mach) (f : ℕ → Instr → List Instr) (keeps : Ke
   passes_on {vs = vs} passed given agree go = go vs agree
   passes_on {ws = ws} {x = x} (passes {i = i} e known more further) given agree go =
       later agree known
-      (subst (Coming ws (written q i) x) (sym e) (passes_on further given (λ w. more (given w)) go))
+      (subst (Coming ws (registers_written q i) x) (sym e) (passes_on further given (λ w. more (given w)) go))
 
   -- the same where the second is before the straight code
   begins_on : {Given : Type 0} {y : Around} {xs next : List Instr} {b e : File} {ws : List Reg} {x : Step State} →
@@ -91,7 +91,7 @@ module _ (c : Place) (p q : Mach) (f : ℕ → Instr → List Instr) (keeps : Ke
       Answers c p q Suit Related ws (at (xs ++ next) b y) x
   begins_on passed given none go = none
   begins_on {ws = ws} {x = x} (passes {i = i} e known more further) given none go =
-      steps known (subst (Coming ws (written q i) x) (sym e) (passes_on further given (λ w. more (given w)) go))
+      steps known (subst (Coming ws (registers_written q i) x) (sym e) (passes_on further given (λ w. more (given w)) go))
 
   -- ---- what acts alike
 
@@ -99,34 +99,34 @@ module _ (c : Place) (p q : Mach) (f : ℕ → Instr → List Instr) (keeps : Ke
   -- nothing where it goes elsewhere.
   pub data Past (i main : Instr) (next post : List Instr) (x y : Around) (d e : File) : Target → Type 0 where
     on : {g : File} →
-        (Agrees p (written p i) (at next d x) → Agrees q (written q main) (at (post ++ expand f next) e y)) →
-        Passes (Agrees p (written p i) (at next d x)) y post (expand f next) e g →
-        (Agrees p (written p i) (at next d x) → Rel next x y d g) → Past i main next post x y d e On
+        (Agrees p (registers_written p i) (at next d x) → Agrees q (registers_written q main) (at (post ++ expand f next) e y)) →
+        Passes (Agrees p (registers_written p i) (at next d x)) y post (expand f next) e g →
+        (Agrees p (registers_written p i) (at next d x) → Rel next x y d g) → Past i main next post x y d e On
     elsewhere : {l : ℕ} → post ≡ [] →
-        (Agrees p (written p i) (at (after_label l p.code) d x) →
-        Rel (after_label l p.code) x y d e × Agrees q (written q main) (at (after_label l q.code) e y)) →
+        (Agrees p (registers_written p i) (at (after_label l p.code) d x) →
+        Rel (after_label l p.code) x y d e × Agrees q (registers_written q main) (at (after_label l q.code) e y)) →
         Past i main next post x y d e (At l)
 
   -- where an exit or a raise comes to, in both
   abbrev pub Lands : Instr → Instr → List Instr → List Instr → Landing → Around → Around → File → File → Type 0
   Lands i main next post to x y a b =
-      Agrees p (written p i) (at (landing_code p.code (i ∷ next) to) a x) →
+      Agrees p (registers_written p i) (at (landing_code p.code (i ∷ next) to) a x) →
       Rel (landing_code p.code (i ∷ next) to) x y a b
-      × Agrees q (written q main) (at (landing_code q.code (main ∷ (post ++ expand f next)) to) b y)
+      × Agrees q (registers_written q main) (at (landing_code q.code (main ∷ (post ++ expand f next)) to) b y)
 
   -- what an instruction of the first does, and what one of the second with straight code after it does
   pub data Acts (i main : Instr) (next post : List Instr) (u w : Around) (a b : File) : Act → Act → Type 0 where
     both_go : {vs ws : List Value} {to : Target} {x y : Around} →
-        ((d : File) → put_all c.setting.end i.results vs (clear (killed p i) a) ≡ Some d →
-        (e : File) × (put_all c.setting.end main.results ws (clear (killed q main) b) ≡ Some e)
+        ((d : File) → put_all c.setting.end i.results vs (clear_registers (killed p i) a) ≡ Some d →
+        (e : File) × (put_all c.setting.end main.results ws (clear_registers (killed q main) b) ≡ Some e)
         × Past i main next post x y d e to) → Acts i main next post u w a b (Goes vs to x) (Goes ws to y)
     both_jump : {to : Landing} {x y : Around} → tries_at (main ∷ (post ++ expand f next)) ≡ tries_at (i ∷ next) →
         Lands i main next post to x y a b → Acts i main next post u w a b (Jumps to x) (Jumps to y)
     both_unwind : {x y : Around} → tries_at (main ∷ (post ++ expand f next)) ≡ tries_at (i ∷ next) →
         Lands i main next post AtHandler x y a b → Acts i main next post u w a b (Unwinds x) (Unwinds y)
     both_push : {x y : Around} → post ≡ [] → x.tries ≡ y.tries →
-        (Agrees p (written p i) (at next a x) →
-        Rel next x y a b × Agrees q (written q main) (at (expand f next) b y)) →
+        (Agrees p (registers_written p i) (at next a x) →
+        Rel next x y a b × Agrees q (registers_written q main) (at (expand f next) b y)) →
         Acts i main next post u w a b (Pushes x) (Pushes y)
     both_ask : {callee : Callee} {vs : List Value} {go so : Doing → Act} → Seen u w →
         ((d : Doing) → Acts i main next post u w a b (go d) (so d)) →
@@ -139,7 +139,7 @@ module _ (c : Place) (p q : Mach) (f : ℕ → Instr → List Instr) (keeps : Ke
 
   walks_past : {i main : Instr} {next post : List Instr} {x y : Around} {d e : File} {to : Target} →
       Ending next p.code → Past i main next post x y d e to →
-      Coming (written p i) (written q main) (Continues (at (code_at p.code next to) d x))
+      Coming (registers_written p i) (registers_written q main) (Continues (at (code_at p.code next to) d x))
       (Continues (at (code_at q.code (post ++ expand f next) to) e y))
   walks_past ending (on agree passing rel) =
       passes_on passing (λ w. w) agree (λ us more. both_continue (λ w. (related ending (rel w), more w)))
@@ -154,10 +154,10 @@ module _ (c : Place) (p q : Mach) (f : ℕ → Instr → List Instr) (keeps : Ke
 
   landed : (i main : Instr) (next post : List Instr) (x y : Around) (a b : File) (to : Landing) →
       tries_at (main ∷ (post ++ expand f next)) ≡ tries_at (i ∷ next) → Lands i main next post to x y a b →
-      Agrees p (written p i) (at (landing_code p.code (i ∷ next) to) a x) →
+      Agrees p (registers_written p i) (at (landing_code p.code (i ∷ next) to) a x) →
       Related (at (landing_code p.code (i ∷ next) to) a x)
       (at (landing_code q.code (main ∷ (post ++ expand f next)) to) b y)
-      × Agrees q (written q main) (at (landing_code q.code (main ∷ (post ++ expand f next)) to) b y)
+      × Agrees q (registers_written q main) (at (landing_code q.code (main ∷ (post ++ expand f next)) to) b y)
   landed i main next post x y a b to same lands w =
       let g = lands w in (
         subst (λ rest. Related (at (landing_code p.code (i ∷ next) to) a x) (at rest b y))
@@ -168,20 +168,20 @@ module _ (c : Place) (p q : Mach) (f : ℕ → Instr → List Instr) (keeps : Ke
 
   acts_alike : {i main : Instr} {next post : List Instr} {a b : File} → Ending next p.code → (u w : Around)
       (one two : Act) → Acts i main next post u w a b one two →
-      Coming (written p i) (written q main) (on_act c p i next a u one)
+      Coming (registers_written p i) (registers_written q main) (on_act c p i next a u one)
       (on_act c q main (post ++ expand f next) b w two)
   acts_alike {i} {main} {next} {post} {a} {b} ending u w one two (both_go {vs = vs} {ws = ws} {to = to} {x = x} {y = y} g) =
-      by (put_all c.setting.end i.results vs (clear (killed p i) a)) refl
+      by (put_all c.setting.end i.results vs (clear_registers (killed p i) a)) refl
     where
-      by : (r : Option File) → put_all c.setting.end i.results vs (clear (killed p i) a) ≡ r →
-          Coming (written p i) (written q main) (wrote (code_at p.code next to) x r)
+      by : (r : Option File) → put_all c.setting.end i.results vs (clear_registers (killed p i) a) ≡ r →
+          Coming (registers_written p i) (registers_written q main) (wrote (code_at p.code next to) x r)
           (wrote (code_at q.code (post ++ expand f next) to) y
-          (put_all c.setting.end main.results ws (clear (killed q main) b)))
+          (put_all c.setting.end main.results ws (clear_registers (killed q main) b)))
       by None e = first_stuck
       by (Some d) e =
           let h = g d e in
           subst
-          (λ r. Coming (written p i) (written q main) (Continues (at (code_at p.code next to) d x))
+          (λ r. Coming (registers_written p i) (registers_written q main) (Continues (at (code_at p.code next to) d x))
           (wrote (code_at q.code (post ++ expand f next) to) y r))
           (sym h.1) (walks_past ending h.2)
   acts_alike {i} {main} {next} {post} {a} {b} ending u w one two (both_jump {to = to} {x = x} {y = y} same lands) =
@@ -190,7 +190,7 @@ module _ (c : Place) (p q : Mach) (f : ℕ → Instr → List Instr) (keeps : Ke
       both_continue (landed i main next post x y a b AtHandler same lands)
   acts_alike {i} {main} {next} {post} {a} {b} ending u w one two (both_push {x = x} {y = y} none tries rel) =
       subst
-      (λ bytes. Coming (written p i) (written q main) (Deepens (taken c x) (at next a x))
+      (λ bytes. Coming (registers_written p i) (registers_written q main) (Deepens (stack_in_use c x) (at next a x))
       (Deepens bytes (at (post ++ expand f next) b y)))
       (ap (λ ts. c.below + c.frame + 16 * length ts) tries)
       (both_deepen
@@ -198,17 +198,17 @@ module _ (c : Place) (p q : Mach) (f : ℕ → Instr → List Instr) (keeps : Ke
       let g = rel v in
       subst
       (λ code. Related (at next a x) (at (code ++ expand f next) b y)
-      × Agrees q (written q main) (at (code ++ expand f next) b y))
+      × Agrees q (registers_written q main) (at (code ++ expand f next) b y))
       (sym none) (related ending g.0, g.1)))
   acts_alike {i} {main} {next} {post} {a} {b} ending u w one two (both_ask {callee = callee} {vs = vs} {go = go} {so = so} seen g) =
       subst
-      (λ call. Coming (written p i) (written q main) (on_act c p i next a u (Asks callee vs go))
+      (λ call. Coming (registers_written p i) (registers_written q main) (on_act c p i next a u (Asks callee vs go))
       (Waits call (λ d. on_act c q main (post ++ expand f next) b w (so d))))
       (asked_same c callee vs false u w seen)
       (both_wait (λ d. acts_alike ending u w (go d) (so d) (g d)))
   acts_alike {i} {main} {next} {post} {a} {b} ending u w one two (both_replace {callee = callee} {vs = vs} {kept = kept} seen) =
       subst
-      (λ call. Coming (written p i) (written q main) (on_act c p i next a u (TakesPlace callee vs kept))
+      (λ call. Coming (registers_written p i) (registers_written q main) (on_act c p i next a u (TakesPlace callee vs kept))
       (FinishesBy call kept))
       (asked_same c callee vs true u w seen) both_finish_by
   acts_alike ending u w one two both_end = both_finish
@@ -234,8 +234,8 @@ module _ (c : Place) (p q : Mach) (f : ℕ → Instr → List Instr) (keeps : Ke
   -- what straight code in place of an instruction comes to, where the instruction goes on
   pub record Skips (i : Instr) (next code : List Instr) (x y : Around) (b d : File) : Type 0 where
     pub after : File
-    pub passing : Passes (Agrees p (written p i) (at next d x)) y code (expand f next) b after
-    pub rel : Agrees p (written p i) (at next d x) → Rel next x y d after
+    pub passing : Passes (Agrees p (registers_written p i) (at next d x)) y code (expand f next) b after
+    pub rel : Agrees p (registers_written p i) (at next d x) → Rel next x y d after
 
   -- Or straight code in its place, where it only goes on.
   pub record StandsFor (i : Instr) (next : List Instr) (x y : Around) (a b : File) (vs : List Value) : Type 0 where
@@ -243,7 +243,7 @@ module _ (c : Place) (p q : Mach) (f : ℕ → Instr → List Instr) (keeps : Ke
     pub shape : f (length next) i ≡ code
     pub skips : (mach_act c.setting i.op vs x ≡ Stuck)
         ⊎ ((results : List Value) × (after : Around) × (mach_act c.setting i.op vs x ≡ Goes results On after)
-        × ((d : File) → put_all c.setting.end i.results results (clear (killed p i) (past_frame (passes_frame i.op) a)) ≡ Some d →
+        × ((d : File) → put_all c.setting.end i.results results (clear_registers (killed p i) (past_frame (passes_frame i.op) a)) ≡ Some d →
         Skips i next code after y b d))
 
   shaped : {i : Instr} {next : List Instr} {x y : Around} {a b : File} {vs : List Value} (r : Replaces i next x y a b vs) →
@@ -256,7 +256,7 @@ module _ (c : Place) (p q : Mach) (f : ℕ → Instr → List Instr) (keeps : Ke
   Done i next a x vs = on_act c p i next (past_frame (passes_frame i.op) a) x (mach_act c.setting i.op vs x)
 
   abbrev Answering : Instr → List Instr → File → Around → List Value → State → Type 0
-  Answering i next a x vs t = Answers c p q Suit Related (written p i) t (Done i next a x vs)
+  Answering i next a x vs t = Answers c p q Suit Related (registers_written p i) t (Done i next a x vs)
 
   replaced : {i : Instr} {next : List Instr} {a b : File} (vs : List Value) (x y : Around) → Ending (i ∷ next) p.code →
       ValsWritten p (at (i ∷ next) a x) → (r : Replaces i next x y a b vs) →
@@ -265,23 +265,23 @@ module _ (c : Place) (p q : Mach) (f : ℕ → Instr → List Instr) (keeps : Ke
       subst (λ code. Answering i next a x vs (at code b y)) (sym (shaped r))
       (begins_on r.passing (λ w. tt) (steps (r.vals known) coming) (λ us agree. later agree (r.vals known) coming))
     where
-      acted : Coming (written p i) (written q r.main) (Done i next a x vs)
+      acted : Coming (registers_written p i) (registers_written q r.main) (Done i next a x vs)
           (on_values c q r.main (r.post ++ expand f next) r.between y (Some r.read))
       acted =
           acts_alike (ending_next ending) x y (mach_act c.setting i.op vs x)
           (mach_act c.setting (r.main).op r.read y) r.alike
 
-      coming : Coming (written p i) (written q r.main) (Done i next a x vs)
+      coming : Coming (registers_written p i) (registers_written q r.main) (Done i next a x vs)
           (step c q (at (r.main ∷ (r.post ++ expand f next)) r.between y))
       coming =
           subst
-          (λ o. Coming (written p i) (written q r.main) (Done i next a x vs)
+          (λ o. Coming (registers_written p i) (registers_written q r.main) (Done i next a x vs)
           (on_values c q r.main (r.post ++ expand f next) r.between y o))
           (sym r.reads) acted
 
   -- the second, at this code, answers a step by this instruction of the first
   abbrev Reply : Instr → List Instr → File → Around → Step State → Type 0
-  Reply i code b y z = Answers c p q Suit Related (written p i) (at code b y) z
+  Reply i code b y z = Answers c p q Suit Related (registers_written p i) (at code b y) z
 
   stood : {i : Instr} {next : List Instr} {a b : File} (vs : List Value) (x y : Around) → Ending (i ∷ next) p.code →
       (r : StandsFor i next x y a b vs) → Answering i next a x vs (at (expand f (i ∷ next)) b y)
@@ -296,9 +296,9 @@ module _ (c : Place) (p q : Mach) (f : ℕ → Instr → List Instr) (keeps : Ke
           subst (λ z. Reply i (r.code ++ expand f next) b y (on_act c p i next (past_frame (passes_frame i.op) a) x z)) (sym e)
 
       goes : (results : List Value) (after : Around) →
-          ((d : File) → put_all c.setting.end i.results results (clear (killed p i) (past_frame (passes_frame i.op) a)) ≡ Some d →
+          ((d : File) → put_all c.setting.end i.results results (clear_registers (killed p i) (past_frame (passes_frame i.op) a)) ≡ Some d →
           Skips i next r.code after y b d) → (o : Option File) →
-          put_all c.setting.end i.results results (clear (killed p i) (past_frame (passes_frame i.op) a)) ≡ o →
+          put_all c.setting.end i.results results (clear_registers (killed p i) (past_frame (passes_frame i.op) a)) ≡ o →
           Reply i (r.code ++ expand f next) b y (wrote next after o)
       goes results after skips None e = stuck
       goes results after skips (Some d) e =
@@ -321,7 +321,7 @@ module _ (c : Place) (p q : Mach) (f : ℕ → Instr → List Instr) (keeps : Ke
 
       by : {i : Instr} {next : List Instr} {a b : File} (x y : Around) → Ending (i ∷ next) p.code →
           Rel (i ∷ next) x y a b → ValsWritten p (at (i ∷ next) a x) → (o : Option (List Value)) → values a i.args ≡ o →
-          Answers c p q Suit Related (written p i) (at (expand f (i ∷ next)) b y) (on_values c p i next a x o)
+          Answers c p q Suit Related (registers_written p i) (at (expand f (i ∷ next)) b y) (on_values c p i next a x o)
       by x y ending rel known None e = stuck
       by {i} {next} {a} {b} x y ending rel known (Some vs) e =
           ⊎_elim (λ r. replaced vs x y ending known r) (λ r. stood vs x y ending r)
@@ -335,7 +335,7 @@ module _ (c : Place) (p q : Mach) (f : ℕ → Instr → List Instr) (keeps : Ke
 
   -- The theorem on passes: from states that are related, the second comes to what the first does.
   pub comes_from : Serves → (a b : File) (x y : Around) → Rel p.code x y a b → (n : ℕ) (t : Tally) →
-      Proper c p n (at p.code a x) t → Comes Suit (run c p n (at p.code a x) t) c q (at q.code b y) t
+      Proper c p n (at p.code a x) t → Comes Suit (run_of_mach c p n (at p.code a x) t) c q (at q.code b y) t
   comes_from serves a b x y rel n t proper =
       simulates c p q Suit Related (expansion serves) n (at p.code a x) (at q.code b y) t
       (subst (λ code. Related (at p.code a x) (at code b y)) (sym is_code) (related all rel)) proper

@@ -2,8 +2,8 @@
 use Rattle.std.proofs.Common.{◌≡◌, ℕ, inl, List, [], ◌∷◌, Some, refl, sym, ap, subst}
 use Rattle.bs_words.specs.declared.values.Value.{Value}
 use Rattle.mach_ir.specs.Acts.{Around, Target, On, At}
-use Rattle.mach_ir.specs.Runs.{Place, Tally}
-use Rattle.mach_ir.specs.Meaning.{File, written, values, past_frame, passes_frame, tries_at, landing_code, mach_act}
+use Rattle.mach_ir.specs.Runs.{ActivationSetting, Tally}
+use Rattle.mach_ir.specs.Meaning.{File, registers_written, values, past_frame, passes_frame, tries_at, landing_code, mach_act}
 use Rattle.mach_ir.specs.Keeps.{ValsWritten, Proper, Follows}
 use Rattle.mach_ir.specs.declared.mach.Instr.{Instr}
 use Rattle.mach_ir.specs.declared.mach.Mach.{Mach}
@@ -32,7 +32,7 @@ keeps_marks =
       unbound = λ n i e. not_bound e no_bound;
     }
 
-module _ (c : Place) (p : Mach) where
+module _ (c : ActivationSetting) (p : Mach) where
   -- registers hold the same
   abbrev SameFiles : List Instr → File → File → Type 0
   SameFiles rest a b = a ≡ b
@@ -51,7 +51,7 @@ module _ (c : Place) (p : Mach) where
     past : (i : Instr) (next : List Instr) (x : Around) (d : File) (to : Target) →
         level.Past c p p itself keeps_marks is_code Suit SameFiles i i next [] x d d to
     past i next x d On =
-        general.on (moved (λ code. Agrees p (written p i) (at code d x)) next) general.passed (λ w. (refl, refl))
+        general.on (moved (λ code. Agrees p (registers_written p i) (at code d x)) next) general.passed (λ w. (refl, refl))
     past i next x d (At l) = general.elsewhere refl (λ w. ((refl, refl), w))
 
     same : (i : Instr) (next : List Instr) (a : File) →
@@ -61,10 +61,10 @@ module _ (c : Place) (p : Mach) where
           goes = λ vs d e. (d, e, λ x to o. past i next x d to);
           lands = λ x to l s w. (
             (refl, refl),
-            moved (λ code. Agrees p (written p i) (at (landing_code p.code (i ∷ code) to) a x)) next w,
+            moved (λ code. Agrees p (registers_written p i) (at (landing_code p.code (i ∷ code) to) a x)) next w,
           );
           tries = ap (λ code. tries_at (i ∷ code)) (same_code next);
-          pushes = λ t. (refl, λ x w. ((refl, refl), moved (λ code. Agrees p (written p i) (at code a x)) next w));
+          pushes = λ t. (refl, λ x w. ((refl, refl), moved (λ code. Agrees p (registers_written p i) (at code a x)) next w));
         }
 
     one : (i : Instr) (next : List Instr) (x : Around) (a : File) (vs : List Value) → values a i.args ≡ Some vs →

@@ -8,9 +8,9 @@ use Rattle.std.proofs.lemmas.Bool.{both_ways}
 use Rattle.bs_words.specs.declared.types.Comp.TheVariants as comp
 use Rattle.bs_words.proofs.Lists.{none_in, first_in, later_in, in_cons, head_same, tail_same, none_there}
 use Rattle.mach_ir.specs.Acts.{Target, On, At}
-use Rattle.mach_ir.specs.Formed.{labels_in, labels_of, LeadsTo, HasPlace, place_here, place_below, HasHandler, handler_here, handler_below, is_exit, LabelsStand, tries_left, leaves, IsNested, CasesAgree}
+use Rattle.mach_ir.specs.Formed.{labels_in, labels_of_mark, TargetsLabel, LabelOccursIn, place_here, place_below, HasHandler, handler_here, handler_below, is_exit, LabelsStand, tries_left, leaves, IsNested, CasesAgree}
 use Rattle.mach_ir.specs.Meaning.{has_label, is_handler_of, after_label, from_handler, code_at, tries_at, passes_frame}
-use Rattle.mach_ir.specs.Walks.{Among, OneOf, targets, may_raise, goes, Raises, raises, Reached, at_entry, by_step, by_raise, Writes, Live, read, on, aside, LiveAfter, after_step, LiveAcross, across_step, across_raise, IsRegister, NoAddrLive, Stands, here, below}
+use Rattle.mach_ir.specs.Walks.{AmongRegisters, OneOf, targets, may_raise, goes, Raises, raises, Reached, at_entry, by_step, by_raise, Writes, Live, read, on, aside, LiveAfter, after_step, LiveAcross, across_step, across_raise, IsRegister, NoAddrLive, StandsAsInstr, here, below}
 use Rattle.mach_ir.specs.declared.op.Op.TheVariants as op
 use Rattle.mach_ir.specs.declared.op.Pure.{Pure}
 use Rattle.mach_ir.specs.declared.reg.Reg.{Reg}
@@ -62,7 +62,7 @@ same_where F e (both_pure p r) t = absurd (both_ways (F _) (of_pure F false e p)
 
 abbrev labels_here : MachOp → List ℕ
 labels_here (mach.Op f) = []
-labels_here (mach.Mark f) = labels_of f
+labels_here (mach.Mark f) = labels_of_mark f
 
 labels_from : (i : Instr) (is : List Instr) → labels_in (i ∷ is) ≡ labels_here i.op ++ labels_in is
 labels_from i is = by i.op i.args i.results
@@ -88,35 +88,35 @@ module _ (again : ℕ → Instr → Instr) where
   pub record IsMain (j : Instr) (zs code : List Instr) : Type 0 where
     pub instr : Instr
     pub next : List Instr
-    pub stands : Stands instr next code
+    pub stands : StandsAsInstr instr next code
     pub same : again (length next) instr ≡ j
     pub same_next : zs ≡ expand f next
 
-  pub was_main : (code : List Instr) (j : Instr) (zs : List Instr) → Stands j zs (expand f code) → IsMain j zs code
+  pub was_main : (code : List Instr) (j : Instr) (zs : List Instr) → StandsAsInstr j zs (expand f code) → IsMain j zs code
   was_main [] j zs s = elim s [ ]
   was_main (i ∷ is) j zs s = by refl refl s (λ t. was_main is j zs t)
     where
-      by : {x : Instr} {ys : List Instr} → again (length is) i ≡ x → expand f is ≡ ys → Stands j zs (x ∷ ys) →
-          (Stands j zs (expand f is) → IsMain j zs is) → IsMain j zs (i ∷ is)
+      by : {x : Instr} {ys : List Instr} → again (length is) i ≡ x → expand f is ≡ ys → StandsAsInstr j zs (x ∷ ys) →
+          (StandsAsInstr j zs (expand f is) → IsMain j zs is) → IsMain j zs (i ∷ is)
       by e h here ih = record { instr = i; next = is; stands = here; same = e; same_next = sym h }
       by e h (below t) ih =
-          let w = ih (subst (Stands j zs) (sym h) t) in
+          let w = ih (subst (StandsAsInstr j zs) (sym h) t) in
           record { instr = w.instr; next = w.next; stands = below w.stands; same = w.same; same_next = w.same_next }
 
   -- what holds of each that stands for an instruction and the code after it
   pub both : (code : List Instr) (P : Instr → List Instr → Type 0) →
-      ((i : Instr) (next : List Instr) → Stands i next code → P (again (length next) i) (expand f next)) →
-      (j : Instr) (zs : List Instr) → Stands j zs (expand f code) → P j zs
+      ((i : Instr) (next : List Instr) → StandsAsInstr i next code → P (again (length next) i) (expand f next)) →
+      (j : Instr) (zs : List Instr) → StandsAsInstr j zs (expand f code) → P j zs
   both code P h j zs s =
       let w = was_main code j zs s in
       subst (λ x. P x zs) w.same
       (subst (λ ys. P (again (length w.next) w.instr) ys) (sym w.same_next) (h w.instr w.next w.stands))
 
-  pub each_in : (code : List Instr) (P : Instr → Type 0) → ((i : Instr) (next : List Instr) → Stands i next code → P (again (length next) i)) →
+  pub each_in : (code : List Instr) (P : Instr → Type 0) → ((i : Instr) (next : List Instr) → StandsAsInstr i next code → P (again (length next) i)) →
       (j : Instr) → Contains (expand f code) j → P j
   each_in code P h j c = let s = stands_in (expand f code) j c in both code (λ x zs. P x) h j s.0 s.1
 
-  pub all_in : (code : List Instr) (P : Instr → Type 0) → ((i : Instr) (next : List Instr) → Stands i next code → P (again (length next) i)) →
+  pub all_in : (code : List Instr) (P : Instr → Type 0) → ((i : Instr) (next : List Instr) → StandsAsInstr i next code → P (again (length next) i)) →
       All P (expand f code)
   all_in code P h = λ k d lt.
       each_in code P h (slice_index_or (expand f code) k d) (Contains-get_or (expand f code) k d lt)
@@ -150,7 +150,7 @@ module _ (again : ℕ → Instr → Instr) (alike : (k : ℕ) (i : Instr) → Ar
       ∙ ap (λ ls. ls ++ labels_in (expand g is)) (op_same labels_here [] (λ f. refl) (length is) i)
       ∙ ap (λ ls. labels_here i.op ++ ls) (same_labels is) ∙ sym (labels_from i is)
 
-  place_there : {l : ℕ} {code : List Instr} → HasPlace l code → HasPlace l (expand g code)
+  place_there : {l : ℕ} {code : List Instr} → LabelOccursIn l code → LabelOccursIn l (expand g code)
   place_there {l} (place_here {i = i} {is = is} e) = place_here (op_same (has_label l) false (λ f. refl) (length is) i ∙ e)
   place_there (place_below p) = place_below (place_there p)
 
@@ -196,9 +196,9 @@ module _ (again : ℕ → Instr → Instr) (alike : (k : ℕ) (i : Instr) → Ar
     at_handler_same l = ap tries_at (handler_is l) ∙ tries_same (from_handler l m.code)
 
     main : (P : Instr → List Instr → Type 0) →
-        ((i : Instr) (next : List Instr) → Stands i next m.code → P (again (length next) i) (expand g next)) →
-        (j : Instr) (zs : List Instr) → Stands j zs q.code → P j zs
-    main P h j zs s = both again m.code P h j zs (subst (Stands j zs) is s)
+        ((i : Instr) (next : List Instr) → StandsAsInstr i next m.code → P (again (length next) i) (expand g next)) →
+        (j : Instr) (zs : List Instr) → StandsAsInstr j zs q.code → P j zs
+    main P h j zs s = both again m.code P h j zs (subst (StandsAsInstr j zs) is s)
 
     was : (i : Instr) (next : List Instr) (f : Mark) → (again (length next) i).op ≡ mach.Mark f → i.op ≡ mach.Mark f
     was i next f e = mark_was f (alike (length next) i) e
@@ -206,9 +206,9 @@ module _ (again : ℕ → Instr → Instr) (alike : (k : ℕ) (i : Instr) → Ar
     pub labels_stand : LabelsStand m → LabelsStand q
     labels_stand old =
         record {
-          named = main (λ j zs. (l : ℕ) → LeadsTo j.op l → HasPlace l q.code)
-              (λ i next s l o. subst (HasPlace l) (sym is) (place_there (old.named i next s l (target_there (length next) i o))));
-          forward = main (λ j zs. (l : ℕ) → LeadsTo j.op l → is_exit j.op ≡ false → HasPlace l zs)
+          named = main (λ j zs. (l : ℕ) → TargetsLabel j.op l → LabelOccursIn l q.code)
+              (λ i next s l o. subst (LabelOccursIn l) (sym is) (place_there (old.named i next s l (target_there (length next) i o))));
+          forward = main (λ j zs. (l : ℕ) → TargetsLabel j.op l → is_exit j.op ≡ false → LabelOccursIn l zs)
               (λ i next s l o e.
               place_there
               (old.forward i next s l (target_there (length next) i o)
@@ -222,7 +222,7 @@ module _ (again : ℕ → Instr → Instr) (alike : (k : ℕ) (i : Instr) → Ar
         record {
           at_entry = ap tries_at is ∙ tries_same m.code ∙ old.at_entry;
           at_label = main
-              (λ j zs. (l : ℕ) → LeadsTo j.op l → tries_at (code_at q.code zs (At l)) ≡ tries_left j.op (tries_at (j ∷ zs)))
+              (λ j zs. (l : ℕ) → TargetsLabel j.op l → tries_at (code_at q.code zs (At l)) ≡ tries_left j.op (tries_at (j ∷ zs)))
               (λ i next s l o.
               at_label_same l ∙ old.at_label i next s l (target_there (length next) i o)
               ∙ ap (tries_left i.op) (sym (tries_same (i ∷ next)))
@@ -365,7 +365,7 @@ module _ (again : ℕ → Instr → Instr) (alike : (k : ℕ) (i : Instr) → Ar
     -- What is so of a number where it is read, and before an instruction that does not write it and leads to where it is so, is so
     -- wherever the number is live.
     pub record Carries (Was : ℕ → List Instr → Type 0) : Type 0 where
-      pub reads : (n : ℕ) (i : Instr) (next : List Instr) → Ending (i ∷ next) m.code → Among n (again (length next) i).args →
+      pub reads : (n : ℕ) (i : Instr) (next : List Instr) → Ending (i ∷ next) m.code → AmongRegisters n (again (length next) i).args →
           Was n (i ∷ next)
       pub steps : (n : ℕ) (i : Instr) (next : List Instr) (t : Target) → Ending (i ∷ next) m.code →
           (Writes q (again (length next) i) n → ⊥) → OneOf t (targets i.op) → Was n (code_at m.code next t) → Was n (i ∷ next)
@@ -377,7 +377,7 @@ module _ (again : ℕ → Instr → Instr) (alike : (k : ℕ) (i : Instr) → Ar
           ys ≡ expand (one_each again) rest → Was n rest
       live_back {n} (read {i = j} {next = zs} a) rest ending e =
           by_head (Was n) rest ending e
-          (λ i next end h. carries.reads n i next end (subst (λ (x : Instr). Among n x.args) (head_same h) a))
+          (λ i next end h. carries.reads n i next end (subst (λ (x : Instr). AmongRegisters n x.args) (head_same h) a))
       live_back {n} (on {i = j} {next = zs} free (goes t o) v) rest ending e =
           by_head (Was n) rest ending e
           (λ i next end h.

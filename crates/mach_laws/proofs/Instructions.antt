@@ -6,7 +6,7 @@ use Rattle.mach_ir.specs.declared.mach.Instr.{Instr}
 use Rattle.mach_ir.specs.declared.op.Op.{Op}
 use Rattle.mach_ir.specs.declared.mach.MachOp.TheVariants as mach
 use Rattle.mach_ir.specs.declared.mach.Mark.{Mark}
-use Rattle.mach_ir.specs.Formed.{comps, IsFormed, formed_op, formed_mark}
+use Rattle.mach_ir.specs.Formed.{comps, IsFormedInstruction, formed_op, formed_mark}
 use Rattle.mach_ir.specs.Forms.{HasForm}
 use Rattle.bs_words.specs.declared.types.Comp.{Comp}
 use Rattle.mach_ir.specs.Forms as forms
@@ -39,7 +39,7 @@ length_comps (r ∷ rs) = ap suc (length_comps rs)
 pub returns_none : {cs ds : List Comp} → HasForm (op.Leaving leaving.Return) cs ds → ds ≡ []
 returns_none (forms.returns result) = refl
 
-pub return_results : {i : Instr} → IsFormed i → i.op ≡ mach.Op (op.Leaving leaving.Return) → i.results ≡ []
+pub return_results : {i : Instr} → IsFormedInstruction i → i.op ≡ mach.Op (op.Leaving leaving.Return) → i.results ≡ []
 return_results (formed_op {f = f} {args = args} {results = results} h) e =
     no_comps results
     (returns_none (subst (λ f. HasForm f (comps args) (comps results)) (same_op f (op.Leaving leaving.Return) e) h))

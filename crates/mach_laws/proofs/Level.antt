@@ -4,8 +4,8 @@ use Rattle.bs_words.specs.Memory.{Memory}
 use Rattle.bs_words.specs.declared.values.Value.{Value}
 use Rattle.cmm_meaning.specs.State.{Doing}
 use Rattle.mach_ir.specs.Acts.{Around, Target, Landing, AtHandler, Act, Goes, Pushes, Jumps, Unwinds, Asks, Replaces, Ends, EndsRaising, Stuck}
-use Rattle.mach_ir.specs.Runs.{Place, Tally, first_tally, entered}
-use Rattle.mach_ir.specs.Meaning.{State, File, put_all, clear, killed, written, values, past_frame, passes_frame, tries_at, mach_act, start, begun}
+use Rattle.mach_ir.specs.Runs.{ActivationSetting, Tally, first_tally, entry_around}
+use Rattle.mach_ir.specs.Meaning.{State, File, put_all, clear_registers, killed, registers_written, values, past_frame, passes_frame, tries_at, mach_act, mach_start, begin_mach}
 use Rattle.mach_ir.specs.Walks.{OneOf, targets}
 use Rattle.mach_ir.specs.Keeps.{ValsWritten, Ahead, Trails, Proper, Follows, Begins}
 use Rattle.mach_ir.proofs.Keeping.{level, level_trail}
@@ -19,14 +19,14 @@ use Rattle.mach_laws.proofs.Raised.{IsRaised, Told, told_jump, told_unwind, told
 use Rattle.mach_laws.proofs.Simulate.{Agrees}
 
 -- What both theorems give together at the entry, where the parameters take the same.
-module _ (c : Place) (p q : Mach) where
+module _ (c : ActivationSetting) (p q : Mach) where
   pub begins_by : ((vs : List Value) → put_all c.setting.end q.params vs (λ n. None) ≡ put_all c.setting.end p.params vs (λ n. None)) →
       ((arguments : List Value) (memory : Memory) (a : File) (t : Tally) (n : ℕ) →
       put_all c.setting.end p.params arguments (λ n. None) ≡ Some a →
-      Proper c p n (at p.code a (entered memory)) t →
-      Follows c p q (at p.code a (entered memory)) (at q.code a (entered memory)) t n) →
+      Proper c p n (at p.code a (entry_around memory)) t →
+      Follows c p q (at p.code a (entry_around memory)) (at q.code a (entry_around memory)) t n) →
       (arguments : List Value) (memory : Memory) (doings : List Doing) (s : State) →
-      start c p arguments memory ≡ Some s → Begins c p q arguments memory doings s
+      mach_start c p arguments memory ≡ Some s → Begins c p q arguments memory doings s
   begins_by same follows arguments memory doings s is =
       by (put_all c.setting.end p.params arguments (λ n. None)) refl is
     where
@@ -36,24 +36,24 @@ module _ (c : Place) (p q : Mach) where
       some_same : (x y : State) → Some x ≡ Some y → x ≡ y
       some_same x y e = cc
 
-      by : (o : Option File) → put_all c.setting.end p.params arguments (λ n. None) ≡ o → begun p memory o ≡ Some s →
+      by : (o : Option File) → put_all c.setting.end p.params arguments (λ n. None) ≡ o → begin_mach p memory o ≡ Some s →
           Begins c p q arguments memory doings s
       by None e b = absurd (none_some s b)
       by (Some a) e b =
-          subst (Begins c p q arguments memory doings) (some_same (at p.code a (entered memory)) s b)
+          subst (Begins c p q arguments memory doings) (some_same (at p.code a (entry_around memory)) s b)
           (record {
-            state = at q.code a (entered memory);
-            begins = ap (begun q memory) (same arguments ∙ e);
+            state = at q.code a (entry_around memory);
+            begins = ap (begin_mach q memory) (same arguments ∙ e);
             follows = λ n proper. follows arguments memory a (first_tally c doings) n e proper;
           })
 
   pub begins_at : q.params ≡ p.params →
       ((arguments : List Value) (memory : Memory) (a : File) (t : Tally) (n : ℕ) →
       put_all c.setting.end p.params arguments (λ n. None) ≡ Some a →
-      Proper c p n (at p.code a (entered memory)) t →
-      Follows c p q (at p.code a (entered memory)) (at q.code a (entered memory)) t n) →
+      Proper c p n (at p.code a (entry_around memory)) t →
+      Follows c p q (at p.code a (entry_around memory)) (at q.code a (entry_around memory)) t n) →
       (arguments : List Value) (memory : Memory) (doings : List Doing) (s : State) →
-      start c p arguments memory ≡ Some s → Begins c p q arguments memory doings s
+      mach_start c p arguments memory ≡ Some s → Begins c p q arguments memory doings s
   begins_at same = begins_by (λ vs. ap (λ ps. put_all c.setting.end ps vs (λ n. None)) same)
 
 -- what is round both stays level, where it is the same
@@ -63,7 +63,7 @@ ahead_of x y e = subst (Ahead x) e (level x)
 pub trails_of : (x y : Around) → x ≡ y → Trails x y
 trails_of x y e = subst (Trails x) e (level_trail x)
 
-module _ (c : Place) (p q : Mach) (f : ℕ → Instr → List Instr) (keeps : KeepsMarks f) (is_code : q.code ≡ expand f p.code)
+module _ (c : ActivationSetting) (p q : Mach) (f : ℕ → Instr → List Instr) (keeps : KeepsMarks f) (is_code : q.code ≡ expand f p.code)
     (Rel : List Instr → File → File → Type 0) where
   -- what is round both is the same
   abbrev pub Level : List Instr → Around → Around → File → File → Type 0
@@ -84,7 +84,7 @@ module _ (c : Place) (p q : Mach) (f : ℕ → Instr → List Instr) (keeps : Ke
 
 -- ---- instructions whose operation stays
 
-module _ (c : Place) (p q : Mach) (f : ℕ → Instr → List Instr) (keeps : KeepsMarks f) (is_code : q.code ≡ expand f p.code)
+module _ (c : ActivationSetting) (p q : Mach) (f : ℕ → Instr → List Instr) (keeps : KeepsMarks f) (is_code : q.code ≡ expand f p.code)
     (Suit : Around → Around → Type 0) (Rel : List Instr → File → File → Type 0) where
   abbrev SameLevel : List Instr → Around → Around → File → File → Type 0
   SameLevel = Level c p q f keeps is_code Rel
@@ -95,15 +95,15 @@ module _ (c : Place) (p q : Mach) (f : ℕ → Instr → List Instr) (keeps : Ke
   -- What is asked where both do the same operation, whichever it is: of what they write, of where they land, and of
   -- tries. Where it lands, it is silent, or a value is raised.
   pub record SameOperation (Silent : Type 0) (i main : Instr) (next post : List Instr) (a b : File) : Type 0 where
-    pub goes : (vs : List Value) (d : File) → put_all c.setting.end i.results vs (clear (killed p i) a) ≡ Some d →
-        (e : File) × (put_all c.setting.end main.results vs (clear (killed q main) b) ≡ Some e)
+    pub goes : (vs : List Value) (d : File) → put_all c.setting.end i.results vs (clear_registers (killed p i) a) ≡ Some d →
+        (e : File) × (put_all c.setting.end main.results vs (clear_registers (killed q main) b) ≡ Some e)
         × ((x : Around) (to : Target) → OneOf to (targets i.op) → Past i main next post x d e to)
     pub lands : (x : Around) (to : Landing) → MayLand i.op to → Silent ⊎ IsRaised x.raised →
         general.Lands c p q f keeps is_code Suit SameLevel i main next post to x x a b
     pub tries : tries_at (main ∷ (post ++ expand f next)) ≡ tries_at (i ∷ next)
     pub pushes : IsTry i.op → (post ≡ [])
-        × ((x : Around) → Agrees p (written p i) (at next a x) →
-        SameLevel next x x a b × Agrees q (written q main) (at (expand f next) b x))
+        × ((x : Around) → Agrees p (registers_written p i) (at next a x) →
+        SameLevel next x x a b × Agrees q (registers_written q main) (at (expand f next) b x))
 
   acts_same : {Silent : Type 0} {i main : Instr} {next post : List Instr} {a b : File} (x : Around) → SameOperation Silent i main next post a b →
       (act : Act) → Within i.op act → Told Silent act →

@@ -5,13 +5,13 @@ use Rattle.dataflow.specs.Flow.{Graph, graph, ReadsIn, LiveBefore}
 use Rattle.dataflow.specs.Live.{IsLiveness}
 use Rattle.dataflow.specs.declared.flow.Flow.{Flow}
 use Rattle.mach_ir.specs.Graph.{IsLiveMap}
-use Rattle.mach_ir.specs.Meaning.{code_at, from_handler, tries_at, written}
+use Rattle.mach_ir.specs.Meaning.{code_at, from_handler, tries_at, registers_written}
 use Rattle.mach_ir.specs.Walks.{targets, may_raise, goes, raises, Live, read, on, aside}
 use Rattle.mach_ir.specs.declared.graph.LiveMap.{LiveMap}
 use Rattle.mach_ir.specs.declared.mach.Instr.{Instr}
 use Rattle.mach_ir.specs.declared.mach.Mach.{Mach}
 use Rattle.bs_words.proofs.Lists.{none_in}
-use Rattle.mach_laws.specs.Graph.{place_of, next_places, raise_places, numbers_read, numbers_written, flow_graph, IsFlowOf}
+use Rattle.mach_laws.specs.Graph.{code_index, next_places, raise_places, numbers_read, numbers_written, flow_graph, IsFlowOf}
 use Rattle.mach_laws.proofs.Places.{ending_from_handler}
 use Rattle.mach_laws.proofs.Walking.{among_numbers, in_numbers, ending_at, place_is, place_at, ending_place, target_of, in_targets, handler_of, in_handlers}
 
@@ -61,20 +61,20 @@ module _ (m : Mach) where
       (0, subst (λ xs. Contains (numbers_read xs) r) (sym e) (in_numbers a))
   from_live {r} (on {i = i} {next = next} w (goes t o) l) p e =
       let to = code_at m.code next t in
-      let h = from_live l (place_of m to) (place_is m (ending_at t (ending_place m p e))) in (
+      let h = from_live l (code_index m to) (place_is m (ending_at t (ending_place m p e))) in (
         suc h.0,
         inl (
-          subst (λ xs. Contains (numbers_written m xs) r → ⊥) (sym e) (λ c. w (among_numbers r (written m i) c)),
-          (place_of m to, subst (λ xs. Contains (next_places m xs) (place_of m to)) (sym e) (in_targets m next o), h.1),
+          subst (λ xs. Contains (numbers_written m xs) r → ⊥) (sym e) (λ c. w (among_numbers r (registers_written m i) c)),
+          (code_index m to, subst (λ xs. Contains (next_places m xs) (code_index m to)) (sym e) (in_targets m next o), h.1),
         ),
       )
   from_live {r} (aside {i = i} {next = next} (raises {l = l} {tries = tries} b t) live) p e =
       let to = from_handler l m.code in
-      let h = from_live live (place_of m to) (place_is m (ending_from_handler l m.code)) in (
+      let h = from_live live (code_index m to) (place_is m (ending_from_handler l m.code)) in (
         suc h.0,
         inr (
-          place_of m to,
-          subst (λ xs. Contains (raise_places m xs) (place_of m to)) (sym e)
+          code_index m to,
+          subst (λ xs. Contains (raise_places m xs) (code_index m to)) (sym e)
               (in_handlers m (may_raise i.op) (tries_at (i ∷ next)) l tries b t),
           h.1,
         ),

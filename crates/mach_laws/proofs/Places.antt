@@ -8,15 +8,15 @@ use Rattle.bs_words.specs.declared.types.Comp.TheVariants as comp
 use Rattle.bs_words.specs.declared.types.Loc.{Loc}
 use Rattle.bs_words.specs.declared.types.Loc.TheVariants as loc
 use Rattle.mach_ir.specs.Acts.{Landing, AtLabel, AtHandler}
-use Rattle.mach_ir.specs.Formed.{IsFormed, WellFormed, HasPlace, place_below, HasHandler, handler_below}
+use Rattle.mach_ir.specs.Formed.{IsFormedInstruction, WellFormed, LabelOccursIn, place_below, HasHandler, handler_below}
 use Rattle.mach_ir.specs.Meaning.{has_label, is_handler_of, after_label, from_handler, at_handler, landing_code, tries_at, tries_past}
 use Rattle.mach_ir.specs.declared.mach.Mark.TheVariants as mark
 use Rattle.mach_ir.specs.declared.mach.MachOp.{MachOp}
 use Rattle.mach_ir.specs.declared.mach.MachOp.TheVariants as mach
 use Rattle.mach_ir.specs.declared.mach.Instr.{Instr}
 use Rattle.mach_ir.specs.declared.mach.Mach.{Mach}
-use Rattle.mach_ir.specs.Walks.{Stands, here, below, InCode, in_args, further, in_results}
-use Rattle.mach_ir.specs.Places.{is_open, same_comp}
+use Rattle.mach_ir.specs.Walks.{StandsAsInstr, here, below, InCode, in_args, further, in_results}
+use Rattle.mach_ir.specs.Places.{is_unset_location, same_comp}
 use Rattle.mach_ir.specs.Placed.{is_straight, AreStraight}
 use Rattle.mach_ir.specs.declared.reg.Reg.{Reg}
 use Rattle.bs_words.proofs.Lists.{none_in, first_in, later_in, in_cons}
@@ -138,43 +138,43 @@ ending_short all = omega arith
 ending_short (more e) = let le = ending_short e in omega (arith, le)
 
 -- a code that another ends with is in it
-pub stands_of : {i : Instr} {next code : List Instr} → Ending (i ∷ next) code → Stands i next code
+pub stands_of : {i : Instr} {next code : List Instr} → Ending (i ∷ next) code → StandsAsInstr i next code
 stands_of all = here
 stands_of (more e) = below (stands_of e)
 
-pub ending_of : {i : Instr} {next code : List Instr} → Stands i next code → Ending (i ∷ next) code
+pub ending_of : {i : Instr} {next code : List Instr} → StandsAsInstr i next code → Ending (i ∷ next) code
 ending_of here = all
 ending_of (below s) = more (ending_of s)
 
-pub shorter : {i : Instr} {next code : List Instr} → Stands i next code → length next < length code
+pub shorter : {i : Instr} {next code : List Instr} → StandsAsInstr i next code → length next < length code
 shorter here = omega arith
 shorter (below s) = let lt = shorter s in omega (arith, lt)
 
-pub stands_behind : (run : List Instr) (i : Instr) (next : List Instr) → Stands i next (run ++ i ∷ next)
+pub stands_behind : (run : List Instr) (i : Instr) (next : List Instr) → StandsAsInstr i next (run ++ i ∷ next)
 stands_behind [] i next = here
 stands_behind (x ∷ run) i next = below (stands_behind run i next)
 
-pub stands_within : {i j : Instr} {next rest code : List Instr} → Stands j rest code → Stands i next rest → Stands i next code
+pub stands_within : {i j : Instr} {next rest code : List Instr} → StandsAsInstr j rest code → StandsAsInstr i next rest → StandsAsInstr i next code
 stands_within here s = below s
 stands_within (below t) s = below (stands_within t s)
 
-pub contains_of : {i : Instr} {next code : List Instr} → Stands i next code → Contains code i
+pub contains_of : {i : Instr} {next code : List Instr} → StandsAsInstr i next code → Contains code i
 contains_of {i} {next = next} here = first_in i next
 contains_of {i} (below {j = j} {is = xs} s) = later_in j i xs (contains_of s)
 
 -- where a function is formed, each of its instructions is
-pub form_of : {m : Mach} {i : Instr} {next : List Instr} → WellFormed m → Ending (i ∷ next) m.code → IsFormed i
-form_of {m} {i} formed e = All-contains IsFormed m.code i formed.instrs (contains_of (stands_of e))
+pub form_of : {m : Mach} {i : Instr} {next : List Instr} → WellFormed m → Ending (i ∷ next) m.code → IsFormedInstruction i
+form_of {m} {i} formed e = All-contains IsFormedInstruction m.code i formed.instrs (contains_of (stands_of e))
 
-pub stands_in : (code : List Instr) (i : Instr) → Contains code i → (next : List Instr) × Stands i next code
+pub stands_in : (code : List Instr) (i : Instr) → Contains code i → (next : List Instr) × StandsAsInstr i next code
 stands_in [] i c = absurd (none_in i c)
 stands_in (j ∷ is) i c =
-    ⊎_elim (λ e. (is, subst (λ (i : Instr). Stands i is (j ∷ is)) e here)) (λ d. let s = stands_in is i d in (s.0, below s.1))
+    ⊎_elim (λ e. (is, subst (λ (i : Instr). StandsAsInstr i is (j ∷ is)) e here)) (λ d. let s = stands_in is i d in (s.0, below s.1))
     (in_cons j i is c)
 
 -- ---- what is after other code
 
-pub place_behind : {l : ℕ} (xs ys : List Instr) → HasPlace l ys → HasPlace l (xs ++ ys)
+pub place_behind : {l : ℕ} (xs ys : List Instr) → LabelOccursIn l ys → LabelOccursIn l (xs ++ ys)
 place_behind [] ys h = h
 place_behind (x ∷ xs) ys h = place_below (place_behind xs ys h)
 
@@ -196,11 +196,11 @@ straight_cons = All-cons (λ (i : Instr). is_straight i.op ≡ true)
 pub straight_none : AreStraight []
 straight_none = All-nil (λ (i : Instr). is_straight i.op ≡ true)
 
-pub args_in : {i : Instr} {next code : List Instr} {r : Reg} → Stands i next code → Contains i.args r → InCode r code
+pub args_in : {i : Instr} {next code : List Instr} {r : Reg} → StandsAsInstr i next code → Contains i.args r → InCode r code
 args_in here c = in_args c
 args_in (below s) c = further (args_in s c)
 
-pub results_in : {i : Instr} {next code : List Instr} {r : Reg} → Stands i next code → Contains i.results r → InCode r code
+pub results_in : {i : Instr} {next code : List Instr} {r : Reg} → StandsAsInstr i next code → Contains i.results r → InCode r code
 results_in here c = in_results c
 results_in (below s) c = further (results_in s c)
 
@@ -218,7 +218,7 @@ results_in_code (j ∷ is) i r c d =
     (λ h. further (results_in_code is i r h d)) (in_cons j i is c)
 
 -- an open place is no machine register and no slot
-pub is_unset : (l : Loc) → is_open l ≡ true → l ≡ loc.Unset
+pub is_unset : (l : Loc) → is_unset_location l ≡ true → l ≡ loc.Unset
 is_unset loc.Unset e = refl
 is_unset (loc.Machine n) e = absurd (true≢false (sym e))
 is_unset (loc.Slot n) e = absurd (true≢false (sym e))

@@ -11,11 +11,11 @@ use Rattle.bs_words.specs.Memory.{Memory}
 use Rattle.cmm_meaning.specs.Setting.{Setting}
 use Rattle.cmm_meaning.specs.State.{Doing, Gave, Threw, Callee, Inside}
 use Rattle.mach_ir.specs.Acts as acts
-use Rattle.mach_ir.specs.Acts.{Around, Target, At, Landing, Act, Goes, Pushes, Jumps, Unwinds, Asks, Replaces, Ends, EndsRaising, Stuck, only_if}
+use Rattle.mach_ir.specs.Acts.{Around, Target, At, Landing, Act, Goes, Pushes, Jumps, Unwinds, Asks, Replaces, Ends, EndsRaising, Stuck, stuck_unless}
 use Rattle.mach_ir.specs.Forms.{HasForm, checks, raises, returns}
-use Rattle.mach_ir.specs.Formed.{comps, MarkHasForm, exit_form, if_form, else_form, switch_form, case_form, catch_form, with_form, try_form, leave_form, end_form, IsFormed, formed_op, formed_mark}
+use Rattle.mach_ir.specs.Formed.{comps, MarkHasForm, exit_form, if_form, else_form, switch_form, case_form, catch_form, with_form, try_form, leave_form, end_form, IsFormedInstruction, formed_op, formed_mark}
 use Rattle.mach_ir.specs.Meaning.{Nothing, destroyed_by, killed_by, mach_act}
-use Rattle.mach_ir.specs.Walks.{Among, OneOf, other, targets, next_if, may_raise, Writes}
+use Rattle.mach_ir.specs.Walks.{AmongRegisters, OneOf, other, targets, next_if, may_raise, Writes}
 use Rattle.mach_ir.specs.declared.op.Callee as declared
 use Rattle.mach_ir.specs.declared.op.Callee.TheVariants as callee
 use Rattle.mach_ir.specs.declared.op.Calling.{Calling}
@@ -76,7 +76,7 @@ never_told f r o act stuck_in = told_stuck
 -- ---- calls
 
 module _ (Silent : Type 0) where
-  if_told : (b : Bool) (act : Act) → Told Silent act → Told Silent (only_if b act)
+  if_told : (b : Bool) (act : Act) → Told Silent act → Told Silent (stuck_unless b act)
   if_told true act t = t
   if_told false act t = told_stuck
 
@@ -89,12 +89,12 @@ module _ (Silent : Type 0) where
   own_told v a (l ∷ tries) = told_jump (inr is_raised)
 
   answer_told : (end : ℕ) (result : Ret) (v : Option Value) (go : Option Value → Act) →
-      ((v : Option Value) → Told Silent (go v)) → Told Silent (acts.answered end result v go)
+      ((v : Option Value) → Told Silent (go v)) → Told Silent (acts.call_answered end result v go)
   answer_told end ret.Unit v go w = w None
   answer_told end (ret.Comp t) (Some v) go w = if_told _ _ (w (Some v))
   answer_told end (ret.Comp t) None go w = told_stuck
 
-  after_told : (c : Setting) (result : Ret) (a : Around) (d : Doing) → Told Silent (acts.after_call c result a d)
+  after_told : (c : Setting) (result : Ret) (a : Around) (d : Doing) → Told Silent (acts.act_after_call c result a d)
   after_told c result a (Gave v m) = answer_told c.end result v _ (λ v. told_go)
   after_told c result a (Threw v m) = if_told _ _ (callee_told v m a a.tries)
 
@@ -123,7 +123,7 @@ module _ (Silent : Type 0) where
 
   calling_told : (c : Setting) (f : Calling) (vs : List Value) (a : Around) → Told Silent (acts.calling_act c f vs a)
   calling_told c (calling.Call whom result) vs a =
-      whom_told c a (λ f xs. Asks f xs (acts.after_call c result a)) (λ f xs. told_ask (after_told c result a)) whom vs
+      whom_told c a (λ f xs. Asks f xs (acts.act_after_call c result a)) (λ f xs. told_ask (after_told c result a)) whom vs
   calling_told c (calling.TailCall whom result) vs a =
       whom_told c a (λ f xs. Replaces f xs result) (λ f xs. told_replace) whom vs
   calling_told c (calling.External row frame) vs a =
@@ -194,9 +194,9 @@ module _ (m : Mach) where
 
   silent_of : (f : MachOp) (args results : List Reg) → destroyed_by f ≡ Nothing → comps results ≡ [] →
       IsSilent (record { op = f; args = args; results = results })
-  silent_of f args [] d e = λ n a. none n (subst (λ d. Among n (killed_by m.colours d [])) d a)
+  silent_of f args [] d e = λ n a. none n (subst (λ d. AmongRegisters n (killed_by m.colours d [])) d a)
     where
-      none : (n : ℕ) → Among n [] → ⊥
+      none : (n : ℕ) → AmongRegisters n [] → ⊥
       none n a = elim a [ ]
   silent_of f args (r ∷ rs) d e = absurd (some r.comp (comps rs) e)
     where
@@ -219,7 +219,7 @@ module _ (m : Mach) where
   mark_silent f args results h (plain none d) l o =
       silent_of (mach.Mark f) args results d (none (comps args) (comps results) h)
 
-  pub told : {i : Instr} → IsFormed i → (c : Setting) (vs : List Value) (x : Around) →
+  pub told : {i : Instr} → IsFormedInstruction i → (c : Setting) (vs : List Value) (x : Around) →
       Told (IsSilent i) (mach_act c i.op vs x)
   told (formed_op {f = op.Pure f} h) c vs x =
       never_told (mach.Op (op.Pure f)) false≢true (no_label_next true) (mach_act c (mach.Op (op.Pure f)) vs x)
@@ -234,12 +234,12 @@ module _ (m : Mach) where
   told (formed_mark {f = f} {args = args} {results = results} h) c vs x = mark_told f args results h (which f) c vs x
 
   -- what leads to a label writes nothing
-  pub label_silent : {i : Instr} → IsFormed i → (l : ℕ) → OneOf (At l) (targets i.op) → IsSilent i
-  label_silent (formed_op {f = f} h) l o = absurd (no_label_next (acts.goes_on f) l o)
+  pub label_silent : {i : Instr} → IsFormedInstruction i → (l : ℕ) → OneOf (At l) (targets i.op) → IsSilent i
+  label_silent (formed_op {f = f} h) l o = absurd (no_label_next (acts.falls_through f) l o)
   label_silent (formed_mark {f = f} {args = args} {results = results} h) l o = mark_silent f args results h (which f) l o
 
   -- nor does a try
-  pub try_silent : {i : Instr} → IsFormed i → IsTry i.op → IsSilent i
+  pub try_silent : {i : Instr} → IsFormedInstruction i → IsTry i.op → IsSilent i
   try_silent (formed_op h) t = elim t [ ]
   try_silent (formed_mark {args = args} {results = results} h) (is_try {l = l}) =
       silent_of (mach.Mark (mark.Try l)) args results refl (none_try l (comps args) (comps results) h)

@@ -3,9 +3,9 @@ use Rattle.std.proofs.Common.{◌≡◌, ℕ, zero, suc, ◌<◌, List, [], ◌�
 use Rattle.cmm_meaning.specs.State.{Doing, Asked}
 use Rattle.bs_words.specs.declared.types.Ret.{Ret}
 use Rattle.mach_ir.specs.Acts.{Around}
-use Rattle.mach_ir.specs.Runs.{Place, Step, Continues, Pays, Deepens, Waits, FinishesBy, Finishes, FinishesRaising, IsStuck, Tally, Run, Running, Asking, Ended, Wrong, paid, came_back, kept_of, handed, onward}
-use Rattle.mach_ir.specs.Meaning.{State, step, run}
-use Rattle.mach_ir.specs.Keeps.{ValsWritten, OriginsAgree, wrote_unless, wrote_at, just_written, Proper, Alike, SuitRound, both_running, both_asking, both_ended, Comes}
+use Rattle.mach_ir.specs.Runs.{ActivationSetting, Step, Continues, Pays, Deepens, Waits, FinishesBy, Finishes, FinishesRaising, IsStuck, Tally, RunProgress, Running, Asking, Ended, Wrong, paid, came_back, kept_of, handed, run_onward}
+use Rattle.mach_ir.specs.Meaning.{State, step, run_of_mach}
+use Rattle.mach_ir.specs.Keeps.{ValsWritten, OriginsAgree, wrote_unless, wrote_at, just_written, Proper, RunsAlike, SuitRound, both_running, both_asking, both_ended, Comes}
 use Rattle.mach_ir.specs.declared.reg.Reg.{Reg}
 use Rattle.mach_ir.specs.declared.mach.Mach.{Mach}
 use Rattle.mach_laws.proofs.Runs.{none_below, running_same, alike_goes}
@@ -28,17 +28,17 @@ ArrivesWell m ws IsStuck = Unit {0}
 -- ---- runs that are nowhere stuck, step by step
 
 -- what is asked of the states of a run, but that it goes: `at k` is the run after k steps
-record Fine (m : Mach) (n : ℕ) (at : ℕ → Run State) : Type 0 where
+record Fine (m : Mach) (n : ℕ) (at : ℕ → RunProgress State) : Type 0 where
   vals : (k : ℕ) → k < n → (u : State) (y : Tally) → at k ≡ Running u y → ValsWritten m u
   origins : (k : ℕ) → k < n → (u v : State) (y z : Tally) → at k ≡ Running u y → at (suc k) ≡ Running v z →
       OriginsAgree m (just_written m u v) v
 
 -- and where it begins with a step by an instruction that writes these registers
-record FineFrom (m : Mach) (n : ℕ) (ws : List Reg) (at : ℕ → Run State) : Type 0 where
+record FineFrom (m : Mach) (n : ℕ) (ws : List Reg) (at : ℕ → RunProgress State) : Type 0 where
   first : (v : State) (z : Tally) → at 0 ≡ Running v z → Agrees m ws v
   fine : Fine m n at
 
-nowhere : (m : Mach) (at : ℕ → Run State) → Fine m 0 at
+nowhere : (m : Mach) (at : ℕ → RunProgress State) → Fine m 0 at
 nowhere m at =
     record { vals = λ k le u y e. none_below k le; origins = λ k le u v y z e h. none_below k le }
 
@@ -48,7 +48,7 @@ not_asking call t v z e = cc
 not_ended : (d : Doing) (t : Tally) (v : State) (z : Tally) → Ended d t ≡ Running v z → ⊥
 not_ended d t v z e = cc
 
-module _ (c : Place) (p q : Mach) (Suit : Around → Around → Type 0) (R : State → State → Type 0) where
+module _ (c : ActivationSetting) (p q : Mach) (Suit : Around → Around → Type 0) (R : State → State → Type 0) where
   -- What the second function comes to, where the first does this step by an instruction that writes these registers, and
   -- the second has just done this step by one that writes those. The second may go on alone.
   pub data Arrives (ws : List Reg) : List Reg → Step State → Step State → Type 0 where
@@ -81,47 +81,47 @@ module _ (c : Place) (p q : Mach) (Suit : Around → Around → Type 0) (R : Sta
 
   -- ---- what is shown of it
 
-  record Tells (r : Run State) (at : ℕ → Run State) : Type 0 where
+  record Tells (r : RunProgress State) (at : ℕ → RunProgress State) : Type 0 where
     count : ℕ
-    alike : Alike (SuitRound Suit) r (at count)
+    alike : RunsAlike (SuitRound Suit) r (at count)
     fine : Fine q count at
 
-  record TellsFrom (r : Run State) (xs : List Reg) (at : ℕ → Run State) : Type 0 where
+  record TellsFrom (r : RunProgress State) (xs : List Reg) (at : ℕ → RunProgress State) : Type 0 where
     count : ℕ
-    alike : Alike (SuitRound Suit) r (at count)
+    alike : RunsAlike (SuitRound Suit) r (at count)
     fine : FineFrom q count xs at
 
   module _ (closed : Closed) where
-    abbrev From : Mach → Step State → Tally → ℕ → Run State
-    From m x y = λ k. onward (run c m k) x y
+    abbrev From : Mach → Step State → Tally → ℕ → RunProgress State
+    From m x y = λ k. run_onward (run_of_mach c m k) x y
 
     abbrev Whole : ℕ → Type 0
-    Whole n = (s t : State) (y : Tally) → R s t → Fine p n (λ k. run c p k s y) → (run c p n s y ≡ Wrong → ⊥) →
-        Tells (run c p n s y) (λ k. run c q k t y)
+    Whole n = (s t : State) (y : Tally) → R s t → Fine p n (λ k. run_of_mach c p k s y) → (run_of_mach c p n s y ≡ Wrong → ⊥) →
+        Tells (run_of_mach c p n s y) (λ k. run_of_mach c q k t y)
 
     -- where the second goes on from a state, and that state comes first
-    stepped : {r : Run State} {t : State} {y : Tally} → ValsWritten q t →
-        TellsFrom r (wrote_at q t.rest) (From q (step c q t) y) → Tells r (λ k. run c q k t y)
+    stepped : {r : RunProgress State} {t : State} {y : Tally} → ValsWritten q t →
+        TellsFrom r (wrote_at q t.rest) (From q (step c q t) y) → Tells r (λ k. run_of_mach c q k t y)
     stepped {r} {t} {y} written b =
         record { count = suc b.count; alike = b.alike; fine = record { vals = vals_by; origins = origins_by } }
       where
-        vals_by : (k : ℕ) → k < suc b.count → (u : State) (z : Tally) → run c q k t y ≡ Running u z → ValsWritten q u
+        vals_by : (k : ℕ) → k < suc b.count → (u : State) (z : Tally) → run_of_mach c q k t y ≡ Running u z → ValsWritten q u
         vals_by zero le u z e = subst (ValsWritten q) (running_same t u y z e) written
         vals_by (suc k) le u z e = ((b.fine).fine).vals k (omega (arith, le)) u z e
 
-        first_by : (u v : State) (z w : Tally) → t ≡ u → onward (run c q 0) (step c q t) y ≡ Running v w →
+        first_by : (u v : State) (z w : Tally) → t ≡ u → run_onward (run_of_mach c q 0) (step c q t) y ≡ Running v w →
             OriginsAgree q (just_written q u v) v
         first_by u v z w e h =
             subst (λ (x : State). OriginsAgree q (just_written q x v) v) e ((b.fine).first v w h)
 
-        origins_by : (k : ℕ) → k < suc b.count → (u v : State) (z w : Tally) → run c q k t y ≡ Running u z →
-            run c q (suc k) t y ≡ Running v w → OriginsAgree q (just_written q u v) v
+        origins_by : (k : ℕ) → k < suc b.count → (u v : State) (z w : Tally) → run_of_mach c q k t y ≡ Running u z →
+            run_of_mach c q (suc k) t y ≡ Running v w → OriginsAgree q (just_written q u v) v
         origins_by zero le u v z w e h = first_by u v z w (running_same t u y z e) h
         origins_by (suc k) le u v z w e h = ((b.fine).fine).origins k (omega (arith, le)) u v z w e h
 
     -- it comes to a state, from which this is said
-    came_to : {r : Run State} {xs : List Reg} {t : State} {y : Tally} → Agrees q xs t → Tells r (λ k. run c q k t y) →
-        TellsFrom r xs (λ k. run c q k t y)
+    came_to : {r : RunProgress State} {xs : List Reg} {t : State} {y : Tally} → Agrees q xs t → Tells r (λ k. run_of_mach c q k t y) →
+        TellsFrom r xs (λ k. run_of_mach c q k t y)
     came_to {r} {xs} {t} {y} agree b =
         record {
           count = b.count;
@@ -131,15 +131,15 @@ module _ (c : Place) (p q : Mach) (Suit : Around → Around → Type 0) (R : Sta
 
     abbrev Answered : ℕ → List Reg → List Reg → Step State → Step State → Type 0
     Answered n ws xs x w =
-        (y : Tally) → FineFrom p n ws (From p x y) → (onward (run c p n) x y ≡ Wrong → ⊥) →
-        TellsFrom (onward (run c p n) x y) xs (From q w y)
+        (y : Tally) → FineFrom p n ws (From p x y) → (run_onward (run_of_mach c p n) x y ≡ Wrong → ⊥) →
+        TellsFrom (run_onward (run_of_mach c p n) x y) xs (From q w y)
 
     handed_told : (n : ℕ) (ws xs : List Reg) (call : Asked) (next go : Doing → Step State) →
         ((d : Doing) → Answered n ws xs (next d) (go d)) → (ds : List Doing) (y : Tally) →
-        FineFrom p n ws (λ k. handed (λ d y. onward (run c p k) (next d) y) call ds y) →
-        (handed (λ d y. onward (run c p n) (next d) y) call ds y ≡ Wrong → ⊥) →
-        TellsFrom (handed (λ d y. onward (run c p n) (next d) y) call ds y) xs
-        (λ k. handed (λ d y. onward (run c q k) (go d) y) call ds y)
+        FineFrom p n ws (λ k. handed (λ d y. run_onward (run_of_mach c p k) (next d) y) call ds y) →
+        (handed (λ d y. run_onward (run_of_mach c p n) (next d) y) call ds y ≡ Wrong → ⊥) →
+        TellsFrom (handed (λ d y. run_onward (run_of_mach c p n) (next d) y) call ds y) xs
+        (λ k. handed (λ d y. run_onward (run_of_mach c q k) (go d) y) call ds y)
     handed_told n ws xs call next go told [] y fine goes =
         record {
           count = 0;
@@ -196,15 +196,15 @@ module _ (c : Place) (p q : Mach) (Suit : Around → Around → Type 0) (R : Sta
         (stepped written (answered n ih ws (wrote_at q t.rest) x (step c q t) a y fine goes))
 
     replied : (n : ℕ) → Whole n → (ws : List Reg) (t : State) (x : Step State) → Answers ws t x → (y : Tally) →
-        FineFrom p n ws (From p x y) → (onward (run c p n) x y ≡ Wrong → ⊥) →
-        Tells (onward (run c p n) x y) (λ k. run c q k t y)
+        FineFrom p n ws (From p x y) → (run_onward (run_of_mach c p n) x y ≡ Wrong → ⊥) →
+        Tells (run_onward (run_of_mach c p n) x y) (λ k. run_of_mach c q k t y)
     replied n ih ws t x (stays {s = s} f) y fine goes = ih s t y (f (fine.first s y refl)) fine.fine goes
     replied n ih ws t x stuck y fine goes = absurd (goes refl)
     replied n ih ws t x (steps written a) y fine goes =
         stepped written (answered n ih ws (wrote_at q t.rest) x (step c q t) a y fine goes)
 
     -- after the first step of a run
-    rest_fine : {n : ℕ} (s : State) (y : Tally) → Fine p (suc n) (λ k. run c p k s y) →
+    rest_fine : {n : ℕ} (s : State) (y : Tally) → Fine p (suc n) (λ k. run_of_mach c p k s y) →
         FineFrom p n (wrote_at p s.rest) (From p (step c p s) y)
     rest_fine s y fine =
         record {
@@ -223,7 +223,7 @@ module _ (c : Place) (p q : Mach) (Suit : Around → Around → Type 0) (R : Sta
         (closed.next s t r (fine.vals 0 (omega arith) s y refl)) y (rest_fine s y fine) goes
 
     -- Related states report the same.
-    pub simulates : (n : ℕ) (s t : State) (y : Tally) → R s t → Proper c p n s y → Comes Suit (run c p n s y) c q t y
+    pub simulates : (n : ℕ) (s t : State) (y : Tally) → R s t → Proper c p n s y → Comes Suit (run_of_mach c p n s y) c q t y
     simulates n s t y r proper =
         let b = whole n s t y r (record { vals = proper.vals; origins = proper.origins }) proper.goes in
         record {

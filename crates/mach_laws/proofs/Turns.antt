@@ -15,7 +15,7 @@ use Rattle.cmm_meaning.specs.Evaluation.{bound_error}
 use Rattle.cmm_meaning.specs.State.{Doing, Gave, Threw, Callee, Inside}
 use Rattle.cmm_meaning.specs.Setting.{Setting}
 use Rattle.mach_ir.specs.Acts as acts
-use Rattle.mach_ir.specs.Acts.{drop_tries, Around, Target, On, At, AtLabel, AtHandler, Act, Goes, Pushes, Jumps, Unwinds, Asks, Replaces, Ends, EndsRaising, Stuck, only_if}
+use Rattle.mach_ir.specs.Acts.{drop_tries, Around, Target, On, At, AtLabel, AtHandler, Act, Goes, Pushes, Jumps, Unwinds, Asks, Replaces, Ends, EndsRaising, Stuck, stuck_unless}
 use Rattle.mach_ir.specs.Meaning.{mark_act, mach_act}
 use Rattle.mach_ir.specs.Walks.{OneOf, this, other, next_if, targets, may_raise}
 use Rattle.mach_ir.specs.declared.op.Right.TheVariants as right
@@ -79,10 +79,10 @@ record Plain (f : MachOp) : Type 0 where
   tries : (ts : List ℕ) → tries_on f ts ≡ ts
   raised : (v : Option Value) → raised_on f v ≡ v
 
-plain : (f : Op) → OneOf On (next_if (acts.goes_on f)) → Plain (mach.Op f)
+plain : (f : Op) → OneOf On (next_if (acts.falls_through f)) → Plain (mach.Op f)
 plain f o = record { to = o; tries = λ ts. refl; raised = λ v. refl }
 
-only_in : {ts : List ℕ} {rv : Option Value} (f : MachOp) (b : Bool) (act : Act) → Turns f ts rv act → Turns f ts rv (only_if b act)
+only_in : {ts : List ℕ} {rv : Option Value} (f : MachOp) (b : Bool) (act : Act) → Turns f ts rv act → Turns f ts rv (stuck_unless b act)
 only_in f true act w = w
 only_in f false act w = stuck_in
 
@@ -188,13 +188,13 @@ raised_in f r v a [] = raising_in
 raised_in f r v a (l ∷ tries) = jumps_in r refl
 
 answered_in : {ts : List ℕ} {rv : Option Value} (f : MachOp) (end : ℕ) (result : Ret) (v : Option Value) (go : Option Value → Act) →
-    ((v : Option Value) → Turns f ts rv (go v)) → Turns f ts rv (acts.answered end result v go)
+    ((v : Option Value) → Turns f ts rv (go v)) → Turns f ts rv (acts.call_answered end result v go)
 answered_in f end ret.Unit v go w = w None
 answered_in f end (ret.Comp t) (Some v) go w = only_in f _ _ (w (Some v))
 answered_in f end (ret.Comp t) None go w = stuck_in
 
 call_in : (f : MachOp) → may_raise f ≡ true → (c : Setting) (result : Ret) (a : Around) → Plain f →
-    (d : Doing) → Turns f a.tries a.raised (acts.after_call c result a d)
+    (d : Doing) → Turns f a.tries a.raised (acts.act_after_call c result a d)
 call_in f r c result a o (Gave v m) = answered_in f c.end result v _ (λ v. goes_in o.to (sym (o.tries _)) (sym (o.raised _)))
 call_in f r c result a o (Threw v m) = only_in f _ _ (thrown_in f r v m a a.tries)
 
@@ -225,7 +225,7 @@ calling_in : (c : Setting) (f : Calling) (vs : List Value) (a : Around) →
     Turns (mach.Op (op.Calling f)) a.tries a.raised (acts.calling_act c f vs a)
 calling_in c (calling.Call whom result) vs a =
     callee_in (mach.Op (op.Calling (calling.Call whom result))) c a
-    (λ f xs. Asks f xs (acts.after_call c result a))
+    (λ f xs. Asks f xs (acts.act_after_call c result a))
     (λ f xs. asks_in (call_in (mach.Op (op.Calling (calling.Call whom result))) refl c result a (plain _ this))) whom vs
 calling_in c (calling.TailCall whom result) vs a =
     callee_in (mach.Op (op.Calling (calling.TailCall whom result))) c a (λ f xs. Replaces f xs result)
@@ -236,7 +236,7 @@ calling_in c (calling.External row frame) vs a =
 
 -- ---- leaving
 
-raises_in : (f : MachOp) → may_raise f ≡ true → (c : Setting) (v : Value) (a : Around) → Turns f a.tries a.raised (acts.raises c v a)
+raises_in : (f : MachOp) → may_raise f ≡ true → (c : Setting) (v : Value) (a : Around) → Turns f a.tries a.raised (acts.raise_act c v a)
 raises_in f r c v a = only_in f _ _ (raised_in f r v a a.tries)
 
 checked_in : (f : MachOp) → may_raise f ≡ true → Plain f → (c : Setting) (x y : Result ℕ Kind) (a : Around) →
@@ -266,7 +266,7 @@ leaving_in c leaving.Return (v ∷ w ∷ vs) a = stuck_in
 -- ---- marks
 
 branches_in : (t : Test) (l : ℕ) (a : Around) (o : Option Bool) →
-    Turns (mach.Mark (mark.If t l)) a.tries a.raised (acts.branches a On (At l) o)
+    Turns (mach.Mark (mark.If t l)) a.tries a.raised (acts.goes_by_test a On (At l) o)
 branches_in t l a (Some true) = goes_in this refl refl
 branches_in t l a (Some false) = goes_in (other this) refl refl
 branches_in t l a None = stuck_in

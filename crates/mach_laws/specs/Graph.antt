@@ -3,7 +3,7 @@ use Rattle.std.specs.Prelude.{◌≡◌, ℕ, suc, ◌-◌, Bool, true, false, L
 use Rattle.bs_words.specs.Contents.{contents}
 use Rattle.dataflow.specs.Flow.{Graph, graph}
 use Rattle.dataflow.specs.declared.flow.Flow.{Flow}
-use Rattle.mach_ir.specs.Meaning.{code_at, from_handler, tries_at, written}
+use Rattle.mach_ir.specs.Meaning.{code_at, from_handler, tries_at, registers_written}
 use Rattle.mach_ir.specs.Walks.{targets, may_raise}
 use Rattle.mach_ir.specs.declared.reg.Reg.{Reg}
 use Rattle.mach_ir.specs.declared.mach.Instr.{Instr}
@@ -11,22 +11,22 @@ use Rattle.mach_ir.specs.declared.mach.Mach.{Mach}
 
 -- The number of the place from which this code is left. Places are numbered from 0 in the order of
 -- the text; the last one is after the last instruction.
-abbrev pub place_of : Mach → List Instr → ℕ
-place_of m rest = length m.code - length rest
+abbrev pub code_index : Mach → List Instr → ℕ
+code_index m rest = length m.code - length rest
 
-abbrev pub numbers : List Reg → List ℕ
-numbers rs = map (λ (r : Reg). r.number) rs
+abbrev pub numbers_of_registers : List Reg → List ℕ
+numbers_of_registers rs = map (λ (r : Reg). r.number) rs
 
 -- the handler's place, where a raise leads to it
 abbrev pub handler_places : Mach → Bool → List ℕ → List ℕ
 handler_places m false tries = []
 handler_places m true [] = []
-handler_places m true (l ∷ tries) = place_of m (from_handler l m.code) ∷ []
+handler_places m true (l ∷ tries) = code_index m (from_handler l m.code) ∷ []
 
 -- where control may go from here on
 abbrev pub next_places : Mach → List Instr → List ℕ
 next_places m [] = []
-next_places m (i ∷ next) = map (λ t. place_of m (code_at m.code next t)) (targets i.op)
+next_places m (i ∷ next) = map (λ t. code_index m (code_at m.code next t)) (targets i.op)
 
 -- where a raise leads, which passes no write
 abbrev pub raise_places : Mach → List Instr → List ℕ
@@ -35,11 +35,11 @@ raise_places m (i ∷ next) = handler_places m (may_raise i.op) (tries_at (i ∷
 
 abbrev pub numbers_read : List Instr → List ℕ
 numbers_read [] = []
-numbers_read (i ∷ next) = numbers i.args
+numbers_read (i ∷ next) = numbers_of_registers i.args
 
 abbrev pub numbers_written : Mach → List Instr → List ℕ
 numbers_written m [] = []
-numbers_written m (i ∷ next) = numbers (written m i)
+numbers_written m (i ∷ next) = numbers_of_registers (registers_written m i)
 
 abbrev pub flow_graph : Mach → Graph
 flow_graph m =

@@ -4,7 +4,7 @@ use Rattle.std.specs.List.{All, Contains}
 use Rattle.std.specs.Prelude.{slice_index_or}
 use Rattle.std.proofs.lemmas.List.{length-append}
 use Rattle.std.proofs.lemmas.List.Elements.{Contains-get_or, All-contains}
-use Rattle.combine_rules.specs.Combined.{joins, bytes_past, open_past, Scanned, allocated, scanned_at, scan, combined}
+use Rattle.combine_rules.specs.Combined.{joins, bytes_past, open_past, Scanned, allocation_scanned, scanned_at, scan_for_combining, combined}
 use Rattle.combine_rules.proofs.Formed.{tries_scan}
 use Rattle.combine_rules.proofs.Registers.{Came, stays, opens, came}
 use Rattle.combine_rules.proofs.Sizes.{register_before}
@@ -19,7 +19,7 @@ use Rattle.mach_ir.specs.declared.mach.Mach.{Mach}
 use Rattle.mach_ir.specs.declared.mach.MachOp.{MachOp}
 use Rattle.mach_ir.specs.declared.mach.MachOp.TheVariants as mach
 use Rattle.pass_rules.specs.Carried.{TriesAtMost, OffsetFits, EndsInReturn, at_return, further, IsCarried}
-use Rattle.pass_rules.specs.Measures.{code_words, code_points, exits, other_operands}
+use Rattle.pass_rules.specs.Measures.{code_words, code_points, exit_count, other_operands}
 use Rattle.pass_rules.proofs.Words.{exits_both}
 use Rattle.mach_laws.proofs.Instructions.{instr}
 use Rattle.mach_laws.proofs.Places.{contains_of, stands_in}
@@ -31,9 +31,9 @@ record NoMore (is : List Instr) (s : Scanned) : Type 0 where
   words : code_words s.code + 16 * length s.results ≤ code_words is
   points : code_points s.code ≤ code_points is
   operands : other_operands s.code + length s.results ≤ other_operands is
-  exits : exits s.code ≤ exits is
+  exits : exit_count s.code ≤ exit_count is
 
-no_more : (held : Option ℕ) (is : List Instr) → NoMore is (scan held is)
+no_more : (held : Option ℕ) (is : List Instr) → NoMore is (scan_for_combining held is)
 no_more held [] = record { words = omega arith; points = omega arith; operands = omega arith; exits = omega arith }
 no_more held (i ∷ is) = by i.op i.args i.results (λ o. no_more o is)
   where
@@ -46,11 +46,11 @@ no_more held (i ∷ is) = by i.op i.args i.results (λ o. no_more o is)
           words = omega (arith, a);
           points = omega (arith, b);
           operands = omega (arith, c);
-          exits = exits_both (is_exit i.op) (exits s.code) (exits is) h.exits;
+          exits = exits_both (is_exit i.op) (exit_count s.code) (exit_count is) h.exits;
         }
 
     by_joins : (b : Bool) (blocks : List NewBlock) (args results : List Reg) (s : Scanned) → NoMore is s →
-        NoMore (instr (mach.Op (op.Access (access.Alloc blocks))) args results ∷ is) (allocated b blocks results s)
+        NoMore (instr (mach.Op (op.Access (access.Alloc blocks))) args results ∷ is) (allocation_scanned b blocks results s)
     by_joins true blocks args results s h =
         let a = h.words in
         let b = h.points in
@@ -64,35 +64,35 @@ no_more held (i ∷ is) = by i.op i.args i.results (λ o. no_more o is)
         let e = length-append results s.results in
         record { words = omega (arith, a, e); points = omega (arith, b); operands = omega (arith, c, e); exits = h.exits }
 
-    by : (f : MachOp) (args results : List Reg) → ((o : Option ℕ) → NoMore is (scan o is)) →
-        NoMore (instr f args results ∷ is) (scanned_at held (instr f args results) f (scan (open_past held f) is))
-    by (mach.Op (op.Pure f)) args results ih = kept (instr (mach.Op (op.Pure f)) args results) (scan held is) (ih held)
+    by : (f : MachOp) (args results : List Reg) → ((o : Option ℕ) → NoMore is (scan_for_combining o is)) →
+        NoMore (instr f args results ∷ is) (scanned_at held (instr f args results) f (scan_for_combining (open_past held f) is))
+    by (mach.Op (op.Pure f)) args results ih = kept (instr (mach.Op (op.Pure f)) args results) (scan_for_combining held is) (ih held)
     by (mach.Op (op.Access (access.Load k offset))) args results ih =
-        kept (instr (mach.Op (op.Access (access.Load k offset))) args results) (scan held is) (ih held)
+        kept (instr (mach.Op (op.Access (access.Load k offset))) args results) (scan_for_combining held is) (ih held)
     by (mach.Op (op.Access (access.Store k offset))) args results ih =
-        kept (instr (mach.Op (op.Access (access.Store k offset))) args results) (scan held is) (ih held)
+        kept (instr (mach.Op (op.Access (access.Store k offset))) args results) (scan_for_combining held is) (ih held)
     by (mach.Op (op.Access (access.Alloc blocks))) args results ih =
-        by_joins (joins held blocks) blocks args results (scan (Some (bytes_past held blocks)) is) (ih (Some (bytes_past held blocks)))
-    by (mach.Op (op.Calling f)) args results ih = kept (instr (mach.Op (op.Calling f)) args results) (scan None is) (ih None)
-    by (mach.Op (op.Leaving f)) args results ih = kept (instr (mach.Op (op.Leaving f)) args results) (scan None is) (ih None)
-    by (mach.Mark f) args results ih = kept (instr (mach.Mark f) args results) (scan None is) (ih None)
+        by_joins (joins held blocks) blocks args results (scan_for_combining (Some (bytes_past held blocks)) is) (ih (Some (bytes_past held blocks)))
+    by (mach.Op (op.Calling f)) args results ih = kept (instr (mach.Op (op.Calling f)) args results) (scan_for_combining None is) (ih None)
+    by (mach.Op (op.Leaving f)) args results ih = kept (instr (mach.Op (op.Leaving f)) args results) (scan_for_combining None is) (ih None)
+    by (mach.Mark f) args results ih = kept (instr (mach.Mark f) args results) (scan_for_combining None is) (ih None)
 
 -- ---- the end
 
-still_ends : (held : Option ℕ) {code : List Instr} → EndsInReturn code → EndsInReturn (scan held code).code
+still_ends : (held : Option ℕ) {code : List Instr} → EndsInReturn code → EndsInReturn (scan_for_combining held code).code
 still_ends held at_return = at_return
 still_ends held (further {i = i} {is = is} e) = by i.op (λ o. still_ends o e)
   where
-    by_joins : (b : Bool) (blocks : List NewBlock) (s : Scanned) → EndsInReturn s.code → EndsInReturn (allocated b blocks i.results s).code
+    by_joins : (b : Bool) (blocks : List NewBlock) (s : Scanned) → EndsInReturn s.code → EndsInReturn (allocation_scanned b blocks i.results s).code
     by_joins true blocks s h = h
     by_joins false blocks s h = further h
 
-    by : (f : MachOp) → ((o : Option ℕ) → EndsInReturn (scan o is).code) → EndsInReturn (scanned_at held i f (scan (open_past held f) is)).code
+    by : (f : MachOp) → ((o : Option ℕ) → EndsInReturn (scan_for_combining o is).code) → EndsInReturn (scanned_at held i f (scan_for_combining (open_past held f) is)).code
     by (mach.Op (op.Pure f)) ih = further (ih held)
     by (mach.Op (op.Access (access.Load k offset))) ih = further (ih held)
     by (mach.Op (op.Access (access.Store k offset))) ih = further (ih held)
     by (mach.Op (op.Access (access.Alloc blocks))) ih =
-        by_joins (joins held blocks) blocks (scan (Some (bytes_past held blocks)) is) (ih (Some (bytes_past held blocks)))
+        by_joins (joins held blocks) blocks (scan_for_combining (Some (bytes_past held blocks)) is) (ih (Some (bytes_past held blocks)))
     by (mach.Op (op.Calling f)) ih = further (ih None)
     by (mach.Op (op.Leaving f)) ih = further (ih None)
     by (mach.Mark f) ih = further (ih None)

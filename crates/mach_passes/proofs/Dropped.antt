@@ -3,9 +3,9 @@ use Rattle.std.proofs.Common.{ℕ, suc, ◌≤◌, Bool, true, false, cond, List
 use Rattle.std.specs.List.{Contains}
 use Rattle.std.specs.Prelude.{slice_index_or}
 use Rattle.std.proofs.lemmas.List.Elements.{Contains-get_or, All-contains}
-use Rattle.dead_rules.specs.Dropped.{without, dropped, AreDead, IsDropped}
+use Rattle.dead_rules.specs.Dropped.{unless_dropped, dropped, AreDead, IsDropped}
 use Rattle.pass_rules.specs.Carried.{OffsetFits, IsCarried}
-use Rattle.pass_rules.specs.Measures.{code_words, code_points, exits, other_operands}
+use Rattle.pass_rules.specs.Measures.{code_words, code_points, exit_count, other_operands}
 use Rattle.dead_rules.proofs.Left.{was_main, still_ends, tries_here, contains_back}
 use Rattle.dead_rules.proofs.Live.{was_register}
 use Rattle.dead_rules.proofs.Text.{Fate, falls, remains, fate}
@@ -24,7 +24,7 @@ module _ (m : Mach) (drops : ℕ → Bool) (dead : AreDead m drops) where
   q = dropped drops m
 
   abbrev f : ℕ → Instr → List Instr
-  f = without drops
+  f = unless_dropped drops
 
   -- ---- measures
 
@@ -59,17 +59,17 @@ module _ (m : Mach) (drops : ℕ → Bool) (dead : AreDead m drops) where
       by (remains k s h) le =
           let e = ap other_operands h in omega (arith, e, le)
 
-  fewer_exits : (code : List Instr) → exits (expand f code) ≤ exits code
+  fewer_exits : (code : List Instr) → exit_count (expand f code) ≤ exit_count code
   fewer_exits [] = omega arith
   fewer_exits (i ∷ is) = by (fate drops i is) (fewer_exits is)
     where
-      by : Fate drops i is → exits (expand f is) ≤ exits is → exits (expand f (i ∷ is)) ≤ exits (i ∷ is)
+      by : Fate drops i is → exit_count (expand f is) ≤ exit_count is → exit_count (expand f (i ∷ is)) ≤ exit_count (i ∷ is)
       by (falls g d s h) le =
-          let e = ap exits h in
-          let more = exits_later (is_exit i.op) (exits is) in omega (arith, e, le, more)
+          let e = ap exit_count h in
+          let more = exits_later (is_exit i.op) (exit_count is) in omega (arith, e, le, more)
       by (remains k s h) le =
-          let e = ap exits h in
-          let both = exits_both (is_exit i.op) (exits (expand f is)) (exits is) le in omega (arith, e, both)
+          let e = ap exit_count h in
+          let both = exits_both (is_exit i.op) (exit_count (expand f is)) (exit_count is) le in omega (arith, e, both)
 
   -- ---- the rest
 

@@ -3,11 +3,11 @@ use Rattle.std.proofs.Common.{◌≡◌, ◌+◌, cond, List, [], ◌∷◌, len
 use Rattle.std.proofs.lemmas.List.{length-map}
 use Rattle.std.specs.List.{Contains}
 use Rattle.copy_rules.proofs.Form.{Fits, fits, same_ops}
-use Rattle.copy_rules.specs.Kept.{IsKept}
-use Rattle.copy_rules.specs.Propagated.{again, IsPropagated}
+use Rattle.copy_rules.specs.Kept.{IsCopyKept}
+use Rattle.copy_rules.specs.Propagated.{instr_with_sources, IsPropagated}
 use Rattle.linear_rules.specs.Lowered.{same_spot}
 use Rattle.pass_rules.specs.Carried.{IsCarried}
-use Rattle.pass_rules.specs.Measures.{copy_words, words_with, operands_with}
+use Rattle.pass_rules.specs.Measures.{copy_words, words_for_instr, operands_with}
 use Rattle.mach_ir.specs.Walks.{IsRegister}
 use Rattle.mach_ir.specs.declared.op.Op.TheVariants as op
 use Rattle.mach_ir.specs.declared.op.Pure.TheVariants as pure
@@ -34,7 +34,7 @@ same_spots p (r ∷ []) (q ∷ k ∷ results) h = refl
 same_spots p (r ∷ s ∷ args) results h = refl
 
 same_words : (g : MachOp) (p : Reg → Reg) (args results : List Reg) → ((r : Reg) → Contains args r → Fits r (p r)) →
-    words_with g (map p args) results ≡ words_with g args results
+    words_for_instr g (map p args) results ≡ words_for_instr g args results
 same_words (mach.Op (op.Pure (pure.Copy kind))) p args results h = ap (λ b. cond b 0 copy_words) (same_spots p args results h)
 same_words (mach.Op (op.Pure (pure.Operator f r))) p args results h = refl
 same_words (mach.Op (op.Pure (pure.Constant w))) p args results h = refl
@@ -69,9 +69,9 @@ replaces {i} p h =
     }
 
 -- Propagating copies carries.
-pub propagated_carried : {m q : Mach} → IsKept m q → IsPropagated m q → IsCarried 0 m q
+pub propagated_carried : {m q : Mach} → IsCopyKept m q → IsPropagated m q → IsCarried 0 m q
 propagated_carried {m} {q} kept s =
     subst (IsCarried 0 m) (sym s.is)
-    (replaced_carried (again s.plan) m (λ i next at. replaces (s.plan (length next)) (fits m s.plan s.reads i next at))
-    (tries_same (again s.plan) (same_ops s.plan))
+    (replaced_carried (instr_with_sources s.plan) m (λ i next at. replaces (s.plan (length next)) (fits m s.plan s.reads i next at))
+    (tries_same (instr_with_sources s.plan) (same_ops s.plan))
     (λ low r k c i u. low r k c (kept.registers k (subst (λ (x : Mach). IsRegister x k) (sym s.is) i)) u))

@@ -2,7 +2,7 @@
 use Rattle.std.proofs.Common.{◌≡◌, ℕ, ◌≤◌, true, false, List, [], ◌∷◌, length, Option, Some, refl, sym, subst, arith}
 use Rattle.linear_rules.specs.Lowered.{same_spot}
 use Rattle.pass_rules.specs.Carried.{IsCarried}
-use Rattle.pass_rules.specs.Measures.{copy_words, words_with}
+use Rattle.pass_rules.specs.Measures.{copy_words, words_for_instr}
 use Rattle.mach_ir.specs.Formed.{is_exit}
 use Rattle.mach_ir.specs.Walks.{IsRegister}
 use Rattle.mach_ir.specs.declared.op.Leaving.TheVariants as leaving
@@ -14,15 +14,15 @@ use Rattle.mach_ir.specs.declared.mach.Mach.{Mach}
 use Rattle.mach_ir.specs.declared.mach.MachOp.{MachOp}
 use Rattle.mach_ir.specs.declared.mach.MachOp.TheVariants as mach
 use Rattle.pass_rules.proofs.Words.{at_most_copy}
-use Rattle.repeat_rules.specs.Kept.{IsKept}
-use Rattle.repeat_rules.specs.Repeated.{is_operator, again, from_earlier, IsRepeated}
+use Rattle.repeat_rules.specs.Kept.{IsRepeatKept}
+use Rattle.repeat_rules.specs.Repeated.{is_operator, instr_with_earlier, from_earlier, IsRepeated}
 use Rattle.repeat_rules.proofs.Form.{Fate, unchanged, moved, fate, same_ops}
 use Rattle.mach_laws.proofs.InPlace.{tries_same}
 use Rattle.mach_passes.proofs.Replaced.{Replaces, replaced_carried}
 
 -- ---- an operator and a move
 
-operator_words : (g : MachOp) (args results : List Reg) → is_operator g ≡ true → copy_words ≤ words_with g args results
+operator_words : (g : MachOp) (args results : List Reg) → is_operator g ≡ true → copy_words ≤ words_for_instr g args results
 operator_words (mach.Op (op.Pure (pure.Operator f r))) args results e = omega arith
 operator_words (mach.Op (op.Pure (pure.Copy kind))) args results e = cc
 operator_words (mach.Op (op.Pure (pure.Constant w))) args results e = cc
@@ -63,16 +63,16 @@ replaces_operator i r e = record {
   returns = λ h. absurd (operator_returns i.op e h);
 }
 
-replaces : (plan : ℕ → Option Reg) (k : ℕ) (i : Instr) → Replaces i (again plan k i)
+replaces : (plan : ℕ → Option Reg) (k : ℕ) (i : Instr) → Replaces i (instr_with_earlier plan k i)
 replaces plan k i = by (fate plan k i)
   where
-    by : Fate plan k i → Replaces i (again plan k i)
+    by : Fate plan k i → Replaces i (instr_with_earlier plan k i)
     by (unchanged e s) = subst (Replaces i) (sym e) (replaces_itself i)
     by (moved r g s e) = subst (Replaces i) (sym e) (replaces_operator i r g)
 
 -- Turning repeats into moves carries.
-pub repeated_carried : {m q : Mach} → IsKept m q → IsRepeated m q → IsCarried 0 m q
+pub repeated_carried : {m q : Mach} → IsRepeatKept m q → IsRepeated m q → IsCarried 0 m q
 repeated_carried {m} {q} kept s =
     subst (IsCarried 0 m) (sym s.is)
-    (replaced_carried (again s.plan) m (λ i next at. replaces s.plan (length next) i) (tries_same (again s.plan) (same_ops s.plan))
+    (replaced_carried (instr_with_earlier s.plan) m (λ i next at. replaces s.plan (length next) i) (tries_same (instr_with_earlier s.plan) (same_ops s.plan))
     (λ low r k c i u. low r k c (kept.registers k (subst (λ (x : Mach). IsRegister x k) (sym s.is) i)) u))

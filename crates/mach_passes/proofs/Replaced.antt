@@ -4,7 +4,7 @@ use Rattle.std.proofs.Common.{◌≡◌, ℕ, ◌≤◌, cond, List, [], ◌∷�
 use Rattle.std.proofs.lemmas.List.Elements.{All-contains}
 use Rattle.mach_ir.specs.Formed.{is_exit}
 use Rattle.mach_ir.specs.Meaning.{passes_frame, tries_at}
-use Rattle.mach_ir.specs.Walks.{Stands, here, below}
+use Rattle.mach_ir.specs.Walks.{StandsAsInstr, here, below}
 use Rattle.mach_ir.specs.declared.op.Leaving.TheVariants as leaving
 use Rattle.mach_ir.specs.declared.op.Op.TheVariants as op
 use Rattle.mach_ir.specs.declared.mach.Instr.{Instr}
@@ -12,7 +12,7 @@ use Rattle.mach_ir.specs.declared.mach.Mach.{Mach}
 use Rattle.mach_ir.specs.declared.mach.MachOp.TheVariants as mach
 use Rattle.mach_laws.specs.Expand.{expand}
 use Rattle.pass_rules.specs.Carried.{OffsetFits, EndsInReturn, at_return, further, IsCarried}
-use Rattle.pass_rules.specs.Measures.{instr_words, code_words, code_points, one_if, exits, operands_with, other_operands}
+use Rattle.pass_rules.specs.Measures.{instr_words, code_words, code_points, one_if_true, exit_count, operands_with, other_operands}
 use Rattle.pass_rules.proofs.Words.{exits_both}
 use Rattle.pass_rules.proofs.Carried.{returns_alone}
 use Rattle.places_rules.specs.Places.{ColoursLow}
@@ -22,7 +22,7 @@ use Rattle.mach_laws.proofs.Places.{contains_of}
 -- what the instruction in the place of another owes
 pub record Replaces (i j : Instr) : Type 0 where
   pub words : instr_words j ≤ instr_words i
-  pub points : one_if (passes_frame j.op) ≤ one_if (passes_frame i.op)
+  pub points : one_if_true (passes_frame j.op) ≤ one_if_true (passes_frame i.op)
   pub operands : operands_with j.op j.args j.results ≤ operands_with i.op i.args i.results
   pub exit : is_exit j.op ≡ is_exit i.op
   pub fits : OffsetFits i.op → OffsetFits j.op
@@ -30,7 +30,7 @@ pub record Replaces (i j : Instr) : Type 0 where
 
 module _ (again : ℕ → Instr → Instr) where
   abbrev pub AllReplaced : List Instr → Type 0
-  AllReplaced code = (i : Instr) (next : List Instr) → Stands i next code → Replaces i (again (length next) i)
+  AllReplaced code = (i : Instr) (next : List Instr) → StandsAsInstr i next code → Replaces i (again (length next) i)
 
   abbrev f : ℕ → Instr → List Instr
   f = one_each again
@@ -50,11 +50,11 @@ module _ (again : ℕ → Instr → Instr) where
   fewer_operands [] all = omega arith
   fewer_operands (i ∷ is) all = let one = (all i is here).operands in let rest = fewer_operands is (later all) in omega (arith, one, rest)
 
-  fewer_exits : (code : List Instr) → AllReplaced code → exits (expand f code) ≤ exits code
+  fewer_exits : (code : List Instr) → AllReplaced code → exit_count (expand f code) ≤ exit_count code
   fewer_exits [] all = omega arith
   fewer_exits (i ∷ is) all =
-      subst (λ b. cond b (suc (exits (expand f is))) (exits (expand f is)) ≤ exits (i ∷ is)) (sym (all i is here).exit)
-      (exits_both (is_exit i.op) (exits (expand f is)) (exits is) (fewer_exits is (later all)))
+      subst (λ b. cond b (suc (exit_count (expand f is))) (exit_count (expand f is)) ≤ exit_count (i ∷ is)) (sym (all i is here).exit)
+      (exits_both (is_exit i.op) (exit_count (expand f is)) (exit_count is) (fewer_exits is (later all)))
 
   still_ends : {code : List Instr} → AllReplaced code → EndsInReturn code → EndsInReturn (expand f code)
   still_ends all (at_return {args = args} {results = results}) =

@@ -1,6 +1,6 @@
 -- There are numbers for all that the passes before register allocation make.
 use Rattle.std.proofs.Common.{ℕ, length, sym, ap, subst, arith}
-use Rattle.mach_ir.specs.Sizes.{Size, IsSmall, HasRoom, IsCountable}
+use Rattle.mach_ir.specs.Sizes.{Size, IsSmallSize, HasRoom, IsCountable}
 use Rattle.mach_ir.specs.declared.mach.Mach.{Mach}
 use Rattle.mach_passes.specs.Prepared.{IsPreparable, prepared_size}
 use Rattle.pass_rules.proofs.Room.{small_within, room_within}
@@ -15,11 +15,11 @@ room_after : {more : ℕ} {grown : Size → Size} {m q : Mach} (wider : Size →
 room_after {grown = grown} wider stage room =
     record { size = grown room.size; within = stage.size room.size room.within; small = room.small }
 
-small_at_first : (parameters : ℕ) (s : Size) → IsSmall (prepared_size parameters s) → IsSmall s
+small_at_first : (parameters : ℕ) (s : Size) → IsSmallSize (prepared_size parameters s) → IsSmallSize s
 small_at_first parameters s =
     small_within s (prepared_size parameters s) (omega arith) (omega arith) (omega arith) (omega arith)
 
-small_with_slots : (parameters : ℕ) (s : Size) → IsSmall (prepared_size parameters s) → IsSmall (spilled_size (sunk_size s))
+small_with_slots : (parameters : ℕ) (s : Size) → IsSmallSize (prepared_size parameters s) → IsSmallSize (spilled_size (sunk_size s))
 small_with_slots parameters s =
     small_within (spilled_size (sunk_size s)) (prepared_size parameters s) (omega arith) (omega arith) (omega arith) (omega arith)
 

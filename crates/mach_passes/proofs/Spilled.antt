@@ -6,11 +6,11 @@ use Rattle.std.proofs.lemmas.List.Elements.{Contains-get_or, All-contains}
 use Rattle.std.proofs.Math.Nat.{le_of_eq, zero-add}
 use Rattle.linear_rules.specs.Lowered.{same_spot}
 use Rattle.pass_rules.specs.Carried.{OffsetFits, EndsInReturn, at_return, further, IsCarried}
-use Rattle.pass_rules.specs.Measures.{copy_words, instr_words, code_words, one_if, code_points, exits, operands_with, other_operands}
-use Rattle.mach_ir.specs.Formed.{is_exit, IsFormed, WellFormed}
+use Rattle.pass_rules.specs.Measures.{copy_words, instr_words, code_words, one_if_true, code_points, exit_count, operands_with, other_operands}
+use Rattle.mach_ir.specs.Formed.{is_exit, IsFormedInstruction, WellFormed}
 use Rattle.mach_ir.specs.Meaning.{passes_frame, tries_at, tries_past}
 use Rattle.mach_ir.specs.Sizes.{operand_count}
-use Rattle.mach_ir.specs.Walks.{Stands, here, below}
+use Rattle.mach_ir.specs.Walks.{StandsAsInstr, here, below}
 use Rattle.mach_ir.specs.declared.op.CopyKind.{CopyKind}
 use Rattle.mach_ir.specs.declared.op.CopyKind.TheVariants as copy
 use Rattle.mach_ir.specs.declared.op.Leaving.TheVariants as leaving
@@ -27,7 +27,7 @@ use Rattle.pass_rules.proofs.Carried.{ends_second}
 use Rattle.places_rules.proofs.Open.{slot_open}
 use Rattle.places_rules.specs.Places.{ColoursLow}
 use Rattle.spill_rules.specs.Chosen.{IsSpilled, IsNeededSlot, IsChosenKept}
-use Rattle.spill_rules.specs.Spilled.{Plan, in_slot, copied, reload, spill, reloads_of, spills_of, operands_of, results_of, spilled_instr, spilled}
+use Rattle.spill_rules.specs.Spilled.{SpillPlan, in_slot, copy_instruction, reload, spill, reloads_of, spills_of, operand_registers, written_results, spilled_instr, spilled}
 use Rattle.spill_rules.proofs.Formed.{IsCopy, is_reload, is_spill, IsMain, was_main}
 use Rattle.spill_rules.proofs.Text.{keeps_marks}
 
@@ -35,9 +35,9 @@ use Rattle.spill_rules.proofs.Text.{keeps_marks}
 
 data AreCopies : List Instr → Type 0 where
   no_copy : AreCopies []
-  a_copy : (kind : CopyKind) (from to : Reg) {xs : List Instr} → AreCopies xs → AreCopies (copied kind from to ∷ xs)
+  a_copy : (kind : CopyKind) (from to : Reg) {xs : List Instr} → AreCopies xs → AreCopies (copy_instruction kind from to ∷ xs)
 
-copy_most : (kind : CopyKind) (from to : Reg) → instr_words (copied kind from to) ≤ 6
+copy_most : (kind : CopyKind) (from to : Reg) → instr_words (copy_instruction kind from to) ≤ 6
 copy_most kind from to = at_most_copy (same_spot (from ∷ []) (to ∷ []))
 
 one_copy : (a b c n : ℕ) → a ≤ 6 → b ≤ 6 * n + c → a + b ≤ 6 * suc n + c
@@ -49,7 +49,7 @@ no_copies c = omega arith
 words_copies : {xs : List Instr} → AreCopies xs → (zs : List Instr) → code_words (xs ++ zs) ≤ 6 * length xs + code_words zs
 words_copies no_copy zs = no_copies (code_words zs)
 words_copies (a_copy kind from to {xs = xs} h) zs =
-    one_copy (instr_words (copied kind from to)) (code_words (xs ++ zs)) (code_words zs) (length xs) (copy_most kind from to)
+    one_copy (instr_words (copy_instruction kind from to)) (code_words (xs ++ zs)) (code_words zs) (length xs) (copy_most kind from to)
     (words_copies h zs)
 
 points_copies : {xs : List Instr} → AreCopies xs → (zs : List Instr) → code_points (xs ++ zs) ≡ code_points zs
@@ -60,7 +60,7 @@ operands_copies : {xs : List Instr} → AreCopies xs → (zs : List Instr) → o
 operands_copies no_copy zs = refl
 operands_copies (a_copy kind from to {xs = xs} h) zs = zero-add (other_operands (xs ++ zs)) ∙ operands_copies h zs
 
-exits_copies : {xs : List Instr} → AreCopies xs → (zs : List Instr) → exits (xs ++ zs) ≡ exits zs
+exits_copies : {xs : List Instr} → AreCopies xs → (zs : List Instr) → exit_count (xs ++ zs) ≡ exit_count zs
 exits_copies no_copy zs = refl
 exits_copies (a_copy kind from to h) zs = exits_copies h zs
 
@@ -68,24 +68,24 @@ tries_copies : {xs : List Instr} → AreCopies xs → (zs : List Instr) → trie
 tries_copies no_copy zs = refl
 tries_copies (a_copy kind from to h) zs = tries_copies h zs
 
-stands_head : {i j : Instr} {next zs : List Instr} → Stands i next (j ∷ zs) → ((i ≡ j) × (next ≡ zs)) ⊎ Stands i next zs
+stands_head : {i j : Instr} {next zs : List Instr} → StandsAsInstr i next (j ∷ zs) → ((i ≡ j) × (next ≡ zs)) ⊎ StandsAsInstr i next zs
 stands_head here = inl (refl, refl)
 stands_head (below s) = inr s
 
 -- A copy has the tries round it that come after.
-stands_copies : {xs : List Instr} → AreCopies xs → (i : Instr) (next zs : List Instr) → Stands i next (xs ++ zs) →
-    (tries_at (i ∷ next) ≡ tries_at zs) ⊎ Stands i next zs
+stands_copies : {xs : List Instr} → AreCopies xs → (i : Instr) (next zs : List Instr) → StandsAsInstr i next (xs ++ zs) →
+    (tries_at (i ∷ next) ≡ tries_at zs) ⊎ StandsAsInstr i next zs
 stands_copies no_copy i next zs s = inr s
 stands_copies (a_copy kind from to {xs = xs} h) i next zs s =
     ⊎_elim
     (λ e.
     inl
-    (ap (λ (i : Instr). tries_at (i ∷ next)) e.0 ∙ ap (λ ys. tries_at (copied kind from to ∷ ys)) e.1 ∙ tries_copies h zs))
+    (ap (λ (i : Instr). tries_at (i ∷ next)) e.0 ∙ ap (λ ys. tries_at (copy_instruction kind from to ∷ ys)) e.1 ∙ tries_copies h zs))
     (λ d. stands_copies h i next zs d) (stands_head s)
 
 -- ---- a return has no results
 
-module _ (plan : Plan) where
+module _ (plan : SpillPlan) where
   abbrev f : ℕ → Instr → List Instr
   f = spilled_instr plan
 
@@ -106,16 +106,16 @@ module _ (plan : Plan) where
       by false h = h
 
   abbrev before : ℕ → Instr → List Instr
-  before k i = reloads_of plan k (operands_of i)
+  before k i = reloads_of plan k (operand_registers i)
 
   abbrev after : ℕ → Instr → List Instr
-  after k i = spills_of plan k (results_of i)
+  after k i = spills_of plan k (written_results i)
 
   are_before : (k : ℕ) (i : Instr) → AreCopies (before k i)
-  are_before k i = reloads_copies k (operands_of i)
+  are_before k i = reloads_copies k (operand_registers i)
 
   are_after : (k : ℕ) (i : Instr) → AreCopies (after k i)
-  are_after k i = spills_copies k (results_of i)
+  are_after k i = spills_copies k (written_results i)
 
   -- the code of an instruction before other code
   laid_out : (k : ℕ) (i : Instr) (zs : List Instr) → f k i ++ zs ≡ before k i ++ (i ∷ (after k i ++ zs))
@@ -145,7 +145,7 @@ module _ (plan : Plan) where
   same_points (i ∷ is) =
       ap code_points (laid_out (length is) i (expand f is))
       ∙ points_copies (are_before (length is) i) (i ∷ (after (length is) i ++ expand f is))
-      ∙ ap (λ n. one_if (passes_frame i.op) + n) (points_copies (are_after (length is) i) (expand f is) ∙ same_points is)
+      ∙ ap (λ n. one_if_true (passes_frame i.op) + n) (points_copies (are_after (length is) i) (expand f is) ∙ same_points is)
 
   same_operands : (code : List Instr) → other_operands (expand f code) ≡ other_operands code
   same_operands [] = refl
@@ -154,10 +154,10 @@ module _ (plan : Plan) where
       ∙ operands_copies (are_before (length is) i) (i ∷ (after (length is) i ++ expand f is))
       ∙ ap (λ n. operands_with i.op i.args i.results + n) (operands_copies (are_after (length is) i) (expand f is) ∙ same_operands is)
 
-  same_exits : (code : List Instr) → exits (expand f code) ≡ exits code
+  same_exits : (code : List Instr) → exit_count (expand f code) ≡ exit_count code
   same_exits [] = refl
   same_exits (i ∷ is) =
-      ap exits (laid_out (length is) i (expand f is))
+      ap exit_count (laid_out (length is) i (expand f is))
       ∙ exits_copies (are_before (length is) i) (i ∷ (after (length is) i ++ expand f is))
       ∙ ap (λ n. cond (is_exit i.op) (suc n) n) (exits_copies (are_after (length is) i) (expand f is) ∙ same_exits is)
 
@@ -165,7 +165,7 @@ module _ (plan : Plan) where
 
   module _ (most : ℕ) where
     abbrev AtMost : List Instr → Type 0
-    AtMost code = (i : Instr) (next : List Instr) → Stands i next code → length (tries_at (i ∷ next)) ≤ most
+    AtMost code = (i : Instr) (next : List Instr) → StandsAsInstr i next code → length (tries_at (i ∷ next)) ≤ most
 
     fits : (xs ys : List Instr) → tries_at xs ≡ tries_at ys → length (tries_at ys) ≤ most → length (tries_at xs) ≤ most
     fits xs ys e le = subst (λ ts. length ts ≤ most) (sym e) le
@@ -178,7 +178,7 @@ module _ (plan : Plan) where
     still_at_most [] h j ys s = elim s [ ]
     still_at_most (i ∷ is) h j ys s =
         ⊎_elim (λ e. fits (j ∷ ys) (i ∷ own) e own_fits) (λ d. at_own d (λ z. still_at_most is (λ x next t. h x next (below t)) j ys z))
-        (stands_copies (are_before (length is) i) j ys (i ∷ own) (subst (Stands j ys) (laid_out (length is) i (expand f is)) s))
+        (stands_copies (are_before (length is) i) j ys (i ∷ own) (subst (StandsAsInstr j ys) (laid_out (length is) i (expand f is)) s))
       where
         own : List Instr
         own = after (length is) i ++ expand f is
@@ -191,7 +191,7 @@ module _ (plan : Plan) where
         after_fits : length (tries_at (expand f is)) ≤ most
         after_fits = fits (expand f is) is (tries_expand f (keeps_marks plan) is) (rest_fits is (λ x next t. h x next (below t)))
 
-        at_own : Stands j ys (i ∷ own) → (Stands j ys (expand f is) → length (tries_at (j ∷ ys)) ≤ most) → length (tries_at (j ∷ ys)) ≤ most
+        at_own : StandsAsInstr j ys (i ∷ own) → (StandsAsInstr j ys (expand f is) → length (tries_at (j ∷ ys)) ≤ most) → length (tries_at (j ∷ ys)) ≤ most
         at_own d ih =
             ⊎_elim
             (λ e. fits (j ∷ ys) (i ∷ own) (ap (λ (x : Instr). tries_at (x ∷ ys)) e.0 ∙ ap (λ zs. tries_at (i ∷ zs)) e.1) own_fits)
@@ -226,7 +226,7 @@ module _ (plan : Plan) where
       some : (r : Reg) (rs : List Reg) → r ∷ rs ≡ [] → ⊥
       some r rs e = cc
 
-  still_ends : {code : List Instr} → ((i : Instr) (next : List Instr) → Stands i next code → IsFormed i) → EndsInReturn code →
+  still_ends : {code : List Instr} → ((i : Instr) (next : List Instr) → StandsAsInstr i next code → IsFormedInstruction i) → EndsInReturn code →
       EndsInReturn (expand f code)
   still_ends formed (at_return {args = args} {results = results}) =
       let i : Instr = record { op = mach.Op (op.Leaving leaving.Return); args = args; results = results } in
@@ -236,14 +236,14 @@ module _ (plan : Plan) where
 
 -- ---- numbers of colours
 
-still_low : (m q : Mach) {plan : Plan} → q.colours ≡ m.colours → IsChosenKept m q plan → ColoursLow m → ColoursLow q
+still_low : (m q : Mach) {plan : SpillPlan} → q.colours ≡ m.colours → IsChosenKept m q plan → ColoursLow m → ColoursLow q
 still_low m q same kept low r k c i u =
     ⊎_elim (λ was. low r k (subst (λ rs. Contains rs r) same c) was u) (λ slot. absurd (at_slot slot)) (kept.slots k i)
   where
     at_slot : IsNeededSlot m k → ⊥
     at_slot slot = slot_open slot.stands u
 
-planned_carried : (m : Mach) (plan : Plan) → WellFormed m → IsChosenKept m (spilled plan m) plan →
+planned_carried : (m : Mach) (plan : SpillPlan) → WellFormed m → IsChosenKept m (spilled plan m) plan →
     IsCarried (copy_words * operand_count m.code) m (spilled plan m)
 planned_carried m plan formed kept =
     record {
@@ -253,7 +253,7 @@ planned_carried m plan formed kept =
       exits = le_of_eq (same_exits plan m.code);
       tries = λ most h. still_at_most plan most m.code h;
       offsets = offsets plan m.code;
-      ends = still_ends plan (λ i next s. All-contains IsFormed m.code i formed.instrs (contains_of s));
+      ends = still_ends plan (λ i next s. All-contains IsFormedInstruction m.code i formed.instrs (contains_of s));
       colours_low = still_low m (spilled plan m) refl kept;
     }
 

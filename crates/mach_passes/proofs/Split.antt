@@ -7,11 +7,11 @@ use Rattle.std.proofs.lemmas.List.{length-map}
 use Rattle.bs_words.specs.declared.types.Loc.TheVariants as loc
 use Rattle.linear_rules.specs.Lowered.{same_spot}
 use Rattle.pass_rules.specs.Carried.{IsCarried}
-use Rattle.pass_rules.specs.Measures.{copy_words, mark_words, words_with, operands_with}
+use Rattle.pass_rules.specs.Measures.{copy_words, mark_words, words_for_instr, operands_with}
 use Rattle.mach_ir.specs.Formed.{WellFormed}
 use Rattle.mach_ir.specs.Meaning.{killed, tries_at}
 use Rattle.mach_ir.specs.Placed.{WellPlaced}
-use Rattle.mach_ir.specs.Walks.{InCode, in_args, in_results, further, IsRegister, is_param, is_colour, is_in_code, Stands, here, below}
+use Rattle.mach_ir.specs.Walks.{InCode, in_args, in_results, further, IsRegister, is_param, is_colour, is_in_code, StandsAsInstr, here, below}
 use Rattle.mach_ir.specs.declared.op.Op.TheVariants as op
 use Rattle.mach_ir.specs.declared.op.Pure.TheVariants as pure
 use Rattle.mach_ir.specs.declared.reg.Reg.{Reg}
@@ -26,9 +26,9 @@ use Rattle.places_rules.proofs.Lists.{was}
 use Rattle.places_rules.specs.Places.{ColoursLow}
 use Rattle.mach_laws.proofs.InPlace.{one_each}
 use Rattle.split_rules.specs.Order.{IsByFirst, kept, given}
-use Rattle.split_rules.specs.Renamed.{Naming, numbered, all_numbered, renamed_instr, renamed_code, renamed}
+use Rattle.split_rules.specs.Renamed.{Naming, register_renumbered, all_numbered, renamed_instr, renamed_code, renamed}
 use Rattle.split_rules.specs.Split.{IsNaming, AreByFirst, IsSplit}
-use Rattle.split_rules.specs.Writes.{Comes, IsWrite, by_instr}
+use Rattle.split_rules.specs.Writes.{WriteReaches, IsWrite, by_instr}
 use Rattle.split_rules.proofs.Result.{comes_write}
 use Rattle.split_rules.proofs.Text.{same_tries}
 use Rattle.mach_passes.proofs.Replaced.{Replaces, replaced_carried}
@@ -45,10 +45,10 @@ module _ (names : Naming) where
   spot_same f g (r ∷ q ∷ rs) results = refl
 
   results_same : (most : ℕ) (g : ℕ → ℕ) (results : List Reg) → most + 16 * length (all_numbered g results) ≡ most + 16 * length results
-  results_same most g results = ap (λ n. most + 16 * n) (length-map results (numbered g))
+  results_same most g results = ap (λ n. most + 16 * n) (length-map results (register_renumbered g))
 
   words_same : (h : MachOp) (f g : ℕ → ℕ) (args results : List Reg) →
-      words_with h (all_numbered f args) (all_numbered g results) ≡ words_with h args results
+      words_for_instr h (all_numbered f args) (all_numbered g results) ≡ words_for_instr h args results
   words_same (mach.Op (op.Pure (pure.Copy kind))) f g args results = ap (λ b. cond b 0 copy_words) (spot_same f g args results)
   words_same (mach.Op (op.Pure (pure.Constant w))) f g args results = results_same 32 g results
   words_same (mach.Op (op.Pure (pure.Symbol name))) f g args results = results_same 32 g results
@@ -60,8 +60,8 @@ module _ (names : Naming) where
 
   both_same : (f g : ℕ → ℕ) (args results : List Reg) → length (all_numbered f args) + length (all_numbered g results) ≡ length args + length results
   both_same f g args results =
-      ap (λ n. n + length (all_numbered g results)) (length-map args (numbered f))
-      ∙ ap (λ n. length args + n) (length-map results (numbered g))
+      ap (λ n. n + length (all_numbered g results)) (length-map args (register_renumbered f))
+      ∙ ap (λ n. length args + n) (length-map results (register_renumbered g))
 
   operands_same : (h : MachOp) (f g : ℕ → ℕ) (args results : List Reg) →
       operands_with h (all_numbered f args) (all_numbered g results) ≡ operands_with h args results
@@ -106,14 +106,14 @@ module _ (m : Mach) (names : Naming) (is : IsNaming m names) (firsts : AreByFirs
   write_low b r c i u from w = by_web b.number (firsts.above b (is_colour c)) (low b r c i u) (firsts.written r i u from w).by_first
 
   -- and as an operand
-  read_low : (b r : Reg) → Contains m.colours b → r.loc ≡ loc.Unset → (i : Instr) (next : List Instr) → Stands i next m.code → Contains i.args r →
+  read_low : (b r : Reg) → Contains m.colours b → r.loc ≡ loc.Unset → (i : Instr) (next : List Instr) → StandsAsInstr i next m.code → Contains i.args r →
       b.number < names.read (length next) r.number
   read_low b r c u i next s a = by (nat_lt b.number (names.read (length next) r.number)) refl
     where
       one : IsRegister m r
       one = is_in_code (args_in s a)
 
-      none : nat_lt b.number (names.read (length next) r.number) ≡ false → (from : List Instr) → Comes m r.number from (i ∷ next) → ⊥
+      none : nat_lt b.number (names.read (length next) r.number) ≡ false → (from : List Instr) → WriteReaches m r.number from (i ∷ next) → ⊥
       none e from z =
           let lt : b.number < names.read (length next) r.number =
           subst (λ n. b.number < n) (sym (is.agree i next from r.number s (among_of r i.args a) z))
@@ -126,14 +126,14 @@ module _ (m : Mach) (names : Naming) (is : IsNaming m names) (firsts : AreByFirs
           subst (λ n. b.number < n) (sym (firsts.unwritten i next r.number s (among_of r i.args a) (none e))) (low b r c one u)
 
   low_in : (b q : Reg) → Contains m.colours b → q.loc ≡ loc.Unset → (code : List Instr) →
-      ((i : Instr) (next : List Instr) → Stands i next code → Stands i next m.code) → InCode q (renamed_code names code) → b.number < q.number
+      ((i : Instr) (next : List Instr) → StandsAsInstr i next code → StandsAsInstr i next m.code) → InCode q (renamed_code names code) → b.number < q.number
   low_in b q c u [] there d = elim d [ ]
   low_in b q c u (i ∷ is) there (in_args d) =
-      let w = was (numbered (names.read (length is))) i.args q d in
+      let w = was (register_renumbered (names.read (length is))) i.args q d in
       subst (λ (q : Reg). b.number < q.number) w.same
       (read_low b w.what c (ap (λ (r : Reg). r.loc) w.same ∙ u) i is (there i is here) w.among)
   low_in b q c u (i ∷ is) there (in_results d) =
-      let w = was (numbered (names.write (length is))) i.results q d in
+      let w = was (register_renumbered (names.write (length is))) i.results q d in
       let s = there i is here in
       subst (λ (q : Reg). b.number < q.number) w.same
       (write_low b w.what c (is_in_code (results_in s w.among)) (ap (λ (r : Reg). r.loc) w.same ∙ u) is

@@ -38,7 +38,7 @@ use Rattle.split_rules.specs.Split.{IsSplit, split_size}
 use Rattle.stages.specs.declared.stage.Stage.{Stage}
 use Rattle.stages.specs.declared.stage.Stage.TheVariants.{CombAlloc, Cse, Dead, Spill, Split}
 use Rattle.bs_words.proofs.Lists.{none_in, in_cons}
-use Rattle.mach_passes.specs.Prepared.{IsPrepared, IsPreparable, IsKept}
+use Rattle.mach_passes.specs.Prepared.{IsPreparedMach, IsPreparable, IsPreparedKept}
 use Rattle.mach_passes.specs.Stages.{IsPassedTo, selects, combines, commons, drops, spills, splits}
 use Rattle.repeat_rules.proofs.One.{one_repeated}
 use Rattle.repeat_rules.proofs.Whole.{repeated_kept}
@@ -388,7 +388,7 @@ module _ {m hoisted q : Mach} (is : IsPreparable m) (cut : IsCut m hoisted) (mad
   pub sunk_stage : IsStage (0 + copy_words * moves) sunk_size m q
   sunk_stage = stage_then cut.stage (sink_stage hoisted q cut.stage.formed cut.stage.placed no_addr_left made)
 
-  sunk : sinks.IsKept hoisted q made.plan
+  sunk : sinks.IsSinkKept hoisted q made.plan
   sunk = sinking.kept hoisted q cut.stage.formed no_addr_left made
 
   -- a move for each open register at the most
@@ -413,7 +413,7 @@ module _ {m hoisted q : Mach} (is : IsPreparable m) (cut : IsCut m hoisted) (mad
 -- ---- all of them
 
 -- a prepared function is passed to the last of these stages, and what it is made of to those before
-module _ {m q : Mach} (made : IsPrepared m q) where
+module _ {m q : Mach} (made : IsPreparedMach m q) where
   pub repeated_passed : IsPassedTo m Cse made.common_again
   repeated_passed = commons (combines refl) made.is_propagated made.is_common made.is_propagated_again made.is_common_again
 
@@ -427,7 +427,7 @@ module _ {m q : Mach} (made : IsPrepared m q) where
   passed = splits spilled_passed made.is_split
 
 -- and what is passed there is prepared
-pub prepared : {m q : Mach} → IsPassedTo m Split q → IsPrepared m q
+pub prepared : {m q : Mach} → IsPassedTo m Split q → IsPreparedMach m q
 prepared (splits {start = spilled} (spills {start = dropped} {a = hoisted} {b = sunk} (drops {start = repeated} (commons {a = a} {b = b} {c = c} (combines e) one two three four) five) six seven eight) nine) =
     record {
       propagated = a;
@@ -450,7 +450,7 @@ prepared (splits {start = spilled} (spills {start = dropped} {a = hoisted} {b = 
     }
 
 -- what is passed to the stages before spilling and before splitting
-pub hoisted_cut : {m : Mach} → IsPreparable m → (q : Mach) (made : IsPrepared m q) → IsCut m made.hoisted
+pub hoisted_cut : {m : Mach} → IsPreparable m → (q : Mach) (made : IsPreparedMach m q) → IsCut m made.hoisted
 hoisted_cut is q made =
     hoist_cut is
     (drop_cut is
@@ -459,7 +459,7 @@ hoisted_cut is q made =
     made.is_dropped)
     made.has_constants_first
 
-pub prepared_kept : (m q : Mach) → IsPreparable m → IsPrepared m q → IsKept m q
+pub prepared_kept : (m q : Mach) → IsPreparable m → IsPreparedMach m q → IsPreparedKept m q
 prepared_kept m q is made =
     let cut = hoisted_cut is q made in
     let slots = slots_stage is cut made.is_sunk made.is_spilled in
@@ -495,5 +495,5 @@ one_passed (spills x a b c) (spills y d e f) =
     one_made IsSpilled one_spilled (one_made IsSunk one_sunk (one_made HasConstantsFirst one_constants_first (one_passed x y) a d) b e) c f
 one_passed (splits x a) (splits y b) = one_made IsSplit one_split (one_passed x y) a b
 
-pub one_prepared : (m q k : Mach) → IsPrepared m q → IsPrepared m k → q ≡ k
+pub one_prepared : (m q k : Mach) → IsPreparedMach m q → IsPreparedMach m k → q ≡ k
 one_prepared m q k a b = one_passed (passed a) (passed b)

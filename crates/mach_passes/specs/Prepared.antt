@@ -22,7 +22,7 @@ use Rattle.spill_rules.specs.Chosen.{IsSpilled}
 use Rattle.split_rules.specs.Split.{IsSplit}
 
 -- Each pass in its order, with what it makes.
-pub record IsPrepared (m q : Mach) : Type 0 where
+pub record IsPreparedMach (m q : Mach) : Type 0 where
   -- allocations combined, and operands read from what they are copies of
   pub propagated : Mach
   pub is_propagated : IsPropagated (combined m) propagated
@@ -70,7 +70,7 @@ prepared_size parameters s =
     }
 
 -- What a function keeps that is prepared.
-pub record IsKept (m q : Mach) : Type 0 where
+pub record IsPreparedKept (m q : Mach) : Type 0 where
   pub keeps : Keeps m q
   pub formed : WellFormed q
   pub placed : WellPlaced q

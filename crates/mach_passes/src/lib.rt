@@ -6,14 +6,14 @@
 
 ghost use Rattle.std.specs.Prelude.{◌≡◌};
 ghost use Rattle.mach_ir.specs.declared.mach.Mach.{Mach};
-ghost use Rattle.mach_passes.specs.Prepared.{IsPreparable, IsPrepared, IsKept};
+ghost use Rattle.mach_passes.specs.Prepared.{IsPreparable, IsPreparedMach, IsPreparedKept};
 
 /// Law: what the passes make of a function is kept.
 pub fn what_is_prepared_is_kept()
-    ensures { (m q : Mach) → IsPreparable m → IsPrepared m q → IsKept m q }
+    ensures { (m q : Mach) → IsPreparable m → IsPreparedMach m q → IsPreparedKept m q }
 {}
 
 /// Law: the passes make one function of each.
 pub fn preparing_makes_one()
-    ensures { (m q k : Mach) → IsPrepared m q → IsPrepared m k → q ≡ k }
+    ensures { (m q k : Mach) → IsPreparedMach m q → IsPreparedMach m k → q ≡ k }
 {}

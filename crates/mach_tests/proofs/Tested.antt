@@ -9,21 +9,21 @@ use Rattle.mach_ir.specs.declared.reg.Reg.{Reg}
 use Rattle.mach_ir.specs.declared.mach.Instr.{Instr}
 use Rattle.mach_ir.specs.declared.mach.Mach.{Mach}
 use Rattle.bs_words.proofs.Lists.{drop_none}
-use Rattle.mach_tests.specs.Room.{wide, most, IsLow, IsShort, AreLow}
+use Rattle.mach_tests.specs.Room.{wide, most, HasLowNumbers, IsShort, AreLow}
 
 -- ---- registers
 
-code_low : (code : List Instr) → All (λ (i : Instr). All IsLow i.args) code → All (λ (i : Instr). All IsLow i.results) code → (r : Reg) →
-    InCode r code → IsLow r
+code_low : (code : List Instr) → All (λ (i : Instr). All HasLowNumbers i.args) code → All (λ (i : Instr). All HasLowNumbers i.results) code → (r : Reg) →
+    InCode r code → HasLowNumbers r
 code_low [] args results r c = elim c [ ]
-code_low (i ∷ is) args results r (in_args c) = All-contains IsLow i.args r (args 0 i (omega arith)) c
-code_low (i ∷ is) args results r (in_results c) = All-contains IsLow i.results r (results 0 i (omega arith)) c
+code_low (i ∷ is) args results r (in_args c) = All-contains HasLowNumbers i.args r (args 0 i (omega arith)) c
+code_low (i ∷ is) args results r (in_results c) = All-contains HasLowNumbers i.results r (results 0 i (omega arith)) c
 code_low (i ∷ is) args results r (further c) =
     code_low is (λ k d lt. args (suc k) d (omega (arith, lt))) (λ k d lt. results (suc k) d (omega (arith, lt))) r c
 
-all_low : (m : Mach) → AreLow m → (r : Reg) → IsRegister m r → IsLow r
-all_low m low r (is_param c) = All-contains IsLow m.params r low.params c
-all_low m low r (is_colour c) = All-contains IsLow m.colours r low.colours c
+all_low : (m : Mach) → AreLow m → (r : Reg) → IsRegister m r → HasLowNumbers r
+all_low m low r (is_param c) = All-contains HasLowNumbers m.params r low.params c
+all_low m low r (is_colour c) = All-contains HasLowNumbers m.colours r low.colours c
 all_low m low r (is_in_code c) = code_low m.code low.args low.results r c
 
 -- ---- operands, as far as they are counted

@@ -2,7 +2,7 @@
 use Rattle.std.proofs.Common.{ℕ, length, sym, ap, subst, arith}
 use Rattle.mach_ir.specs.Formed.{WellFormed}
 use Rattle.mach_ir.specs.Placed.{WellPlaced}
-use Rattle.mach_ir.specs.Sizes.{Size, IsSmall, HasRoom, IsCountable}
+use Rattle.mach_ir.specs.Sizes.{Size, IsSmallSize, HasRoom, IsCountable}
 use Rattle.mach_ir.specs.declared.mach.Mach.{Mach}
 use Rattle.pass_rules.proofs.Room.{small_within, room_within}
 use Rattle.spill_rules.proofs.Chosen.{spilled_kept}
@@ -10,14 +10,14 @@ use Rattle.spill_rules.specs.Chosen.{ParamsPlaced, IsSpilled, spilled_size}
 use Rattle.split_rules.specs.Split.{split_size}
 use Rattle.mach_tests.specs.Room.{wide}
 
-small_itself : (parameters : ℕ) (s : Size) → IsSmall (wide parameters s) → IsSmall s
+small_itself : (parameters : ℕ) (s : Size) → IsSmallSize (wide parameters s) → IsSmallSize s
 small_itself parameters s = small_within s (wide parameters s) (omega arith) (omega arith) (omega arith) (omega arith)
 
-small_spilled : (parameters : ℕ) (s : Size) → IsSmall (wide parameters s) → IsSmall (spilled_size s)
+small_spilled : (parameters : ℕ) (s : Size) → IsSmallSize (wide parameters s) → IsSmallSize (spilled_size s)
 small_spilled parameters s =
     small_within (spilled_size s) (wide parameters s) (omega arith) (omega arith) (omega arith) (omega arith)
 
-small_split : (parameters : ℕ) (s : Size) → IsSmall (wide parameters s) → IsSmall (split_size parameters s)
+small_split : (parameters : ℕ) (s : Size) → IsSmallSize (wide parameters s) → IsSmallSize (split_size parameters s)
 small_split parameters s =
     small_within (split_size parameters s) (wide parameters s) (omega arith) (omega arith) (omega arith) (omega arith)
 

@@ -21,8 +21,8 @@ wide parameters s =
 abbrev pub most : ℕ
 most = 536870912
 
-abbrev pub IsLow : Reg → Type 0
-IsLow r = (r.number < most) × (r.origin < most)
+abbrev pub HasLowNumbers : Reg → Type 0
+HasLowNumbers r = (r.number < most) × (r.origin < most)
 
 pub record IsShort (m : Mach) : Type 0 where
   pub instrs : length m.code ≤ most
@@ -30,7 +30,7 @@ pub record IsShort (m : Mach) : Type 0 where
   pub labels : m.labels ≤ most
 
 pub record AreLow (m : Mach) : Type 0 where
-  pub params : All IsLow m.params
-  pub colours : All IsLow m.colours
-  pub args : All (λ (i : Instr). All IsLow i.args) m.code
-  pub results : All (λ (i : Instr). All IsLow i.results) m.code
+  pub params : All HasLowNumbers m.params
+  pub colours : All HasLowNumbers m.colours
+  pub args : All (λ (i : Instr). All HasLowNumbers i.args) m.code
+  pub results : All (λ (i : Instr). All HasLowNumbers i.results) m.code

@@ -2,7 +2,7 @@
 ghost use Rattle.std.specs.Prelude.{◌↔◌, ◌≤◌, All, length, IsTrue};
 ghost use Rattle.mach_ir.specs.Sizes.{HasRoom, operand_count};
 ghost use Rattle.mach_ir.specs.declared.mach.Instr.{Instr};
-ghost use Rattle.mach_tests.specs.Room.{wide, most, IsLow, IsShort, AreLow};
+ghost use Rattle.mach_tests.specs.Room.{wide, most, HasLowNumbers, IsShort, AreLow};
 
 use mach_ir::{Instr, Mach, Reg};
 
@@ -11,20 +11,20 @@ use mach_ir::{Instr, Mach, Reg};
 const MOST: u32 = 536870912;
 
 fn are_low(regs: &[Reg]) -> bool
-    ensures { IsTrue result ↔ All IsLow regs.now }
+    ensures { IsTrue result ↔ All HasLowNumbers regs.now }
 {
     regs.iter()
         .all(|reg| reg.number < MOST && reg.origin < MOST)
 }
 
 fn args_are_low(code: &[Instr]) -> bool
-    ensures { IsTrue result ↔ All (λ (i : Instr). All IsLow i.args) code.now }
+    ensures { IsTrue result ↔ All (λ (i : Instr). All HasLowNumbers i.args) code.now }
 {
     code.iter().all(|instr| are_low(instr.args.as_slice()))
 }
 
 fn results_are_low(code: &[Instr]) -> bool
-    ensures { IsTrue result ↔ All (λ (i : Instr). All IsLow i.results) code.now }
+    ensures { IsTrue result ↔ All (λ (i : Instr). All HasLowNumbers i.results) code.now }
 {
     code.iter().all(|instr| are_low(instr.results.as_slice()))
 }

@@ -6,9 +6,9 @@ use Rattle.std.proofs.lemmas.List.{reverse-append}
 use Rattle.std.proofs.lemmas.List.Folds.{list_all-append}
 use Rattle.rv_machine.specs.Hart.{Placed}
 use Rattle.rv_machine.specs.Moving.{rewritten}
-use Rattle.rv_machine.specs.Placement.{are_apart, bytes_of, bytes_used, end_of, is_apart, is_in_heap, is_valid, new_places, packed, placed_at, spaced}
+use Rattle.rv_machine.specs.Placement.{are_apart, bytes_of, bytes_used, block_end, is_apart, is_in_heap, is_valid, new_places, packed, placed_at, spaced}
 use Rattle.rv_machine.specs.Places.{half_start}
-use Rattle.rv_machine.specs.Space.{HasCells, IsKept}
+use Rattle.rv_machine.specs.Space.{HasCells, IsHeapBlock}
 use Rattle.machine_laws.proofs.Chain.{AreInLine, IsChain}
 use Rattle.machine_laws.proofs.InHeap.{ends_below}
 use Rattle.machine_laws.proofs.Packing.{packed_inside}
@@ -35,15 +35,15 @@ above low at (b ∷ bs) h line =
     let e : b.start ≡ at + 8 = line.0 in
     (omega (arith, e, h), above low (at + bytes_of b) bs (omega (arith, h)) line.1)
 
-apart_above : (b : Placed) (bs : List Placed) → AllByRecursion (λ c. end_of b + 8 ≤ c.start) bs → list_all (is_apart b) bs ≡ true
+apart_above : (b : Placed) (bs : List Placed) → AllByRecursion (λ c. block_end b + 8 ≤ c.start) bs → list_all (is_apart b) bs ≡ true
 apart_above b [] all = refl
-apart_above b (c ∷ bs) all = and_from _ _ (or_left _ _ (le-leb (end_of b + 8) c.start all.0)) (apart_above b bs all.1)
+apart_above b (c ∷ bs) all = and_from _ _ (or_left _ _ (le-leb (block_end b + 8) c.start all.0)) (apart_above b bs all.1)
 
 line_apart : (at : ℕ) (bs : List Placed) → AreInLine at bs → are_apart bs ≡ true
 line_apart at [] line = refl
 line_apart at (b ∷ bs) line =
     let e : b.start ≡ at + 8 = line.0 in
-    and_from _ _ (apart_above b bs (above (end_of b) (at + bytes_of b) bs (omega (arith, e)) line.1)) (line_apart (at + bytes_of b) bs line.1)
+    and_from _ _ (apart_above b bs (above (block_end b) (at + bytes_of b) bs (omega (arith, e)) line.1)) (line_apart (at + bytes_of b) bs line.1)
 
 packed_line : (at : ℕ) (bs : List Placed) → AreInLine at (placed_at bs (spaced 0 at bs))
 packed_line at [] = tt
@@ -79,7 +79,7 @@ each_turned : (b : Placed) (bs : List Placed) → list_all (is_apart b) bs ≡ t
 each_turned b [] h = tt
 each_turned b (c ∷ bs) h =
     let q = and_parts (is_apart b c) (list_all (is_apart b) bs) h in
-    (and_from (is_apart c b) true (turned (nat_le (end_of b + 8) c.start) (nat_le (end_of c + 8) b.start) q.0) refl, each_turned b bs q.1)
+    (and_from (is_apart c b) true (turned (nat_le (block_end b + 8) c.start) (nat_le (block_end c + 8) b.start) q.0) refl, each_turned b bs q.1)
 
 apart-reverse : (bs : List Placed) → are_apart bs ≡ true → are_apart (reverse bs) ≡ true
 apart-reverse [] h = refl
@@ -91,17 +91,17 @@ apart-reverse (b ∷ bs) h =
 -- ---- the table with the young blocks
 
 pub taken_apart :
-    (heap from : ℕ) (old young : List Placed) → heap ≤ 67108864 → AllByRecursion (IsKept heap) old → are_apart old ≡ true → IsChain from young →
+    (heap from : ℕ) (old young : List Placed) → heap ≤ 67108864 → AllByRecursion (IsHeapBlock heap) old → are_apart old ≡ true → IsChain from young →
     are_apart (old ++ reverse young) ≡ true
 taken_apart heap from old young most kept apart chain =
     apart-append old (reverse young) apart (apart-reverse young (line_apart from young chain.line)) (each old kept)
   where
-    each : (os : List Placed) → AllByRecursion (IsKept heap) os → AllByRecursion (λ o. list_all (is_apart o) (reverse young) ≡ true) os
+    each : (os : List Placed) → AllByRecursion (IsHeapBlock heap) os → AllByRecursion (λ o. list_all (is_apart o) (reverse young) ≡ true) os
     each [] kept = tt
     each (o ∷ os) kept =
         let low = chain.low in
         let ends = ends_below heap o most kept.0.inside in
-        (all_turned (is_apart o) young (apart_above o young (above (end_of o) from young (omega (arith, low, ends)) chain.line)), each os kept.1)
+        (all_turned (is_apart o) young (apart_above o young (above (block_end o) from young (omega (arith, low, ends)) chain.line)), each os kept.1)
 
 -- ---- new places
 
@@ -115,7 +115,7 @@ new_cells [] ss all = tt
 new_cells (b ∷ bs) [] all = all
 new_cells (b ∷ bs) (s ∷ ss) all = (all.0, new_cells bs ss all.1)
 
-each_kept : (heap : ℕ) (bs : List Placed) → AllByRecursion HasCells bs → list_all (is_in_heap heap) bs ≡ true → AllByRecursion (IsKept heap) bs
+each_kept : (heap : ℕ) (bs : List Placed) → AllByRecursion HasCells bs → list_all (is_in_heap heap) bs ≡ true → AllByRecursion (IsHeapBlock heap) bs
 each_kept heap [] all h = tt
 each_kept heap (b ∷ bs) all h =
     let p = and_parts (is_in_heap heap b) (list_all (is_in_heap heap) bs) h in
@@ -123,12 +123,12 @@ each_kept heap (b ∷ bs) all h =
 
 pub new_kept :
     (heap : ℕ) (bs : List Placed) (ss : List ℕ) → AllByRecursion HasCells bs → list_all (is_in_heap heap) (placed_at bs ss) ≡ true →
-    AllByRecursion (IsKept heap) (placed_at bs ss)
+    AllByRecursion (IsHeapBlock heap) (placed_at bs ss)
 new_kept heap bs ss all h = each_kept heap (placed_at bs ss) (new_cells bs ss all) h
 
 -- where a service puts the blocks, whatever the plan
 pub record ArePlacedAnew (heap : ℕ) (bs news : List Placed) : Type 0 where
-  pub kept : AllByRecursion (IsKept heap) news
+  pub kept : AllByRecursion (IsHeapBlock heap) news
   pub bytes : bytes_used news ≡ bytes_used bs
   pub apart : are_apart news ≡ true
 
@@ -152,7 +152,7 @@ placed_anew heap number bs plan all fits = by_test (is_valid heap bs plan) refl
 
 -- what a word becomes is a word
 pub rewritten_word :
-    (heap : ℕ) (os ns : List Placed) (w : ℕ) → heap ≤ 67108864 → AllByRecursion (IsKept heap) ns → w < 2 ^ 64 →
+    (heap : ℕ) (os ns : List Placed) (w : ℕ) → heap ≤ 67108864 → AllByRecursion (IsHeapBlock heap) ns → w < 2 ^ 64 →
     rewritten os ns w < 2 ^ 64
 rewritten_word heap [] ns w most all small = small
 rewritten_word heap (o ∷ os) [] w most all small = small

@@ -6,7 +6,7 @@ use Rattle.std.proofs.lemmas.Bool.{eqb-true, and_parts, leb-true}
 use Rattle.std.proofs.lemmas.List.{reverse-append}
 use Rattle.rv_machine.specs.Hart.{Placed}
 use Rattle.rv_machine.specs.Memory.{Region, read}
-use Rattle.rv_machine.specs.Observation.{block_then, blocks_from, cells_of, young_blocks, young_start, young_top}
+use Rattle.rv_machine.specs.Observation.{block_then, blocks_from, cells_of_header, young_blocks, young_start, young_top}
 use Rattle.rv_machine.specs.Placement.{bytes_of, bytes_used}
 use Rattle.rv_machine.specs.Space.{HasCells}
 
@@ -36,46 +36,46 @@ pub record IsChain (at : ℕ) (bs : List Placed) : Type 0 where
 
 chain_then :
     (most : ℕ) (m : List Region) (at header : ℕ) (o : Option (List Placed)) (bs : List Placed) → at % 8 ≡ 0 → 0x38000000 ≤ at →
-    ((cs : List Placed) → o ≡ Some cs → IsChain (at + 8 + 8 * cells_of header) cs) →
-    block_then (cells_of header) at o ≡ Some bs → IsChain at bs
-chain_then most m at header o bs a l later e = by_test (nat_le 1 (cells_of header) && nat_le (cells_of header) 256) refl o later e
+    ((cs : List Placed) → o ≡ Some cs → IsChain (at + 8 + 8 * cells_of_header header) cs) →
+    block_then (cells_of_header header) at o ≡ Some bs → IsChain at bs
+chain_then most m at header o bs a l later e = by_test (nat_le 1 (cells_of_header header) && nat_le (cells_of_header header) 256) refl o later e
   where
     by_test :
-        (t : Bool) → (nat_le 1 (cells_of header) && nat_le (cells_of header) 256) ≡ t → (o : Option (List Placed)) →
-        ((cs : List Placed) → o ≡ Some cs → IsChain (at + 8 + 8 * cells_of header) cs) →
-        cond t (option_map (λ cs. record { start = at + 8; words = cells_of header } ∷ cs) o) None ≡ Some bs → IsChain at bs
+        (t : Bool) → (nat_le 1 (cells_of_header header) && nat_le (cells_of_header header) 256) ≡ t → (o : Option (List Placed)) →
+        ((cs : List Placed) → o ≡ Some cs → IsChain (at + 8 + 8 * cells_of_header header) cs) →
+        cond t (option_map (λ cs. record { start = at + 8; words = cells_of_header header } ∷ cs) o) None ≡ Some bs → IsChain at bs
     by_test false t o later e = absurd (cc)
     by_test true t None later e = absurd (cc)
     by_test true t (Some cs) later e =
-        let b : Placed = record { start = at + 8; words = cells_of header } in
+        let b : Placed = record { start = at + 8; words = cells_of_header header } in
         let same : b ∷ cs ≡ bs = cc in
         let p = and_parts _ _ t in
-        let some : 1 ≤ cells_of header = leb-true 1 (cells_of header) p.0 in
-        let most' : cells_of header ≤ 256 = leb-true (cells_of header) 256 p.1 in
+        let some : 1 ≤ cells_of_header header = leb-true 1 (cells_of_header header) p.0 in
+        let most' : cells_of_header header ≤ 256 = leb-true (cells_of_header header) 256 p.1 in
         let rest = later cs refl in
-        let total : at + 8 + 8 * cells_of header + bytes_used cs ≡ 0x38010000 = rest.bytes in
+        let total : at + 8 + 8 * cells_of_header header + bytes_used cs ≡ 0x38010000 = rest.bytes in
         subst (IsChain at) same (record {
           low = l;
           each = (record { aligned = omega arith; low = omega arith; high = omega (arith, some, total); some = some; most = most' }, rest.each);
-          line = (refl, (let next : at + 8 + 8 * cells_of header ≡ at + (8 + 8 * cells_of header) = omega arith in subst (λ n. AreInLine n cs) next rest.line));
+          line = (refl, (let next : at + 8 + 8 * cells_of_header header ≡ at + (8 + 8 * cells_of_header header) = omega arith in subst (λ n. AreInLine n cs) next rest.line));
           bytes = omega (arith, total);
         })
 
 pub chain : (most : ℕ) (m : List Region) (at : ℕ) (bs : List Placed) → at % 8 ≡ 0 → 0x38000000 ≤ at → blocks_from most m at ≡ Some bs → IsChain at bs
 chain zero m at bs a l e = absurd (cc)
-chain (suc most) m at bs a l e = by_test (at == young_top) refl (read m at 8) e (λ header cs h. chain most m (at + 8 + 8 * cells_of header) cs (omega arith) (omega arith) h)
+chain (suc most) m at bs a l e = by_test (at == young_top) refl (read m at 8) e (λ header cs h. chain most m (at + 8 + 8 * cells_of_header header) cs (omega arith) (omega arith) h)
   where
     by_test :
         (t : Bool) → (at == young_top) ≡ t → (o : Option ℕ) →
-        cond t (Some []) (option_and_then (λ header. block_then (cells_of header) at (blocks_from most m (at + 8 + 8 * cells_of header))) o) ≡ Some bs →
-        ((header : ℕ) (cs : List Placed) → blocks_from most m (at + 8 + 8 * cells_of header) ≡ Some cs → IsChain (at + 8 + 8 * cells_of header) cs) →
+        cond t (Some []) (option_and_then (λ header. block_then (cells_of_header header) at (blocks_from most m (at + 8 + 8 * cells_of_header header))) o) ≡ Some bs →
+        ((header : ℕ) (cs : List Placed) → blocks_from most m (at + 8 + 8 * cells_of_header header) ≡ Some cs → IsChain (at + 8 + 8 * cells_of_header header) cs) →
         IsChain at bs
     by_test true t o e later =
         let same : [] ≡ bs = cc in
         let top : at ≡ 0x38010000 = eqb-true at young_top t in
         subst (IsChain at) same (record { low = l; each = tt; line = tt; bytes = omega (arith, top) })
     by_test false t None e later = absurd (cc)
-    by_test false t (Some header) e later = chain_then most m at header (blocks_from most m (at + 8 + 8 * cells_of header)) bs a l (later header) e
+    by_test false t (Some header) e later = chain_then most m at header (blocks_from most m (at + 8 + 8 * cells_of_header header)) bs a l (later header) e
 
 -- the young blocks from an address on
 pub young_chain : (m : List Region) (from : ℕ) (bs : List Placed) → young_blocks m from ≡ Some bs → IsChain from bs

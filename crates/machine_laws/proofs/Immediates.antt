@@ -3,7 +3,7 @@ use Rattle.std.proofs.Common.{◌≡◌, ℕ, ◌+◌, ◌-◌, ◌*◌, ◌%◌
 use Rattle.std.proofs.lemmas.Bool.{cases_lt}
 use Rattle.bs_words.specs.Word.{add_word}
 use Rattle.bs_words.proofs.Word.{sext-high, sext-low}
-use Rattle.rv_machine.specs.Arithmetic.{extended, imm_i, imm_u}
+use Rattle.rv_machine.specs.Arithmetic.{sign_extended, imm_i, imm_u}
 
 -- a number of so many bits, by the value of its highest bit
 abbrev pub Extended : (bound w result : ℕ) → Type 0
@@ -28,13 +28,13 @@ by_12 x u = ⊎_elim (λ l. inl (l, low_12 x l)) (λ l. inr (l, high_12 x l u)) 
 
 -- ---- 32 bits
 
-pub low_32 : (x : ℕ) → x % 2 ^ 32 < 2 ^ 31 → extended x ≡ x % 2 ^ 32
+pub low_32 : (x : ℕ) → x % 2 ^ 32 < 2 ^ 31 → sign_extended x ≡ x % 2 ^ 32
 low_32 x l = sym (sext-low x 32 (omega arith) l)
 
-pub high_32 : (x : ℕ) → 2 ^ 31 ≤ x % 2 ^ 32 → extended x ≡ x % 2 ^ 32 + (2 ^ 64 - 2 ^ 32)
+pub high_32 : (x : ℕ) → 2 ^ 31 ≤ x % 2 ^ 32 → sign_extended x ≡ x % 2 ^ 32 + (2 ^ 64 - 2 ^ 32)
 high_32 x l = sym (sext-high x 32 (omega arith) l)
 
-pub by_32 : (x : ℕ) → ((x % 2 ^ 32 < 2 ^ 31) × (extended x ≡ x % 2 ^ 32)) ⊎ ((2 ^ 31 ≤ x % 2 ^ 32) × (extended x ≡ x % 2 ^ 32 + (2 ^ 64 - 2 ^ 32)))
+pub by_32 : (x : ℕ) → ((x % 2 ^ 32 < 2 ^ 31) × (sign_extended x ≡ x % 2 ^ 32)) ⊎ ((2 ^ 31 ≤ x % 2 ^ 32) × (sign_extended x ≡ x % 2 ^ 32 + (2 ^ 64 - 2 ^ 32)))
 by_32 x = ⊎_elim (λ l. inl (l, low_32 x l)) (λ l. inr (l, high_32 x l)) (cases_lt (x % 2 ^ 32) (2 ^ 31))
 
 -- the upper 20 of 32 bits

@@ -5,9 +5,9 @@ use Rattle.std.proofs.lemmas.Nat.{pow_pos}
 use Rattle.std.proofs.lemmas.Bool.{and_parts, leb-true, eqb-true}
 use Rattle.rv_machine.proofs.Bytes.{replaced-below}
 use Rattle.rv_machine.specs.Hart.{Placed}
-use Rattle.rv_machine.specs.Memory.{Region, byte_in, index_in, is_inside, loaded, memory_or, or_zero, put, read, stored, with_written, word, write, written}
+use Rattle.rv_machine.specs.Memory.{Region, byte_in, index_in, is_inside, loaded_number, memory_or, or_zero, put, read, stored_number, with_written, memory_word, write, written}
 use Rattle.rv_machine.specs.Moving.{copied, moved_memory, redirected, rewritten, rewritten_block, vacated}
-use Rattle.rv_machine.specs.Placement.{header_at}
+use Rattle.rv_machine.specs.Placement.{header_address}
 use Rattle.rv_machine.specs.Places.{filler}
 use Rattle.rv_machine.specs.Sound.{Extent, HasRegions, IsRegion, extent}
 use Rattle.bs_words.specs.Memory.{IsWidth, part, replaced}
@@ -38,16 +38,16 @@ read_below (r ∷ rs) a w n e = by_test (is_inside r a w) (read_below rs a w n) 
         subst (λ k. k < 2 ^ (8 * w)) same (mod-lt (slice_index r.words (index_in r a) / 2 ^ (8 * byte_in r a)) (pow_pos (8 * w)))
     by_test false later e = later e
 
-pub loaded_below : (m : List Region) (a w n : ℕ) → loaded m a w ≡ Some n → n < 2 ^ (8 * w)
+pub loaded_below : (m : List Region) (a w n : ℕ) → loaded_number m a w ≡ Some n → n < 2 ^ (8 * w)
 loaded_below m a w n e = by_test (a % w == 0) e
   where
     by_test : (t : Bool) → cond t (read m a w) None ≡ Some n → n < 2 ^ (8 * w)
     by_test true e = read_below m a w n e
     by_test false e = absurd (cc)
 
-pub word_below : (m : List Region) (a : ℕ) → word m a < 2 ^ 64
-unfolding word
-word_below m a = by_case (loaded m a 8) (loaded_below m a 8)
+pub word_below : (m : List Region) (a : ℕ) → memory_word m a < 2 ^ 64
+unfolding memory_word
+word_below m a = by_case (loaded_number m a 8) (loaded_below m a 8)
   where
     by_case : (o : Option ℕ) → ((n : ℕ) → o ≡ Some n → n < 2 ^ (8 * 8)) → or_zero o < 2 ^ 64
     by_case None h = omega arith
@@ -89,7 +89,7 @@ has_written places (r ∷ rs) a w v width even has =
 
 pub has_stored :
     (places : List Extent) (m : List Region) (a w v : ℕ) → IsWidth w → HasRegions places m →
-    HasRegions places (memory_or m (stored m a w v))
+    HasRegions places (memory_or m (stored_number m a w v))
 has_stored places m a w v width has = by_test (a % w == 0) refl
   where
     by_test : (t : Bool) → (a % w == 0) ≡ t → HasRegions places (memory_or m (cond t (written m a w v) None))
@@ -111,12 +111,12 @@ has_redirected :
     HasRegions places (redirected f old m as')
 has_redirected places f old m [] has = has
 has_redirected places f old m (a ∷ as') has =
-    has_redirected places f old (write m a (f (word old a))) as' (has_write places m a (f (word old a)) has)
+    has_redirected places f old (write m a (f (memory_word old a))) as' (has_write places m a (f (memory_word old a)) has)
 
 has_vacated : (places : List Extent) (m : List Region) (bs : List Placed) → HasRegions places m → HasRegions places (vacated m bs)
 has_vacated places m [] has = has
 has_vacated places m (b ∷ bs) has =
-    has_vacated places (put m (header_at b) (replicate (suc b.words) filler)) bs (has_put places m (header_at b) (replicate (suc b.words) filler) has)
+    has_vacated places (put m (header_address b) (replicate (suc b.words) filler)) bs (has_put places m (header_address b) (replicate (suc b.words) filler) has)
 
 has_copied :
     (places : List Extent) (f : ℕ → ℕ) (old m : List Region) (os ns : List Placed) → HasRegions places m →
@@ -124,7 +124,7 @@ has_copied :
 has_copied places f old m [] ns has = has
 has_copied places f old m (o ∷ os) [] has = has
 has_copied places f old m (o ∷ os) (n ∷ ns) has =
-    has_copied places f old (put m (header_at n) (rewritten_block f old o)) os ns (has_put places m (header_at n) (rewritten_block f old o) has)
+    has_copied places f old (put m (header_address n) (rewritten_block f old o)) os ns (has_put places m (header_address n) (rewritten_block f old o) has)
 
 pub has_moved :
     (places : List Extent) (olds news : List Placed) (m : List Region) (as' : List ℕ) → HasRegions places m →
@@ -170,6 +170,6 @@ word_by m a b v s false e k n = refl
 word_by m a b v false true e k n = refl
 word_by m a b v true true e k n = ap or_zero (read_other m a b v (eqb-true (a % 8) 0 e) (eqb-true (b % 8) 0 k) n)
 
-pub other_word : (m : List Region) (a b v : ℕ) → a ≢ b → word (write m a v) b ≡ word m b
-unfolding word write
+pub other_word : (m : List Region) (a b v : ℕ) → a ≢ b → memory_word (write m a v) b ≡ memory_word m b
+unfolding memory_word write
 other_word m a b v n = word_by m a b v (a % 8 == 0) (b % 8 == 0) refl refl n

@@ -9,10 +9,10 @@ use Rattle.rv_machine.specs.Hart.{Hart, Placed, Next, Retired, Service, hart}
 use Rattle.rv_machine.specs.Hart as hart_next
 use Rattle.rv_machine.specs.FrameCalls.{has_trap_frame}
 use Rattle.rv_machine.specs.Relocation.{Serviced, Goes, NoHeap, Refused}
-use Rattle.rv_machine.specs.Run.{Schedule, seen, perhaps_asked, after_next, one, after, begun, machine_run}
-use Rattle.rv_machine.specs.Services.{Running, Machine, Now, Going, Over, Stopped, answered, external, after_allocation, concluded, after_collection, frame_answered, frame_call, served}
+use Rattle.rv_machine.specs.Run.{Schedule, seen, perhaps_asked, after_next, one, now_after, begun, machine_run}
+use Rattle.rv_machine.specs.Services.{Running, Machine, Now, Going, Over, Stopped, machine_answered, external, after_allocation, concluded, after_collection, machine_frame_answered, frame_call, served}
 use Rattle.rv_machine.specs.declared.cause.Cause.TheVariants.{BadFrame}
-use Rattle.machine_laws.specs.Steps.{next_of, moments, IsFrontOf, IsOrderly}
+use Rattle.machine_laws.specs.Steps.{next_now, moments, IsFrontOf, IsOrderly}
 
 -- ---- no call is forgotten
 
@@ -22,7 +22,7 @@ no_more made = ([], sym (append-nil made))
 one_more : (made : List Made) (call : Made) → IsFrontOf made (made ++ call ∷ [])
 one_more made call = (call ∷ [], refl)
 
-answered_calls : (result : Ret) (call : Made) (answers : List ℕ) (m : Machine) → IsFrontOf m.calls (seen (answered result call answers m)).calls
+answered_calls : (result : Ret) (call : Made) (answers : List ℕ) (m : Machine) → IsFrontOf m.calls (seen (machine_answered result call answers m)).calls
 answered_calls returns.Unit call answers m = one_more m.calls call
 answered_calls (returns.Comp c) call [] m = no_more m.calls
 answered_calls (returns.Comp c) call (a ∷ answers) m = one_more m.calls call
@@ -53,7 +53,7 @@ collected_calls result call first value answers NoHeap m = no_more m.calls
 collected_calls result call first value answers (Refused cause) m = no_more m.calls
 
 frame_calls : (plan : List Placed → List ℕ) (result : Ret) (call : Made) (answers : List ℕ) (m : Machine) →
-    IsFrontOf m.calls (seen (frame_answered plan result call answers m)).calls
+    IsFrontOf m.calls (seen (machine_frame_answered plan result call answers m)).calls
 frame_calls plan result call [] m = no_more m.calls
 frame_calls plan result call (first ∷ []) m = no_more m.calls
 frame_calls plan result call (first ∷ value ∷ answers) m = collected_calls result call first value answers _ m
@@ -76,29 +76,29 @@ next_calls schedule (Service h) m = served_calls schedule.plan _ (record m { har
 next_calls schedule hart_next.StackOut m = no_more m.calls
 next_calls schedule (hart_next.Stopped cause) m = no_more m.calls
 
-stays : (schedule : Schedule) (now : Now) → ((seen now).end ≡ Running) ⊎ (next_of schedule now ≡ now)
+stays : (schedule : Schedule) (now : Now) → ((seen now).end ≡ Running) ⊎ (next_now schedule now ≡ now)
 stays schedule (Going m) = inl refl
 stays schedule (Over calls end) = inr refl
 
-step_calls : (schedule : Schedule) (now : Now) → IsFrontOf (seen now).calls (seen (next_of schedule now)).calls
+step_calls : (schedule : Schedule) (now : Now) → IsFrontOf (seen now).calls (seen (next_now schedule now)).calls
 step_calls schedule (Going m) = next_calls schedule (hart (perhaps_asked schedule m.hart)) m
 step_calls schedule (Over calls end) = no_more calls
 
-pub machine_orderly : (schedule : Schedule) → IsOrderly Now (next_of schedule) seen
+pub machine_orderly : (schedule : Schedule) → IsOrderly Now (next_now schedule) seen
 machine_orderly schedule = record { stays = λ now. stays schedule now; calls = λ now. step_calls schedule now }
 
 -- ---- a run is its steps
 
-over_stays : (schedule : Schedule) (m : ℕ) (now : Now) → next_of schedule now ≡ now → now ≡ moments (next_of schedule) m now
+over_stays : (schedule : Schedule) (m : ℕ) (now : Now) → next_now schedule now ≡ now → now ≡ moments (next_now schedule) m now
 over_stays schedule zero now e = refl
-over_stays schedule (suc m) now e = over_stays schedule m now e ∙ ap (moments (next_of schedule) m) (sym e)
+over_stays schedule (suc m) now e = over_stays schedule m now e ∙ ap (moments (next_now schedule) m) (sym e)
 
-run_steps : (schedule : Schedule) (m : ℕ) (now : Now) → after schedule m now ≡ moments (next_of schedule) m now
+run_steps : (schedule : Schedule) (m : ℕ) (now : Now) → now_after schedule m now ≡ moments (next_now schedule) m now
 run_steps schedule zero now = refl
 run_steps schedule (suc m) (Going x) = run_steps schedule m (one schedule x)
 run_steps schedule (suc m) (Over calls end) = over_stays schedule (suc m) (Over calls end) refl
 
 -- the run of the machine after m instructions is what is seen m moments after its start
 pub machine_steps : (image : Tables) (row : Func) (args answers : List ℕ) (stack heap : ℕ) (schedule : Schedule) (m : ℕ) →
-    seen (moments (next_of schedule) m (begun image row args answers stack heap)) ≡ machine_run image row args answers stack heap schedule m
+    seen (moments (next_now schedule) m (begun image row args answers stack heap)) ≡ machine_run image row args answers stack heap schedule m
 machine_steps image row args answers stack heap schedule m = ap seen (sym (run_steps schedule m (begun image row args answers stack heap)))

@@ -8,21 +8,21 @@ use Rattle.bs_words.specs.Observed.{Made}
 use Rattle.bs_words.specs.declared.types.Ret.{Ret}
 use Rattle.bs_words.specs.declared.types.Ret.TheVariants as returns
 use Rattle.rv_isa.specs.Registers.{a0, s1, s10, sp}
-use Rattle.rv_machine.specs.Allocation.{after_request, allocated, blocks_at_request, bytes_asked, is_request, young_from}
+use Rattle.rv_machine.specs.Allocation.{after_request, allocation_served, blocks_at_request, bytes_asked, is_request, young_from}
 use Rattle.rv_machine.specs.FrameCalls.{collected, has_trap_frame, raised, with_answer}
 use Rattle.rv_machine.specs.Frames.{Frame, frames, registers_of, slots_of}
 use Rattle.rv_machine.specs.Hart.{Hart, Next, Retired, Service, Placed, hart, register, with_register}
 use Rattle.rv_machine.specs.Hart as next
-use Rattle.rv_machine.specs.Memory.{word, write}
+use Rattle.rv_machine.specs.Memory.{memory_word, write}
 use Rattle.rv_machine.specs.Moving.{redirected_registers, rewritten}
 use Rattle.rv_machine.specs.Observation.{blocks_at, young_blocks, young_top}
 use Rattle.rv_machine.specs.Placement.{are_apart, bytes_used, new_places}
 use Rattle.rv_machine.specs.Places.{domain_start, filler, limit_at_rest, stack_end}
-use Rattle.rv_machine.specs.Relocation.{Serviced, Goes, NoHeap, Refused, and_then, are_roots, emptied, relocated, root_cells, with_blocks, with_frames}
-use Rattle.rv_machine.specs.Run.{Schedule, after, after_next, one, perhaps_asked}
-use Rattle.rv_machine.specs.Services.{Machine, Now, Going, Over, Stopped, after_allocation, after_collection, answered, cleared, concluded, destroyed, external, external_at, filled, frame_answered, frame_call, returned_with, served}
+use Rattle.rv_machine.specs.Relocation.{Serviced, Goes, NoHeap, Refused, serve_then, are_roots, emptied, relocated, root_addresses, with_blocks, with_frames}
+use Rattle.rv_machine.specs.Run.{Schedule, now_after, after_next, one, perhaps_asked}
+use Rattle.rv_machine.specs.Services.{Machine, Now, Going, Over, Stopped, after_allocation, after_collection, machine_answered, cleared, concluded, destroyed, external, external_at, filled_registers, machine_frame_answered, frame_call, returned_with, served}
 use Rattle.rv_machine.specs.Sound.{AllWords, AreRegisters, IsSound, IsSoundMachine, IsSoundNext, IsSoundNow, IsSoundService}
-use Rattle.rv_machine.specs.Space.{HasCells, IsKept}
+use Rattle.rv_machine.specs.Space.{HasCells, IsHeapBlock}
 use Rattle.rv_machine.specs.declared.cause.Cause.TheVariants.{BadFrame, BadRoot}
 use Rattle.machine_laws.proofs.Apart.{all-append, all-reverse, all_of, placed_anew, rewritten_word, taken_apart}
 use Rattle.machine_laws.proofs.Chain.{young_cells, young_chain}
@@ -33,7 +33,7 @@ use Rattle.machine_laws.proofs.Words.{other_register, with_registers}
 -- ---- the blocks that a service finds
 
 old_cells : (h : Hart) → IsSound h → AllByRecursion HasCells h.blocks
-old_cells h s = all_of (IsKept h.heap) HasCells (λ b k. k.some) h.blocks s.heap.each
+old_cells h s = all_of (IsHeapBlock h.heap) HasCells (λ b k. k.some) h.blocks s.heap.each
 
 -- all blocks have cells and are apart, wherever the young ones begin
 pub record AreFound (bs : List Placed) : Type 0 where
@@ -78,7 +78,7 @@ relocated_sound plan h blocks fs s cells fits =
       image = s.image;
       registers = redirected_are (rewritten blocks news) h.registers (registers_of fs) h.registers
           (λ w small. rewritten_word h.heap blocks news w s.heap.most anew.kept small) s.registers.words s.registers;
-      memory = has_moved _ blocks news h.memory (slots_of fs ++ root_cells h.image) s.memory;
+      memory = has_moved _ blocks news h.memory (slots_of fs ++ root_addresses h.image) s.memory;
       stack = s.stack;
       heap = record { aligned = s.heap.aligned; most = s.heap.most; each = anew.kept; fits = omega (arith, fits, bytes) };
       apart = anew.apart;
@@ -117,7 +117,7 @@ emptied_sound bytes h s =
 
 then_sound :
     (f : Hart → Serviced) (came : Serviced) → IsSoundService came → ((h : Hart) → IsSound h → IsSoundService (f h)) →
-    IsSoundService (and_then f came)
+    IsSoundService (serve_then f came)
 then_sound f (Goes h) s next = next h s
 then_sound f NoHeap s next = tt
 then_sound f (Refused cause) s next = tt
@@ -131,8 +131,8 @@ requested_cells h bs s e = by_test (is_request (bytes_asked h)) e
     by_test true e = (blocks_found h (young_from h) bs s e).cells
     by_test false e = absurd (cc)
 
-pub allocated_sound : (plan : List Placed → List ℕ) (h : Hart) → IsSound h → IsSoundService (allocated plan h)
-unfolding allocated
+pub allocated_sound : (plan : List Placed → List ℕ) (h : Hart) → IsSound h → IsSoundService (allocation_served plan h)
+unfolding allocation_served
 allocated_sound plan h s =
     then_sound (after_request (bytes_asked h)) (with_blocks plan h (blocks_at_request h))
     (blocks_sound plan h (blocks_at_request h) s (λ bs e. requested_cells h bs s e))
@@ -140,7 +140,7 @@ allocated_sound plan h s =
 
 -- ---- external calls
 
-pub filled_are : (rs registers : List ℕ) → AreRegisters registers → AreRegisters (filled rs registers)
+pub filled_are : (rs registers : List ℕ) → AreRegisters registers → AreRegisters (filled_registers rs registers)
 filled_are [] registers are = are
 filled_are (r ∷ rs) registers are = filled_are rs (with_register r filler registers) (with_registers registers r filler are (omega arith))
 
@@ -151,14 +151,14 @@ called_sound h registers answers call m s are words = record {
   answers = words;
 }
 
-answered_sound : (result : Ret) (call : Made) (answers : List ℕ) (m : Machine) → IsSound m.hart → AllWords answers → IsSoundNow (answered result call answers m)
+answered_sound : (result : Ret) (call : Made) (answers : List ℕ) (m : Machine) → IsSound m.hart → AllWords answers → IsSoundNow (machine_answered result call answers m)
 answered_sound returns.Unit call answers m s words =
-    called_sound m.hart (filled destroyed m.hart.registers) answers call m s (filled_are destroyed m.hart.registers s.registers) words
+    called_sound m.hart (filled_registers destroyed m.hart.registers) answers call m s (filled_are destroyed m.hart.registers s.registers) words
 answered_sound (returns.Comp c) call [] m s words = tt
 answered_sound (returns.Comp c) call (a ∷ answers) m s words =
     let cleared = filled_are destroyed m.hart.registers s.registers in
-    called_sound m.hart (with_register a0 a (filled destroyed m.hart.registers)) answers call m s
-    (with_registers (filled destroyed m.hart.registers) a0 a cleared (words 0)) (λ i. words (suc i))
+    called_sound m.hart (with_register a0 a (filled_registers destroyed m.hart.registers)) answers call m s
+    (with_registers (filled_registers destroyed m.hart.registers) a0 a cleared (words 0)) (λ i. words (suc i))
 
 external_sound : (o : Option External) (m : Machine) → IsSoundMachine m → IsSoundNow (external o m)
 external_sound None m s = tt
@@ -180,14 +180,14 @@ raised_sound : (value : ℕ) (h : Hart) → value < 2 ^ 64 → register h s1 + 1
 raised_sound value h small low s =
     let at = register h s1 in
     let first = with_register sp (at + 16) h.registers in
-    let second = with_register s1 (word h.memory (at + 8)) first in
-    moved_on (record h { registers = with_register a0 value second }) (word h.memory at) (suc h.retired)
+    let second = with_register s1 (memory_word h.memory (at + 8)) first in
+    moved_on (record h { registers = with_register a0 value second }) (memory_word h.memory at) (suc h.retired)
     (with_new_registers h (with_register a0 value second) s
     (with_registers second a0 value
-    (with_registers first s1 (word h.memory (at + 8)) (with_registers h.registers sp (at + 16) s.registers (omega (arith, low))) (word_below h.memory (at + 8))) small))
+    (with_registers first s1 (memory_word h.memory (at + 8)) (with_registers h.registers sp (at + 16) s.registers (omega (arith, low))) (word_below h.memory (at + 8))) small))
 
 -- a register that is not filled stays
-pub not_filled : (rs registers : List ℕ) (r : ℕ) → AllByRecursion (λ k. k ≢ r) rs → slice_index (filled rs registers) r ≡ slice_index registers r
+pub not_filled : (rs registers : List ℕ) (r : ℕ) → AllByRecursion (λ k. k ≢ r) rs → slice_index (filled_registers rs registers) r ≡ slice_index registers r
 not_filled [] registers r others = refl
 not_filled (k ∷ rs) registers r others = not_filled rs (with_register k filler registers) r others.1 ∙ other_register registers k r filler others.0
 
@@ -200,8 +200,8 @@ trap_kept h =
 concluded_sound : (result : Ret) (call : Made) (first value : ℕ) (answers : List ℕ) (h : Hart) (m : Machine) →
     IsSound h → value < 2 ^ 64 → AllWords answers → IsSoundNow (concluded result call first value answers h m)
 concluded_sound result call zero value answers h m s small words =
-    called_sound h (with_answer result value (filled destroyed h.registers)) answers call m s
-    (with_answer_are result value (filled destroyed h.registers) small (filled_are destroyed h.registers s.registers)) words
+    called_sound h (with_answer result value (filled_registers destroyed h.registers)) answers call m s
+    (with_answer_are result value (filled_registers destroyed h.registers) small (filled_are destroyed h.registers s.registers)) words
 concluded_sound result call (suc first) value answers h m s small words = by_test (has_trap_frame h) refl
   where
     by_test :
@@ -213,7 +213,7 @@ concluded_sound result call (suc first) value answers h m s small words = by_tes
         let same = trap_kept h in
         record {
           hart = raised_sound value (cleared h) small (omega (arith, low, same))
-              (with_new_registers h (filled destroyed h.registers) s (filled_are destroyed h.registers s.registers));
+              (with_new_registers h (filled_registers destroyed h.registers) s (filled_are destroyed h.registers s.registers));
           answers = words;
         }
     by_test false e = tt
@@ -225,7 +225,7 @@ collection_sound result call first value answers NoHeap m s small words = tt
 collection_sound result call first value answers (Refused cause) m s small words = tt
 
 frame_answered_sound : (plan : List Placed → List ℕ) (result : Ret) (call : Made) (answers : List ℕ) (m : Machine) →
-    IsSound m.hart → AllWords answers → IsSoundNow (frame_answered plan result call answers m)
+    IsSound m.hart → AllWords answers → IsSoundNow (machine_frame_answered plan result call answers m)
 frame_answered_sound plan result call [] m s words = tt
 frame_answered_sound plan result call (first ∷ []) m s words = tt
 frame_answered_sound plan result call (first ∷ value ∷ answers) m s words =
@@ -247,7 +247,7 @@ served_sound plan zero m s = tt
 served_sound plan (suc zero) m s = tt
 served_sound plan (suc (suc zero)) m s = external_sound (external_at m.hart) m s
 served_sound plan (suc (suc (suc zero))) m s =
-    allocation_sound (allocated (plan m.hart.services) m.hart) m (allocated_sound (plan m.hart.services) m.hart s.hart) s
+    allocation_sound (allocation_served (plan m.hart.services) m.hart) m (allocated_sound (plan m.hart.services) m.hart s.hart) s
 served_sound plan (suc (suc (suc (suc zero)))) m s = frame_call_sound (plan m.hart.services) (external_at m.hart) m s
 served_sound plan (suc (suc (suc (suc (suc code))))) m s = tt
 
@@ -262,7 +262,7 @@ one_sound schedule m s =
     next_sound schedule (hart (perhaps_asked schedule m.hart)) m
     (hart_sound (perhaps_asked schedule m.hart) (perhaps_asked_sound schedule m.hart s.hart)) s.answers
 
-pub after_sound : (schedule : Schedule) (n : ℕ) (now : Now) → IsSoundNow now → IsSoundNow (after schedule n now)
+pub after_sound : (schedule : Schedule) (n : ℕ) (now : Now) → IsSoundNow now → IsSoundNow (now_after schedule n now)
 after_sound schedule zero now s = s
 after_sound schedule (suc n) (Going m) s = after_sound schedule n (one schedule m) (one_sound schedule m s)
 after_sound schedule (suc n) (Over calls end) s = tt

@@ -6,10 +6,10 @@ use Rattle.image_form.specs.Image.{AreTables}
 use Rattle.image_form.specs.Tables.{Tables, Func}
 use Rattle.rv_machine.proofs.Bytes64.{words_cover}
 use Rattle.rv_machine.specs.Loading.{IsRoom}
-use Rattle.rv_machine.specs.Memory.{code_start, number_of, words_of_bytes}
+use Rattle.rv_machine.specs.Memory.{code_start, number_from_bytes, words_of_bytes}
 use Rattle.rv_machine.specs.Observation.{young_start, young_top}
 use Rattle.rv_machine.specs.Places.{stack_end, domain_start, filler, half_start, limit_at_rest, stack_bottom}
-use Rattle.rv_machine.specs.Run.{Schedule, after, begun}
+use Rattle.rv_machine.specs.Run.{Schedule, now_after, begun}
 use Rattle.rv_machine.specs.Sound.{AllWords, AreRegisters, Extent, HasRegions, IsRegion, IsSound, IsSoundNow, extent, extents}
 use Rattle.rv_machine.specs.Start.{data_region, domain_region, padded, stack_region, start, start_memory, start_registers, uniform}
 use Rattle.bs_words.specs.Fits.{data_start}
@@ -68,15 +68,15 @@ cap_positive : (n : ℕ) → 0 < cap n
 cap_positive zero = omega arith
 cap_positive (suc n) = omega (arith, cap_positive n)
 
-below_cap : (n : ℕ) (bytes : List ℕ) → AreBytes bytes → length bytes ≤ n → number_of bytes < cap n
+below_cap : (n : ℕ) (bytes : List ℕ) → AreBytes bytes → length bytes ≤ n → number_from_bytes bytes < cap n
 below_cap n [] all few = cap_positive n
 below_cap zero (b ∷ bytes) all few = absurd (omega arith)
 below_cap (suc n) (b ∷ bytes) all few =
-    let less : number_of bytes < cap n = below_cap n bytes all.1 (omega arith) in
+    let less : number_from_bytes bytes < cap n = below_cap n bytes all.1 (omega arith) in
     let first : b < 256 = all.0 in
     omega (arith, less, first)
 
-number_below : (bytes : List ℕ) → AreBytes bytes → length bytes ≤ 8 → number_of bytes < 2 ^ 64
+number_below : (bytes : List ℕ) → AreBytes bytes → length bytes ≤ 8 → number_from_bytes bytes < 2 ^ 64
 number_below bytes all few = below_cap 8 bytes all few
 
 data_words : (n : ℕ) (bytes : List ℕ) → length bytes ≤ n → AreBytes bytes → AllWords (words_of_bytes bytes)
@@ -190,7 +190,7 @@ start_sound image entry args stack heap tables all words s h = record {
 pub run_sound :
     (image : Tables) (entry : Func) (args answers : List ℕ) (stack heap : ℕ) (schedule : Schedule) (n : ℕ) → AreTables image →
     AllByRecursion (λ b. b < 256) image.bytes → AllWords args → AllWords answers → IsRoom stack → IsRoom heap →
-    IsSoundNow (after schedule n (begun image entry args answers stack heap))
+    IsSoundNow (now_after schedule n (begun image entry args answers stack heap))
 run_sound image entry args answers stack heap schedule n tables all words answer_words s h =
     after_sound schedule n (begun image entry args answers stack heap)
     (record { hart = start_sound image entry args stack heap tables all words s h; answers = answer_words })

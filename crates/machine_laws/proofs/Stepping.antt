@@ -10,9 +10,9 @@ use Rattle.rv_isa.specs.Registers.{sp}
 use Rattle.rv_isa.specs.declared.instr.Instr.{Instr}
 use Rattle.rv_isa.specs.declared.instr.Instr.TheVariants.{Lui, Auipc, Jal, Jalr, Branch, Load, Store, OpImm, Shift, Op, Addiw, ShiftWord, OpWord, Ecall}
 use Rattle.rv_isa.specs.declared.instr.LoadWidth.{LoadWidth}
-use Rattle.rv_machine.specs.Arithmetic.{alu, alu_imm, alu_word, extended, imm_b, imm_i, imm_j, imm_u, is_taken, shift, shift_word}
-use Rattle.rv_machine.specs.Hart.{Hart, Next, StackOut, Stopped, bytes_loaded, bytes_stored, decoded_next, executed, fetch, fetched, goes_to, hart, jumps, loads, past_ecall, readable, register, register_loaded, sets, stores, with_register}
-use Rattle.rv_machine.specs.Memory.{Region, code_start, loaded, memory_or, stored, written}
+use Rattle.rv_machine.specs.Arithmetic.{alu, alu_imm, alu_word, sign_extended, imm_b, imm_i, imm_j, imm_u, is_taken, shift, shift_word}
+use Rattle.rv_machine.specs.Hart.{Hart, Next, StackOut, Stopped, bytes_loaded, bytes_stored, decoded_next, executed, fetch, fetched, goes_to, hart, jumps_if_aligned, loads, past_ecall, readable, register, register_loaded, sets, stores, with_register}
+use Rattle.rv_machine.specs.Memory.{Region, code_start, loaded_number, memory_or, stored_number, written}
 use Rattle.rv_machine.specs.Places.{domain_start, limit_asked}
 use Rattle.rv_machine.specs.Run.{Schedule, asked, perhaps_asked}
 use Rattle.rv_machine.specs.Sound.{AreRegisters, HasRegions, IsSound, IsSoundNext, extents}
@@ -54,7 +54,7 @@ sets_sound rd value address h s small = by_test ((rd == sp) && nat_lt value h.st
         goes_sound address (record h { registers = with_register rd value h.registers })
         (with_new_registers h (with_register rd value h.registers) s (with_registers h.registers rd value s.registers small))
 
-jumps_sound : (target : ℕ) (next : Next) → IsSoundNext next → IsSoundNext (jumps target next)
+jumps_sound : (target : ℕ) (next : Next) → IsSoundNext next → IsSoundNext (jumps_if_aligned target next)
 jumps_sound target next s = by_test (target % 4 == 0) s
   where
     by_test : (t : Bool) → IsSoundNext next → IsSoundNext (cond t next (Stopped BadFetch))
@@ -91,10 +91,10 @@ executed_sound (Branch condition rs1 rs2 offset) h s near =
     either_sound (is_taken condition (register h rs1) (register h rs2)) _ _
     (jumps_sound (add_word h.pc (imm_b offset)) _ (goes_sound (add_word h.pc (imm_b offset)) h s)) (goes_sound (h.pc + 4) h s)
 executed_sound (Load width rd rs1 imm) h s near =
-    loads_sound (loaded (readable h) (add_word (register h rs1) (imm_i imm)) (bytes_loaded width)) width rd h s
+    loads_sound (loaded_number (readable h) (add_word (register h rs1) (imm_i imm)) (bytes_loaded width)) width rd h s
     (loaded_below (readable h) (add_word (register h rs1) (imm_i imm)) (bytes_loaded width))
 executed_sound (Store width rs1 rs2 imm) h s near =
-    stores_sound (stored h.memory (add_word (register h rs1) (imm_i imm)) (bytes_stored width) (register h rs2)) h s
+    stores_sound (stored_number h.memory (add_word (register h rs1) (imm_i imm)) (bytes_stored width) (register h rs2)) h s
     (has_stored _ h.memory (add_word (register h rs1) (imm_i imm)) (bytes_stored width) (register h rs2) (stored_width width) s.memory)
 executed_sound (OpImm op rd rs1 imm) h s near =
     sets_sound rd (alu_imm op (register h rs1) imm) (h.pc + 4) h s (alu_imm-below op (register h rs1) imm (register_word h rs1 s))
@@ -104,7 +104,7 @@ executed_sound (Op op rd rs1 rs2) h s near =
     sets_sound rd (alu op (register h rs1) (register h rs2)) (h.pc + 4) h s
     (alu-below op (register h rs1) (register h rs2) (register_word h rs1 s) (register_word h rs2 s))
 executed_sound (Addiw rd rs1 imm) h s near =
-    sets_sound rd (extended (add_word (register h rs1) (imm_i imm))) (h.pc + 4) h s (sext_word-below _ 32)
+    sets_sound rd (sign_extended (add_word (register h rs1) (imm_i imm))) (h.pc + 4) h s (sext_word-below _ 32)
 executed_sound (ShiftWord op rd rs1 amount) h s near =
     sets_sound rd (shift_word op (register h rs1) amount) (h.pc + 4) h s (shift_word-below op (register h rs1) amount)
 executed_sound (OpWord op rd rs1 rs2) h s near =

@@ -5,9 +5,9 @@ use Rattle.rv_machine.specs.Run.{Schedule, Seen, one}
 use Rattle.rv_machine.specs.Services.{Running, Now, Going, Over}
 
 -- one instruction, with the ask before it and its service; a run that is over stays as it is
-abbrev pub next_of : Schedule → Now → Now
-next_of schedule (Going m) = one schedule m
-next_of schedule (Over calls end) = Over calls end
+abbrev pub next_now : Schedule → Now → Now
+next_now schedule (Going m) = one schedule m
+next_now schedule (Over calls end) = Over calls end
 
 -- the state so many moments later
 abbrev pub moments : {X : Type 0} → (X → X) → ℕ → X → X

@@ -4,11 +4,11 @@ use Rattle.std.specs.Prelude.{◌≡◌, ℕ, List, [], All, length}
 use Rattle.bs_words.specs.declared.types.Comp.{Comp}
 use Rattle.cmm_tree.specs.Tree.{FunctionTree}
 use Rattle.selection_rules.specs.Select.{selected}
-use Rattle.lin_ir.specs.Descriptors.{AreExact, IsWithin, NamesLives, NoAddrLive, frame_points}
+use Rattle.lin_ir.specs.Descriptors.{AreExact, FitsDescriptors, NamesLives, NoAddrLive, frame_point_count}
 use Rattle.lin_ir.specs.Formed.{IsTight, spare}
-use Rattle.lin_ir.specs.Keeps.{Keeps}
+use Rattle.lin_ir.specs.Keeps.{LinearKeeps}
 use Rattle.lin_ir.specs.Meaning.{NamedAt}
-use Rattle.lin_ir.specs.Walks.{LiveAt, Reached, Stands}
+use Rattle.lin_ir.specs.Walks.{LiveAt, Reached, StandsAsLine}
 use Rattle.lin_ir.specs.declared.descr.Descr.{Descr}
 use Rattle.lin_ir.specs.declared.lin.Lin.{Lin}
 use Rattle.lin_ir.specs.declared.lin.Line.{Line}
@@ -21,17 +21,17 @@ use Rattle.rv_pieces.specs.declared.piece.Pieces.{Pieces}
 -- What is known of its lines alone, beside its text.
 pub record AreLinesOf (tree : FunctionTree) (m : Lin) : Type 0 where
   -- with exact names they do what is selected of the text's function, and never read poison
-  pub keeps : (named : NamedAt) → NamesLives m named → Keeps (selected tree) m named
+  pub keeps : (named : NamedAt) → NamesLives m named → LinearKeeps (selected tree) m named
   -- well formed and seated, control comes back to a place only by an exit, t0 does not occur
   pub regular : IsRegular m
   pub tidy : IsTidy m
   pub tight : IsTight m
   -- neither an address nor t0 is live after a frame point
   pub no_addr : NoAddrLive m
-  pub spare_dead : (i : Line) (next : List Line) (t : Comp) → Stands i next m.code →
+  pub spare_dead : (i : Line) (next : List Line) (t : Comp) → StandsAsLine i next m.code →
       LiveAt m spare t i next → ⊥
   -- frames, pushed traps and lines fit what descriptors can say
-  pub within : IsWithin m
+  pub within : FitsDescriptors m
   -- offsets of loads and of stores are words
   pub offsets : All (λ (i : Line). OffsetFits i.op) m.code
   -- no walk comes to the end of the code
@@ -42,6 +42,6 @@ pub record IsChained (tree : FunctionTree) (m : Lin) (ds : List Descr) (pieces :
     pub lines : AreLinesOf tree m
     -- a descriptor for each frame point, which names what is live after it, at colours and slots
     pub exact : AreExact m ds
-    pub count : length ds ≡ frame_points m.code
+    pub count : length ds ≡ frame_point_count m.code
     pub homes : All (NamesHomes m) ds
     pub emitted : IsEmitted m ds pieces

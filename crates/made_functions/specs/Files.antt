@@ -18,7 +18,7 @@ pub record IsFunctionMade (choices : Choices) (tree : FunctionTree) (pieces : Pi
 
 -- The tables that are made for a file: each of its functions is made into pieces, and they are laid out
 -- in their order.
-pub record IsMadeFor (choices : Choices) (file : FileTree) (t : Tables) : Type 0 where
+pub record AreTablesMadeFor (choices : Choices) (file : FileTree) (t : Tables) : Type 0 where
   pub pieces : List Pieces
   pub each : AllZip (IsFunctionMade choices) (functions file) pieces
   pub laid : IsLaidOut file pieces t

@@ -8,9 +8,9 @@ use Rattle.choices.specs.declared.choices.Order.TheVariants.{Plain}
 use Rattle.cmm_tree.specs.Tree.{FunctionTree}
 use Rattle.selection_rules.specs.Select.{selected}
 use Rattle.mach_ir.specs.declared.mach.Mach.{Mach}
-use Rattle.mach_passes.specs.Prepared.{IsPrepared}
-use Rattle.rounds_rules.specs.Rounds.{IsAllocated}
-use Rattle.lin_ir.specs.Descriptors.{AreExact, frame_points}
+use Rattle.mach_passes.specs.Prepared.{IsPreparedMach}
+use Rattle.rounds_rules.specs.Rounds.{IsRegisterAllocated}
+use Rattle.lin_ir.specs.Descriptors.{AreExact, frame_point_count}
 use Rattle.lin_ir.specs.declared.descr.Descr.{Descr}
 use Rattle.lin_ir.specs.declared.lin.Lin.{Lin}
 use Rattle.linear_pass.specs.Linear.{IsLinearOf}
@@ -25,15 +25,15 @@ pub record IsMadeOf (choices : Choices) (tree : FunctionTree) (m : Lin) (ds : Li
     (pieces : Pieces) : Type 0 where
   -- selected, and prepared for register allocation
   pub prepared : Mach
-  pub is_prepared : IsPrepared (selected tree) prepared
+  pub is_prepared : IsPreparedMach (selected tree) prepared
   -- its registers at places
   pub mach : Mach
-  pub allocated : IsAllocated choices.alloc prepared mach
+  pub allocated : IsRegisterAllocated choices.alloc prepared mach
   -- as tidy lines, and these in their order
   pub lines : Lin
   pub linear : IsLinearOf mach lines
   pub ordered : m ≡ in_order choices.order lines
   -- a descriptor for each frame point, which names what is live after it
   pub exact : AreExact m ds
-  pub count : length ds ≡ frame_points m.code
+  pub count : length ds ≡ frame_point_count m.code
   pub emitted : IsEmitted m ds pieces

@@ -7,7 +7,7 @@ use Rattle.lin_ir.specs.declared.descr.Descr.{Descr}
 use Rattle.lin_ir.specs.declared.lin.Lin.{Lin}
 use Rattle.lin_laws.proofs.Unique.{exact_unique}
 use Rattle.linear_pass.specs.Linear.{IsLinearOf}
-use Rattle.rounds_rules.specs.Rounds.{IsAllocated}
+use Rattle.rounds_rules.specs.Rounds.{IsRegisterAllocated}
 use Rattle.linear_pass.proofs.Once.{linear_once}
 use Rattle.rounds_rules.proofs.Once.{allocated_once}
 use Rattle.mach_ir.specs.declared.mach.Mach.{Mach}
@@ -25,7 +25,7 @@ module _ {choices : Choices} {tree : FunctionTree} {m n : Lin} {ds es : List Des
   prepared_once = one_prepared (selected tree) h.prepared k.prepared h.is_prepared k.is_prepared
 
   pub places_once : h.mach ≡ k.mach
-  places_once = allocated_once h.allocated (subst (λ (p : Mach). IsAllocated choices.alloc p k.mach) (sym prepared_once) k.allocated)
+  places_once = allocated_once h.allocated (subst (λ (p : Mach). IsRegisterAllocated choices.alloc p k.mach) (sym prepared_once) k.allocated)
 
   -- one Linear function, in one order
   pub lines_once : h.lines ≡ k.lines

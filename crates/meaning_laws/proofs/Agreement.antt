@@ -177,7 +177,7 @@ fewer_spend s n (suc l) p go w most then = (then (record w { left = l }) most).f
 
 pub agree_node : {s : Surroundings} {n : ℕ} (e : Expression) (h : Here) (w : World) {p : Memory → Part (Option Value)} {go : World → Evaluation} → w.left ≤ n →
     ((w : World) → w.left < n → Agrees s n p w (go w)) →
-    Agrees s n (λ m. part.node (setting_of s) e h m (p m)) w (node s e h w go)
+    Agrees s n (λ m. part.node_part (setting_of s) e h m (p m)) w (node s e h w go)
 agree_node {s} {n} e h w {p} {go} enough then =
     let type : Ty = type_of (scope h) e in
     let after : (w : World) → w.left < n → Agrees s n (λ m. part.typed s.end type (p m)) w (typed s.end type (go w)) = λ w few. agree_typed s.end type (then w few) in
@@ -221,7 +221,7 @@ agree_as_written (ret.Comp c) (Some v) h w few = agree_gives few
 agree_as_written (ret.Comp c) None h w few = agree_fails
 
 same_call : (s : Surroundings) (result : Ret) (h : Here) (k : Leaves (Option Value) → Does) (e : Evaluation) →
-    after_call (λ d w. played s (part.back_from_call result h d k) w) e ≡ follow s k (and_then (back_from_call h e) (λ v h w. as_written result v h w))
+    after_call (λ d w. played s (part.part_from_call result h d k) w) e ≡ follow s k (and_then (back_from_call h e) (λ v h w. as_written result v h w))
 same_call s result h k (Gives v there w) = (agree_as_written {s = s} result v h w (le_refl (suc w.left))).same k
 same_call s result h k (Exits label values there w) = refl
 same_call s result h k (Raises v there w) = refl
@@ -263,7 +263,7 @@ module _ {s : Surroundings} (spends : Spending s) where
 -- ---- handlers
 
 pub agree_back : {s : Surroundings} {n : ℕ} (level tries : ℕ) {p : Memory → Part (Option Value)} {w : World} {e : Evaluation} →
-    Agrees s n p w e → Agrees s n (λ m. part.back level tries (p m)) w (back level tries e)
+    Agrees s n p w e → Agrees s n (λ m. part.scope_restored level tries (p m)) w (back level tries e)
 agree_back level tries a = agree_and_then a (λ v h w few. agree_gives few)
 
 pub agree_entered : {s : Surroundings} {n : ℕ} (end : ℕ) (params : List Parameter) (values : List Value) {p : Memory → Part (Option Value)} (w : World) {e : Evaluation} →

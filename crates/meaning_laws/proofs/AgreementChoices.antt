@@ -37,7 +37,7 @@ same_handled : {s : Surroundings} {turns : ℕ} (end : ℕ) {r : Option (Ready O
 same_handled end label values level tries h w again by neither_ready most up k = refl
 same_handled {s} end label values level tries h w again by (both_ready name params {o} {e} body) most up k =
     let inside : Here = with_bound (map scoped_parameter params) values (back_in level tries h) in
-    let a : Agrees s w.left (λ m. part.entered end params values m (part.back level tries (o inside m))) w (entered end params values w (back level tries (e inside w)))
+    let a : Agrees s w.left (λ m. part.entered end params values m (part.scope_restored level tries (o inside m))) w (entered end params values w (back level tries (e inside w)))
     = agree_entered end params values w (agree_back level tries (body w.left most inside w (le_refl w.left))) in
     a.same (λ l. again l k) ∙ up (entered end params values w (back level tries (e inside w))) a.fewer k
 
@@ -46,7 +46,7 @@ fewer_handled : {s : Surroundings} {turns : ℕ} (n end : ℕ) {r : Option (Read
 fewer_handled n end label values level tries h w by neither_ready most few up = few
 fewer_handled {s} n end label values level tries h w by (both_ready name params {o} {e} body) most few up =
     let inside : Here = with_bound (map scoped_parameter params) values (back_in level tries h) in
-    let a : Agrees s w.left (λ m. part.entered end params values m (part.back level tries (o inside m))) w (entered end params values w (back level tries (e inside w)))
+    let a : Agrees s w.left (λ m. part.entered end params values m (part.scope_restored level tries (o inside m))) w (entered end params values w (back level tries (e inside w)))
     = agree_entered end params values w (agree_back level tries (body w.left most inside w (le_refl w.left))) in
     up (entered end params values w (back level tries (e inside w))) a.fewer
 

@@ -18,7 +18,7 @@ use Rattle.meaning_laws.specs.Does.{Giving, Exiting, Raising, Does, after_call, 
 use Rattle.cmm_meaning.specs.Setting.{Setting, setting_of}
 use Rattle.meaning_laws.specs.Interaction.{function_does}
 use Rattle.meaning_laws.specs.Links.{doing_of, Linked, lonely}
-use Rattle.meaning_laws.specs.Pace.{Paced, ends, pays, deepens, jumps, calls, calls_out, fails, spent, beats, beats_behind_call, beats_behind_external, beats_behind_unit, pending}
+use Rattle.meaning_laws.specs.Pace.{Paced, ends, pays, deepens, jumps, calls, calls_out, fails, spent, beats, beats_behind_call, beats_behind_external, beats_behind_unit, pending_calls}
 use Rattle.cmm_tree.specs.Measures.{nodes_in}
 use Rattle.meaning_laws.specs.Units.{world_of}
 use Rattle.meaning_fuel.specs.Whole.{whole}
@@ -100,22 +100,22 @@ module _ (s : Surroundings) (free : Free s) where
 
 -- ---- each beat is paid, and so is the call that is asked last
 
-one_pending : (why : Stop) (w : World) → pending (Stops why w) ≤ 1
+one_pending : (why : Stop) (w : World) → pending_calls (Stops why w) ≤ 1
 one_pending OutOfFuel w = omega arith
 one_pending (NotProper kind) w = omega arith
 one_pending (NoAnswer call) w = omega arith
 one_pending (Asking call) w = omega arith
 
 paid_unit : (n spare : ℕ) (w : World) (go : World → Evaluation) (count : World → ℕ) → w.left ≡ n →
-    ((v : World) → count v + (pending (go v) + (world_of (go v)).left) ≤ v.left + suc spare) →
-    beats_behind_unit n w count + (pending (spend n w go) + (world_of (spend n w go)).left) ≤ w.left + spare
+    ((v : World) → count v + (pending_calls (go v) + (world_of (go v)).left) ≤ v.left + suc spare) →
+    beats_behind_unit n w count + (pending_calls (spend n w go) + (world_of (spend n w go)).left) ≤ w.left + spare
 paid_unit zero spare w go count e on = omega arith
 paid_unit (suc m) spare w go count e on = let p = on (record w { left = m }) in omega (arith, p, e)
 
 paid_call : (spare : ℕ) (w : World) (go : Doing → World → Evaluation) (count : Doing → World → ℕ) (e : Evaluation) →
     (world_of e).left ≡ w.left →
-    ((d : Doing) (v : World) → count d v + (pending (go d v) + (world_of (go d v)).left) ≤ v.left + spare) →
-    beats_behind_call count e + (pending (after_call go e) + (world_of (after_call go e)).left) ≤ w.left + suc spare
+    ((d : Doing) (v : World) → count d v + (pending_calls (go d v) + (world_of (go d v)).left) ≤ v.left + spare) →
+    beats_behind_call count e + (pending_calls (after_call go e) + (world_of (after_call go e)).left) ≤ w.left + suc spare
 paid_call spare w go count (Gives v h u) same on = let p = on (Gave v u.memory) u in omega (arith, p, same)
 paid_call spare w go count (Exits label values h u) same on = omega (arith, same)
 paid_call spare w go count (Raises v h u) same on = let p = on (Threw v u.memory) u in omega (arith, p, same)
@@ -124,10 +124,10 @@ paid_call spare w go count (Stops why u) same on = let one = one_pending why u i
 paid_external : (spare : ℕ) (w : World) (go : Doing → World → Evaluation) (count : Doing → World → ℕ) (e : Evaluation) →
     (world_of e).left ≡ w.left →
     ((o : Option Value) (after : Memory) (v : World) →
-    count (Gave o after) v + (pending (go (Gave o after) v) + (world_of (go (Gave o after) v)).left) ≤ v.left + suc spare) →
+    count (Gave o after) v + (pending_calls (go (Gave o after) v) + (world_of (go (Gave o after) v)).left) ≤ v.left + suc spare) →
     ((a : Value) (after : Memory) (v : World) →
-    count (Threw a after) v + (pending (go (Threw a after) v) + (world_of (go (Threw a after) v)).left) ≤ v.left + spare) →
-    beats_behind_external count e + (pending (after_call go e) + (world_of (after_call go e)).left) ≤ w.left + suc spare
+    count (Threw a after) v + (pending_calls (go (Threw a after) v) + (world_of (go (Threw a after) v)).left) ≤ v.left + spare) →
+    beats_behind_external count e + (pending_calls (after_call go e) + (world_of (after_call go e)).left) ≤ w.left + suc spare
 paid_external spare w go count (Gives v h u) same on or = let p = on v u.memory u in omega (arith, p, same)
 paid_external spare w go count (Exits label values h u) same on or = omega (arith, same)
 paid_external spare w go count (Raises v h u) same on or = let p = or v u.memory u in omega (arith, p, same)
@@ -135,7 +135,7 @@ paid_external spare w go count (Stops why u) same on or = let one = one_pending 
 
 module _ (s : Surroundings) (free : Free s) where
   played_paid : {spare : ℕ} {d : Does} → Earned spare d → (w : World) →
-      beats s d w + (pending (played s d w) + (world_of (played s d w)).left) ≤ w.left + spare
+      beats s d w + (pending_calls (played s d w) + (world_of (played s d w)).left) ≤ w.left + spare
   played_paid (earned.ends {end = Giving v h memory}) w = omega arith
   played_paid (earned.ends {end = Exiting label values h memory}) w = omega arith
   played_paid (earned.ends {end = Raising v h memory}) w = omega arith
@@ -208,12 +208,12 @@ pub alone_paid : (end : ℕ) (symbol : List ℕ → Option Value) (parameters : 
     let c : Setting = record { end = end; symbol = symbol; parameters = parameters } in
     let run : Evaluation = alone end symbol parameters frame f arguments below memory doings n in
     beats (lonely end symbol parameters) (function_does c turns frame f arguments below memory) (lone_world memory doings n)
-    + (pending run + (world_of run).left) ≤ n
+    + (pending_calls run + (world_of run).left) ≤ n
 alone_paid end symbol parameters turns frame f arguments below memory doings n enough =
     let s : Surroundings = lonely end symbol parameters in
     let d : Does = function_does (setting_of s) turns frame f arguments below memory in
     let paid = played_paid s (lonely_free end symbol parameters) (function_earned (setting_of s) turns frame f arguments below memory) (lone_world memory doings n) in
-    subst (λ (e : Evaluation). beats s d (lone_world memory doings n) + (pending e + (world_of e).left) ≤ n)
+    subst (λ (e : Evaluation). beats s d (lone_world memory doings n) + (pending_calls e + (world_of e).left) ≤ n)
     (alone_plays end symbol parameters turns frame f arguments below memory doings n enough)
     (omega (arith, paid))
 
@@ -236,11 +236,11 @@ pub own_paid : {s : Surroundings} {bound : ℕ} (file : FileTree) (layout : Layo
     (l : Linked s bound (function_alone file layout call tree w.memory) w run) (turns : ℕ) → l.own ≤ turns →
     beats (lonely (data_end file) (value_of_symbol file) (map comps_of (functions file)))
     (function_does (setting_of (whole file layout)) turns (slice_index layout.frames call.function) tree call.arguments call.below w.memory)
-    (lone_world w.memory (map doing_of l.calls) l.own) + (pending l.run + l.last.left) ≤ l.own
+    (lone_world w.memory (map doing_of l.calls) l.own) + (pending_calls l.run + l.last.left) ≤ l.own
 own_paid file layout call tree w l turns enough =
     let paid = alone_paid (data_end file) (value_of_symbol file) (map comps_of (functions file)) turns (slice_index layout.frames call.function) tree
     call.arguments call.below w.memory (map doing_of l.calls) l.own enough in
-    let left : (pending (function_alone file layout call tree w.memory (map doing_of l.calls) l.own)
-    + (world_of (function_alone file layout call tree w.memory (map doing_of l.calls) l.own)).left) ≡ (pending l.run + (world_of l.run).left) =
-    ap (λ (e : Evaluation). pending e + (world_of e).left) l.is in
+    let left : (pending_calls (function_alone file layout call tree w.memory (map doing_of l.calls) l.own)
+    + (world_of (function_alone file layout call tree w.memory (map doing_of l.calls) l.own)).left) ≡ (pending_calls l.run + (world_of l.run).left) =
+    ap (λ (e : Evaluation). pending_calls e + (world_of e).left) l.is in
     omega (arith, paid, left, l.left)

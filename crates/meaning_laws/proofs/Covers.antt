@@ -18,7 +18,7 @@ use Rattle.cmm_types.specs.Types.{type_of}
 use Rattle.cmm_meaning.specs.Choices.{Ready, Chosen, case_for}
 use Rattle.cmm_meaning.specs.Evaluation.{scoped_parameter, with_bound, fit_parameters, call_from}
 use Rattle.cmm_meaning.specs.Setting.{Setting}
-use Rattle.meaning_laws.specs.Interaction.{Part, Operand, from, onward, and_then, only_value, with_value, proper, tested, of_type, both, unless_light, now_or_before, as_written, back_from_call, called_with, applied, entered, back, handled, out_of_turns, catching, chosen, looked_up, node}
+use Rattle.meaning_laws.specs.Interaction.{Part, Operand, from, onward, and_then, only_value, with_value, proper, tested, of_type, both, unless_light, now_or_before, as_written, part_from_call, called_with, applied, entered, scope_restored, handled, out_of_turns, catching, chosen, looked_up, node_part}
 use Rattle.meaning_laws.specs.Interaction as parts
 use Rattle.cmm_meaning.specs.State.{Doing, Gave, Threw, Called, Here, scope, back_in}
 use Rattle.meaning_laws.specs.Does.{Leaves, Giving, Exiting, Raising, Does, Ends, Pays, Deepens, Jumps, Calls, CallsOut, Fails, Spent}
@@ -141,7 +141,7 @@ typed_leaf end type k q (Exiting label values h m) = q (Exiting label values h m
 typed_leaf end type k q (Raising v h m) = q (Raising v h m)
 
 -- a node pays for one beat
-pub covers_node : (c : Setting) (e : Expression) (h : Here) (m : Memory) {part : Part (Option Value)} → Covers 1 part → Covers 0 (node c e h m part)
+pub covers_node : (c : Setting) (e : Expression) (h : Here) (m : Memory) {part : Part (Option Value)} → Covers 1 part → Covers 0 (node_part c e h m part)
 covers_node c e h m p =
     record {
       holds = λ r k q. pays (earned_more (suc (0 + r)) (omega arith)
@@ -183,7 +183,7 @@ covers_written (ret.Comp c) (Some v) h m = covers_gives (Some v) h m
 covers_written (ret.Comp c) None h m = covers_fails BadCall m
 
 back_earned : {r : ℕ} (result : Ret) (h : Here) (k : Leaves (Option Value) → Does) → ((l : Leaves (Option Value)) → Earned r (k l)) → (d : Doing) →
-    Earned r (back_from_call result h d k)
+    Earned r (part_from_call result h d k)
 back_earned {r} result h k q (Gave v m) =
     let p : Covers 0 (as_written result v h m) = covers_written result v h m in earned_more r (omega arith) (p.holds r k q)
 back_earned result h k q (Threw v m) = q (Raising v h m)
@@ -235,7 +235,7 @@ covers_entered data_end [] (v ∷ values) m p = covers_fails BadCall m
 covers_entered data_end (q ∷ params) [] m p = covers_fails BadCall m
 covers_entered data_end (q ∷ params) (v ∷ values) m p = covers_tested data_end (type_of_comp q.comp) v m (covers_entered data_end params values m p)
 
-pub covers_back : {n : ℕ} (level tries : ℕ) {part : Part (Option Value)} → Covers 0 part → Covers n (back level tries part)
+pub covers_back : {n : ℕ} (level tries : ℕ) {part : Part (Option Value)} → Covers 0 part → Covers n (scope_restored level tries part)
 covers_back level tries p = covers_then p (λ v h m. covers_gives v (back_in level tries h) m)
 
 covers_handled : {n : ℕ} (data_end : ℕ) {o : Option (Ready Operand)} → OneHandler Covering o → (level tries : ℕ) (label : LabelTree) (values : List Value)

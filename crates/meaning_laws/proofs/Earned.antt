@@ -14,7 +14,7 @@ use Rattle.cmm_meaning.specs.State.{Here, taken, within_try, scope, value_of, as
 use Rattle.cmm_meaning.specs.Evaluation.{is_left_first, first_of, rest_of, row_of_call, scoped_parameter, with_bound, bound_error}
 use Rattle.meaning_laws.specs.Does.{Ends}
 use Rattle.cmm_meaning.specs.Setting.{Setting}
-use Rattle.meaning_laws.specs.Interaction.{back, catching, trying, does, waiting, filled, entering, in_order, choices, readied, function_does}
+use Rattle.meaning_laws.specs.Interaction.{scope_restored, catching, trying, does, waiting, filled, entering, in_order, choices, readied, function_does}
 use Rattle.meaning_laws.proofs.Choices.{EachCase, no_case, a_case, EachHandler, no_handler, a_handler}
 use Rattle.meaning_laws.proofs.Covers.{Earned, ends, deepens, earned_more, Covers, Covering, covers_any, covers_applied, covers_back, covers_both, covers_called_out, covers_case, covers_catching, covers_cond, covers_deepens, covers_exits, covers_fails, covers_from, covers_gives, covers_jumps, covers_looked, covers_node, covers_now, covers_proper, covers_raises, covers_tested, covers_then, covers_unless, covers_value}
 
@@ -94,7 +94,7 @@ module _ (c : Setting) (turns : ℕ) where
     covers_does (Try at body name_at name handler) tail h m =
         let raised : Scoped = record { name = name; type = ty.Val; mutable = false } in
         covers_node c (Try at body name_at name handler) h m (
-        covers_from {go = trying (λ v h m. back (length h.names) h.tries (does c turns handler tail (with_bound (raised ∷ []) (v ∷ []) h) m)) (length h.names) h.tries}
+        covers_from {go = trying (λ v h m. scope_restored (length h.names) h.tries (does c turns handler tail (with_bound (raised ∷ []) (v ∷ []) h) m)) (length h.names) h.tries}
         (covers_deepens (taken (within_try h)) (covers_does body false (within_try h) m))
         (λ v inner m. covers_gives v (back_in (length h.names) h.tries inner) m)
         (λ label values h m. covers_exits label values h m)

@@ -21,7 +21,7 @@ use Rattle.meaning_laws.specs.Handed.{IsHanded, function_gave, function_threw, o
 use Rattle.cmm_meaning.specs.Setting.{Setting}
 use Rattle.meaning_laws.specs.Interaction.{function_does}
 use Rattle.meaning_laws.specs.Links.{lonely}
-use Rattle.meaning_laws.specs.Units.{world_of, Begins}
+use Rattle.meaning_laws.specs.Units.{world_of, IsPrefixOf}
 use Rattle.meaning_laws.proofs.AgreementRuns.{alone_plays}
 use Rattle.meaning_laws.proofs.Extends.{extends_same, extends_trans}
 use Rattle.meaning_laws.proofs.LawfulForms.{function_lawful}
@@ -60,7 +60,7 @@ module _ (file : FileTree) where
       }
   next_by e is none = absurd (cc)
 
-  next_call : {call : Asked} {d : Doing} {asked : List Asked} {doings : List Doing} {run : Evaluation} → Begins (asked ++ call ∷ []) (world_of run).asked →
+  next_call : {call : Asked} {d : Doing} {asked : List Asked} {doings : List Doing} {run : Evaluation} → IsPrefixOf (asked ++ call ∷ []) (world_of run).asked →
       AreHandedSince file asked (d ∷ doings) run → Next call d asked doings run
   next_call {call} {asked = asked} b l =
       let e : asked ++ l.calls ≡ asked ++ (call ∷ b.further) = sym l.is ∙ b.is ∙ append_assoc asked (call ∷ []) b.further in
@@ -81,7 +81,7 @@ module _ (file : FileTree) where
         AreHandedSince file w.asked (d ∷ doings) (played s (go (d)) u) → Next call d w.asked doings (played s (go d) u)
     behind call d go w u doings is since =
         let on = played_on (data_end file) symbol parameters (go d) u in
-        next_call (subst (λ asked. Begins asked (world_of (played s (go d) u)).asked) is on.asked) since
+        next_call (subst (λ asked. IsPrefixOf asked (world_of (played s (go d) u)).asked) is on.asked) since
 
     after_inside : (call : Asked) (go : Doing → Does) → GoesOn call.memory go → (doings : List Doing) (w : World) → Extends w.memory call.memory →
         AreHandedSince file w.asked doings (after_call (λ d v. played s (go d) v) (done_inside (data_end file) call doings (record w { memory = call.memory }))) →

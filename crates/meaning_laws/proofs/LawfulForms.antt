@@ -15,7 +15,7 @@ use Rattle.cmm_meaning.specs.State.{Here, Binding, taken, within_try, scope, val
 use Rattle.cmm_meaning.specs.Evaluation.{is_left_first, first_of, rest_of, row_of_call, fit_parameters, scoped_parameter, with_bound, bound_error}
 use Rattle.meaning_laws.specs.Does.{Leaves, Does, Ends}
 use Rattle.cmm_meaning.specs.Setting.{Setting}
-use Rattle.meaning_laws.specs.Interaction.{back, trying, does, waiting, filled, entering, in_order, choices, readied, function_does}
+use Rattle.meaning_laws.specs.Interaction.{scope_restored, trying, does, waiting, filled, entering, in_order, choices, readied, function_does}
 use Rattle.meaning_laws.specs.Fitting.{Activation, Lawful, deepens, fails}
 use Rattle.meaning_laws.proofs.LinksFirst.{PaysFirst}
 use Rattle.meaning_laws.proofs.LinksFirst as first
@@ -106,7 +106,7 @@ module _ (a : Activation) (turns : ℕ) (still : fits a.setting.end ty.Val bound
     keeps_does (Try at body name_at name handler) tail tries h m st none =
         let raised : Scoped = record { name = name; type = ty.Val; mutable = false } in
         keeps_node a (Try at body name_at name handler) h m (
-        keeps_from {go = trying (λ v h m. back (length h.names) h.tries (does c turns handler tail (with_bound (raised ∷ []) (v ∷ []) h) m)) (length h.names) h.tries}
+        keeps_from {go = trying (λ v h m. scope_restored (length h.names) h.tries (does c turns handler tail (with_bound (raised ∷ []) (v ∷ []) h) m)) (length h.names) h.tries}
         (keeps_deepens (taken (within_try h)) (keeps_operand (keeps_does body false (suc tries) (within_try h) m (st.0, st.1, ap suc st.2) (never_tail (suc tries)))))
         (λ k t. tt)
         (λ v inner m now. keeps_gives v (back_in (length h.names) h.tries inner) m (stands_back a (suc tries) tries (length h.names) h.tries inner now st.2))

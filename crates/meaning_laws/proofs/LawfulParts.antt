@@ -21,7 +21,7 @@ use Rattle.cmm_meaning.specs.State.{Doing, Gave, Threw, Here, scope, back_in}
 use Rattle.cmm_meaning.specs.Choices.{Ready, Chosen, case_for}
 use Rattle.cmm_meaning.specs.Evaluation.{scoped_parameter, with_bound, fit_parameters, stack_below, call_from}
 use Rattle.meaning_laws.specs.Does.{Leaves, Giving, Exiting, Raising, Does, Ends}
-use Rattle.meaning_laws.specs.Interaction.{Part, Operand, from, onward, and_then, only_value, with_value, proper, tested, of_type, both, unless_light, now_or_before, back_from_call, called_with, applied, entered, back, handled, out_of_turns, catching, chosen, looked_up, node}
+use Rattle.meaning_laws.specs.Interaction.{Part, Operand, from, onward, and_then, only_value, with_value, proper, tested, of_type, both, unless_light, now_or_before, part_from_call, called_with, applied, entered, scope_restored, handled, out_of_turns, catching, chosen, looked_up, node_part}
 use Rattle.meaning_laws.specs.Interaction as parts
 use Rattle.meaning_laws.specs.Fitting.{Activation, FitsResult, nothing, value as a_value, Returned, gave, threw, memory_after, FitsCallee, CallStands, OnlyTests, Lawful, gives, exits, raises, pays, deepens, jumps, calls, calls_out, fails, spent}
 use Rattle.meaning_laws.specs.Fitting as fitting
@@ -252,7 +252,7 @@ pub record KeepsNode (a : Activation) (tail : Bool) (tries : ℕ) (before : Memo
       Tail a tail (tested_then a.setting.end type k) → Lawful a before (part k)
 
 pub keeps_node : (a : Activation) {tail : Bool} {tries : ℕ} (e : Expression) (h : Here) (m : Memory) {part : Part (Option Value)} →
-    Keeps a (Tail a tail) tries m part → KeepsNode a tail tries m (type_of (scope h) e) (node a.setting e h m part)
+    Keeps a (Tail a tail) tries m part → KeepsNode a tail tries m (type_of (scope h) e) (node_part a.setting e h m part)
 keeps_node a e h m p = record { holds = λ k q t. pays (extends_same m) (p.holds (tested_then a.setting.end (type_of (scope h) e) k) q t) }
 
 pub keeps_expression : {a : Activation} {tail : Bool} {tries : ℕ} {before : Memory} {type : Ty} {part : Part (Option Value)} →
@@ -346,7 +346,7 @@ keeps_now None h m st p q = keeps_value (p h m st) q
 -- ---- calls
 
 back_lawful : (a : Activation) (tries : ℕ) {before : Memory} (result : Ret) (h : Here) (k : Leaves (Option Value) → Does) → Stands a tries h →
-    Follows a tries before k → (d : Doing) → Returned a.setting.end before d → Lawful a (memory_after d) (back_from_call result h d k)
+    Follows a tries before k → (d : Doing) → Returned a.setting.end before d → Lawful a (memory_after d) (part_from_call result h d k)
 back_lawful a tries ret.Unit h k st q (Gave v m) (gave e) = q.giving None h m st e
 back_lawful a tries (ret.Comp c) h k st q (Gave (Some v) m) (gave e) = q.giving (Some v) h m st e
 back_lawful a tries (ret.Comp c) h k st q (Gave None m) (gave e) = fails (extends_same m)
@@ -354,7 +354,7 @@ back_lawful a tries result h k st q (Threw v m) (threw fit e) = q.raising v h m 
 
 -- after a call in tail position
 tests_call : {result : Ret} {k : Leaves (Option Value) → Does} (written : Ret) (h : Here) → Tests result k → (d : Doing) →
-    OnlyTests result d (back_from_call written h d k)
+    OnlyTests result d (part_from_call written h d k)
 tests_call ret.Unit h p (Gave v m) = p.nothing v h m
 tests_call (ret.Comp c) h p (Gave (Some v) m) = p.value v h m
 tests_call (ret.Comp c) h p (Gave None m) = fitting.fails
@@ -404,7 +404,7 @@ tests_back level tries p =
     }
 
 pub keeps_back : {a : Activation} {tail : Bool} {inner tries : ℕ} {before : Memory} (level t : ℕ) → t ≡ tries → {part : Part (Option Value)} →
-    Keeps a (Tail a tail) inner before part → Keeps a (Tail a tail) tries before (back level t part)
+    Keeps a (Tail a tail) inner before part → Keeps a (Tail a tail) tries before (scope_restored level t part)
 keeps_back {a} {tail} {inner} {tries} level t same p =
     keeps_from {go = onward (λ v h m. parts.gives v (back_in level t h) m)} p (λ k f e. tests_back level t (f e))
     (λ v h m st. keeps_gives v (back_in level t h) m (stands_back a inner tries level t h st same)) keeps_exits keeps_raises

@@ -4,12 +4,12 @@ use Rattle.std.proofs.lemmas.List.{append-nil}
 use Rattle.cmm_meaning.specs.State.{Doing, World}
 use Rattle.cmm_meaning.specs.Evaluation.{Evaluation, Surroundings}
 use Rattle.meaning_laws.specs.Links.{Came, spent_by, OnItsOwn, CallsBetween, no_more, next, Linked}
-use Rattle.meaning_laws.specs.Units.{Begins, Later}
+use Rattle.meaning_laws.specs.Units.{IsPrefixOf, Later}
 use Rattle.meaning_laws.proofs.Units.{Later-trans}
 
 own_later : {w v : World} → OnItsOwn w v → Later w v
 own_later {w} {v} o =
-    let calls : Begins w.made v.made = record { further = []; is = o.made ∙ sym (append-nil w.made) } in
+    let calls : IsPrefixOf w.made v.made = record { further = []; is = o.made ∙ sym (append-nil w.made) } in
     record { onward = record { calls = calls; stack = o.stack; memory = o.memory }; units = o.units }
 
 pub called_later : {s : Surroundings} {bound : ℕ} {w v : World} {calls : List Came} → CallsBetween s bound w calls v → Later w v

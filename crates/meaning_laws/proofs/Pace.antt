@@ -15,7 +15,7 @@ use Rattle.cmm_meaning.specs.Evaluation.{is_left_first, first_of, rest_of, row_o
 use Rattle.cmm_tree.specs.Measures.{nodes_in, counts_one, row_total, bindings_total, cases_total, handlers_total}
 use Rattle.meaning_laws.specs.Does.{Ends}
 use Rattle.cmm_meaning.specs.Setting.{Setting}
-use Rattle.meaning_laws.specs.Interaction.{Part, node, back, catching, trying, does, waiting, filled, entering, in_order, choices, readied, function_does}
+use Rattle.meaning_laws.specs.Interaction.{Part, node_part, scope_restored, catching, trying, does, waiting, filled, entering, in_order, choices, readied, function_does}
 use Rattle.meaning_laws.specs.Pace.{Paced, ends, deepens}
 use Rattle.meaning_laws.proofs.Choices.{EachCase, no_case, a_case, more_cases, EachHandler, no_handler, a_handler, more_handlers}
 use Rattle.meaning_laws.proofs.Takes.{paced_more, Takes, takes_gives, takes_fails, after_takes, after_exits, after_raises, takes_jumps, takes_deepens, takes_frame, takes_first, takes_more, takes_from, takes_then, takes_value, takes_cond, takes_proper, takes_tested, takes_node, takes_looked, takes_both, waits, takes_unless, takes_now, takes_applied, takes_called_out, takes_case, Taking, more_taken, takes_back, after_catching}
@@ -27,10 +27,10 @@ waiting_nodes (More e rest) before = waits (nodes_in e) (first_of before) + wait
 
 -- a node counts for one
 takes_counted : {most n : ℕ} (c : Setting) (e : Expression) (h : Here) (m : Memory) {part : Part (Option Value)} → Takes most n (λ _. 0) part →
-    Takes most (counts_one e + n) (λ _. 0) (node c e h m part)
+    Takes most (counts_one e + n) (λ _. 0) (node_part c e h m part)
 takes_counted {most} {n} c e h m {part} p =
     let one : suc n ≡ counts_one e + n = omega arith in
-    subst (λ (k : ℕ). Takes most k (λ _. 0) (node c e h m part)) one (takes_node {n = n} c e h m p)
+    subst (λ (k : ℕ). Takes most k (λ _. 0) (node_part c e h m part)) one (takes_node {n = n} c e h m p)
 
 module _ (most : ℕ) (c : Setting) (turns : ℕ) where
   mutual
@@ -113,7 +113,7 @@ module _ (most : ℕ) (c : Setting) (turns : ℕ) where
         let raised : Scoped = record { name = name; type = ty.Val; mutable = false } in
         takes_counted c (Try at body name_at name handler) h m (
         takes_from {i = 0} {j = nodes_in handler} {mid = λ _. nodes_in handler}
-        {go = trying (λ v h m. back (length h.names) h.tries (does c turns handler tail (with_bound (raised ∷ []) (v ∷ []) h) m)) (length h.names) h.tries}
+        {go = trying (λ v h m. scope_restored (length h.names) h.tries (does c turns handler tail (with_bound (raised ∷ []) (v ∷ []) h) m)) (length h.names) h.tries}
         (takes_first (nodes_in handler) (takes_deepens (taken (within_try h)) (takes_nodes body false (within_try h) m)) (omega arith))
         (omega arith) (omega arith)
         (λ v inner m. takes_gives v (back_in (length h.names) h.tries inner) m (omega arith))

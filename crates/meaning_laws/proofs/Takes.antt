@@ -20,7 +20,7 @@ use Rattle.cmm_meaning.specs.Choices.{Ready, Chosen, case_for}
 use Rattle.cmm_meaning.specs.Evaluation.{scoped_parameter, with_bound, fit_parameters, call_from}
 use Rattle.meaning_laws.specs.Does.{Leaves, Giving, Exiting, Raising, Does}
 use Rattle.cmm_meaning.specs.Setting.{Setting}
-use Rattle.meaning_laws.specs.Interaction.{Part, Operand, from, onward, and_then, only_value, with_value, proper, tested, of_type, typed, both, unless_light, now_or_before, as_written, back_from_call, called_with, applied, entered, back, handled, out_of_turns, catching, chosen, looked_up, node}
+use Rattle.meaning_laws.specs.Interaction.{Part, Operand, from, onward, and_then, only_value, with_value, proper, tested, of_type, typed, both, unless_light, now_or_before, as_written, part_from_call, called_with, applied, entered, scope_restored, handled, out_of_turns, catching, chosen, looked_up, node_part}
 use Rattle.meaning_laws.specs.Interaction as parts
 use Rattle.meaning_laws.specs.Pace.{Paced, ends, pays, deepens, jumps, calls, calls_out, fails, spent}
 use Rattle.meaning_laws.proofs.Choices.{EachCase, OneCase, no_chosen, a_chosen, case_holds, EachHandler, OneHandler, no_ready, a_ready, ready_holds}
@@ -157,7 +157,7 @@ takes_typed : {most n : ℕ} (end : ℕ) (type : Ty) {part : Part (Option Value)
 takes_typed end type p = takes_then p (λ v h m. takes_type end type v h m)
 
 pub takes_node : {most n : ℕ} (c : Setting) (e : Expression) (h : Here) (m : Memory) {part : Part (Option Value)} → Takes most n (λ _. 0) part →
-    Takes most (suc n) (λ _. 0) (node c e h m part)
+    Takes most (suc n) (λ _. 0) (node_part c e h m part)
 takes_node {most} {n} c e h m {part} p =
     let typed_part : Takes most n (λ _. 0) (typed c.end (type_of (scope h) e) part) = takes_typed c.end (type_of (scope h) e) p in
     record { paced = λ r k le q. paced_more (suc n + r) (omega arith) (pays (typed_part.paced r k (omega arith) q)) }
@@ -204,7 +204,7 @@ takes_written ret.Unit v h m = takes_gives None h m (omega arith)
 takes_written (ret.Comp c) (Some v) h m = takes_gives (Some v) h m (omega arith)
 takes_written (ret.Comp c) None h m = takes_fails BadCall m
 
-after_call : {most : ℕ} (result : Ret) (h : Here) (d : Doing) → After most 0 (λ _. 0) (back_from_call result h d)
+after_call : {most : ℕ} (result : Ret) (h : Here) (d : Doing) → After most 0 (λ _. 0) (part_from_call result h d)
 after_call result h (Gave v m) = after_takes (takes_written result v h m)
 after_call result h (Threw v m) = after_raises v h m
 
@@ -213,7 +213,7 @@ takes_called : {most : ℕ} (c : Setting) (o : Option (List Comp)) (f : ℕ) (ar
 takes_called c None f arguments result tail h m = takes_fails BadCall m
 takes_called {most} c (Some comps) f arguments result tail h m =
     let calling : Takes most 0 (λ _. 0) (parts.calls (call_from f arguments tail h) result h m) =
-    record { paced = λ r k le q. calls (λ d. let p : After most 0 (λ _. 0) (back_from_call result h d) = after_call result h d in p.paced r k le q) } in
+    record { paced = λ r k le q. calls (λ d. let p : After most 0 (λ _. 0) (part_from_call result h d) = after_call result h d in p.paced r k le q) } in
     takes_cond (fit_parameters c.end comps arguments) calling (takes_fails BadCall m)
 
 pub takes_applied : {most : ℕ} (c : Setting) (f : Value) (arguments : List Value) (result : Ret) (tail : Bool) (h : Here) (m : Memory) →
@@ -257,7 +257,7 @@ takes_entered end [] (v ∷ values) m p = takes_fails BadCall m
 takes_entered end (q ∷ params) [] m p = takes_fails BadCall m
 takes_entered end (q ∷ params) (v ∷ values) m p = takes_tested end (type_of_comp q.comp) v m (takes_entered end params values m p)
 
-pub takes_back : {most n : ℕ} (level tries : ℕ) {part : Part (Option Value)} → Takes most n (λ _. 0) part → Takes most n (λ _. 0) (back level tries part)
+pub takes_back : {most n : ℕ} (level tries : ℕ) {part : Part (Option Value)} → Takes most n (λ _. 0) part → Takes most n (λ _. 0) (scope_restored level tries part)
 takes_back level tries p = takes_then p (λ v h m. takes_gives v (back_in level tries h) m (omega arith))
 
 after_handled : {most n : ℕ} (end : ℕ) {o : Option (Ready Operand)} → OneHandler (Taking most n) o → (level tries : ℕ) (label : LabelTree) (values : List Value)

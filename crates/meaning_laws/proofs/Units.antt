@@ -10,15 +10,15 @@ use Rattle.cmm_meaning.specs.Evaluation.{Evaluation, Gives, Exits, Raises, Stops
 use Rattle.meaning_laws.specs.Does.{Does, after_call, played}
 use Rattle.meaning_laws.specs.Fitting.{Activation, Returned, memory_after, gave, threw, Lawful, gives, exits, raises, pays, deepens, jumps, calls, calls_out, fails, spent, RaisedFits, raised_fits, given, left_by_exit, stopped, Answered, answered, answered_raise, unfit, unanswered, CallsFitAndGrow}
 use Rattle.cmm_meaning.specs.Setting.{setting_of}
-use Rattle.meaning_laws.specs.Units.{world_of, Begins, Onward, Later}
+use Rattle.meaning_laws.specs.Units.{world_of, IsPrefixOf, Onward, Later}
 use Rattle.meaning_laws.proofs.Extends.{extends_same, extends_trans}
 
 -- ---- worlds, one after the other
 
-pub Begins-same : (made : List Made) → Begins made made
+pub Begins-same : (made : List Made) → IsPrefixOf made made
 Begins-same made = record { further = []; is = sym (append-nil made) }
 
-pub Begins-trans : {a b c : List Made} → Begins a b → Begins b c → Begins a c
+pub Begins-trans : {a b c : List Made} → IsPrefixOf a b → IsPrefixOf b c → IsPrefixOf a c
 Begins-trans {a} p q = record { further = p.further ++ q.further; is = q.is ∙ ap (λ l. l ++ q.further) p.is ∙ append_assoc a p.further q.further }
 
 pub Onward-trans : {a b c : World} → Onward a b → Onward b c → Onward a c

@@ -6,7 +6,7 @@ use Rattle.cmm_meaning.specs.Layout.{Layout}
 use Rattle.cmm_meaning.specs.State.{World}
 use Rattle.cmm_meaning.specs.Evaluation.{OutOfFuel, NotProper, NoAnswer, Asking, Evaluation, Gives, Exits, Raises, Stops}
 use Rattle.cmm_meaning.specs.Run.{Run, More, Improper, first_world, first_call, finished, cmm_run}
-use Rattle.meaning_laws.specs.Units.{with_more, world_of, in_world, Begins, Onward, Continues, alike, further, RunsOn, same_run, longer_run, CallsContinue}
+use Rattle.meaning_laws.specs.Units.{with_more, world_of, in_world, IsPrefixOf, Onward, Continues, alike, further, RunsOn, same_run, longer_run, CallsContinue}
 use Rattle.meaning_fuel.specs.Whole.{whole}
 use Rattle.meaning_laws.proofs.LinksWhole.{whole_calls_continue}
 use Rattle.meaning_laws.proofs.Units.{Begins-same}
@@ -56,7 +56,7 @@ improper_stays kind (longer_run more calls stack heap) e = absurd (not_both (sym
     not_both e = cc
 
 -- The external calls of a run are the first ones of the run with more units, and its needs are no greater.
-pub calls_begin : {k : ℕ} {r longer : Run} → RunsOn k r longer → Begins r.calls longer.calls
+pub calls_begin : {k : ℕ} {r longer : Run} → RunsOn k r longer → IsPrefixOf r.calls longer.calls
 calls_begin (same_run r) = Begins-same r.calls
 calls_begin (longer_run more calls stack heap) = calls
 

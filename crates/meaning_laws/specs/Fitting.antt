@@ -38,9 +38,9 @@ pub data FitsResult (end : ℕ) : Ret → Option Value → Type 0 where
       → FitsResult end (ret.Comp c) (Some v)
 
 -- what a function of this result leaves of what it got from a callee
-abbrev pub left_of : Ret → Option Value → Option Value
-left_of ret.Unit v = None
-left_of (ret.Comp c) v = v
+abbrev pub left_of_call : Ret → Option Value → Option Value
+left_of_call ret.Unit v = None
+left_of_call (ret.Comp c) v = v
 
 -- ---- calls
 
@@ -74,7 +74,7 @@ pub record CallStands (a : Activation) (call : Called) : Type 0 where
 -- After a tail call the function only tests: where the callee gave something it ends with what its result leaves of
 -- that, or is improper; where the callee raised it raises that.
 pub data OnlyTests (result : Ret) : Doing → Does → Type 0 where
-  gives : {v given : Option Value} {h : Here} {memory : Memory} → given ≡ left_of result v →
+  gives : {v given : Option Value} {h : Here} {memory : Memory} → given ≡ left_of_call result v →
       OnlyTests result (Gave v memory) (Ends (Giving given h memory))
   raises : {v : Value} {h : Here} {memory : Memory}
       → OnlyTests result (Threw v memory) (Ends (Raising v h memory))

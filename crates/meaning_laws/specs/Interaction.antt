@@ -123,16 +123,16 @@ as_written (ret.Comp c) (Some v) h m = gives (Some v) h m
 as_written (ret.Comp c) None h m = fails BadCall m
 
 -- the activation after a call, which has changed nothing of it
-abbrev pub back_from_call : Ret → Here → Doing → Part (Option Value)
-back_from_call result h (Gave v m) = as_written result v h m
-back_from_call result h (Threw v m) = raises v h m
+abbrev pub part_from_call : Ret → Here → Doing → Part (Option Value)
+part_from_call result h (Gave v m) = as_written result v h m
+part_from_call result h (Threw v m) = raises v h m
 
 abbrev pub calls : Called → Ret → Here → Memory → Part (Option Value)
-calls call result h m k = Calls call m (λ d. back_from_call result h d k)
+calls call result h m k = Calls call m (λ d. part_from_call result h d k)
 
 abbrev pub calls_out : External → Bool → List Value → Here → Memory → Part (Option Value)
 calls_out row frame arguments h m k =
-    CallsOut row frame arguments m (λ d. back_from_call row.result h d k)
+    CallsOut row frame arguments m (λ d. part_from_call row.result h d k)
 
 abbrev pub called_with : Setting → Option (List Comp) → ℕ → List Value → Ret → Bool → Here → Memory → Part (Option Value)
 called_with c None f arguments result tail h m = fails BadCall m
@@ -155,8 +155,8 @@ entered end (p ∷ params) (v ∷ values) m part =
 entered end _ _ m part = fails BadCall m
 
 -- the scope that a catch, or a let, was entered in, where what it gives is taken
-abbrev pub back : ℕ → ℕ → Part (Option Value) → Part (Option Value)
-back level tries part = and_then part (λ v h m. gives v (back_in level tries h) m)
+abbrev pub scope_restored : ℕ → ℕ → Part (Option Value) → Part (Option Value)
+scope_restored level tries part = and_then part (λ v h m. gives v (back_in level tries h) m)
 
 abbrev pub handled : ℕ
     → Option (Ready Operand) → LabelTree → List Value → ℕ → ℕ
@@ -165,7 +165,7 @@ handled end None label values level tries h m again = exits label values h m
 handled end (Some r) label values level tries h m again =
     let inside = back_in level tries h in
     let bound : Here = with_bound (map scoped_parameter r.params) values inside in
-    from (entered end r.params values m (back level tries (r.body bound m))) again
+    from (entered end r.params values m (scope_restored level tries (r.body bound m))) again
 
 -- where a catch has no turn left, an exit to one of its handlers is still improper where its arguments do not fit
 abbrev pub out_of_turns : ℕ → Option (Ready Operand) → LabelTree → List Value → Here → Memory → Part (Option Value)
@@ -200,89 +200,89 @@ looked_up (Some v) h m = gives (Some v) h m
 looked_up None h m = fails BadValue m
 
 -- a node begins and pays a unit, and what it gives is tested against its type
-abbrev pub node : Setting → Expression → Here → Memory → Part (Option Value) → Part (Option Value)
-node c e h m part k = Pays m (typed c.end (type_of (scope h) e) part k)
+abbrev pub node_part : Setting → Expression → Here → Memory → Part (Option Value) → Part (Option Value)
+node_part c e h m part k = Pays m (typed c.end (type_of (scope h) e) part k)
 
 abbrev mutual
   -- what a function does where it evaluates an expression, if a catch may be left for so many times; `tail` says
   -- whether the expression is in tail position
   pub does : Setting → ℕ → Expression → Bool → Here → Memory → Part (Option Value)
-  does c turns (Integer at n) tail h m = node c (Integer at n) h m (gives (Some (value.Word n)) h m)
-  does c turns (Pointer at n) tail h m = node c (Pointer at n) h m (gives (Some (value.Word n)) h m)
+  does c turns (Integer at n) tail h m = node_part c (Integer at n) h m (gives (Some (value.Word n)) h m)
+  does c turns (Pointer at n) tail h m = node_part c (Pointer at n) h m (gives (Some (value.Word n)) h m)
   does c turns (Symbol at name) tail h m =
-      node c (Symbol at name) h m (looked_up (c.symbol name) h m)
-  does c turns (Name at x) tail h m = node c (Name at x) h m (looked_up (value_of h.names x) h m)
-  does c turns (Nothing at) tail h m = node c (Nothing at) h m (gives None h m)
+      node_part c (Symbol at name) h m (looked_up (c.symbol name) h m)
+  does c turns (Name at x) tail h m = node_part c (Name at x) h m (looked_up (value_of h.names x) h m)
+  does c turns (Nothing at) tail h m = node_part c (Nothing at) h m (gives None h m)
   -- no accepted text has a float
   does c turns (Float at word_at operands) tail h m = fails BadValue m
   does c turns (Let at bindings body) tail h m =
-      node c (Let at bindings body) h m (
-      and_then (entering c turns bindings h m) (λ _ inner m. back (length h.names) h.tries (does c turns body tail inner m)))
+      node_part c (Let at bindings body) h m (
+      and_then (entering c turns bindings h m) (λ _ inner m. scope_restored (length h.names) h.tries (does c turns body tail inner m)))
   does c turns (Assign at name_at name e) tail h m =
-      node c (Assign at name_at name e) h m (
+      node_part c (Assign at name_at name e) h m (
       with_value (does c turns e false h m) (λ v h m.
       tested c.end (type_named (scope h) name) v m (gives None (record h { names = assigned h.names name v }) m)))
   does c turns (Operator at op left right) tail h m =
-      node c (Operator at op left right) h m (
+      node_part c (Operator at op left right) h m (
       both (is_left_first (scope h) left right) (does c turns left false) (does c turns right false) h m (λ a b h m.
       proper (apply op (sizes m) a b) m (λ v. gives (Some v) h m)))
   does c turns (Load at chunk address) tail h m =
-      node c (Load at chunk address) h m (
+      node_part c (Load at chunk address) h m (
       with_value (does c turns address false h m) (λ a h m. proper (loaded chunk m a) m (λ v. gives (Some v) h m)))
   does c turns (Store at chunk address e) tail h m =
-      node c (Store at chunk address e) h m (
+      node_part c (Store at chunk address e) h m (
       both (is_left_first (scope h) address e) (does c turns address false) (does c turns e false) h m (λ a v h m.
       proper (stored chunk m a v) m (λ after. gives None h after)))
   does c turns (Alloc at header_at header operands) tail h m =
-      node c (Alloc at header_at header operands) h m (
+      node_part c (Alloc at header_at header operands) h m (
       and_then (waiting c turns operands h m) (λ before h m.
       and_then (filled c turns operands before h m) (λ values h m.
       proper (allocated m header values) m (λ after. gives (Some (next_block m)) h after))))
   does c turns (App at callee arguments result result_at) tail h m =
-      node c (App at callee arguments result result_at) h m (
+      node_part c (App at callee arguments result result_at) h m (
       and_then (waiting c turns arguments h m) (λ before h m.
       unless_light (is_light_address (scope h) callee) (does c turns callee false) h m (λ f h m.
       and_then (filled c turns arguments before h m) (λ values h m.
       now_or_before f (does c turns callee false) h m (λ f h m. applied c f values result tail h m)))))
   does c turns (Extcall at frame name arguments result result_at) tail h m =
-      node c (Extcall at frame name arguments result result_at) h m (
+      node_part c (Extcall at frame name arguments result result_at) h m (
       and_then (waiting c turns arguments h m) (λ before h m.
       and_then (filled c turns arguments before h m) (λ values h m.
       calls_out (row_of_call (scope h) name arguments result) frame values h m)))
   does c turns (Checkbound at bound index) tail h m =
-      node c (Checkbound at bound index) h m (
+      node_part c (Checkbound at bound index) h m (
       both (is_left_first (scope h) bound index) (does c turns bound false) (does c turns index false) h m (λ a b h m.
       proper (word_in a) m (λ bound. proper (word_in b) m (λ index.
       cond (nat_lt index bound) (gives None h m) (jumps (raises bound_error h m))))))
   does c turns (Raise at e) tail h m =
-      node c (Raise at e) h m (
+      node_part c (Raise at e) h m (
       with_value (does c turns e false h m) (λ v h m. tested c.end ty.Val v m (jumps (raises v h m))))
   does c turns (Seq at elements) tail h m =
-      node c (Seq at elements) h m (in_order c turns elements tail h m)
+      node_part c (Seq at elements) h m (in_order c turns elements tail h m)
   does c turns (If at condition on_true on_false) tail h m =
-      node c (If at condition on_true on_false) h m (
+      node_part c (If at condition on_true on_false) h m (
       with_value (does c turns condition false h m) (λ v h m.
       proper (condition_of (sizes m) v) m (λ holds.
       cond holds (does c turns on_true tail h m) (does c turns on_false tail h m))))
   does c turns (Switch at size_at size selector cases) tail h m =
-      node c (Switch at size_at size selector cases) h m (
+      node_part c (Switch at size_at size selector cases) h m (
       with_value (does c turns selector false h m) (λ v h m.
       proper (word_in v) m (λ k.
       cond (nat_lt k size) (chosen (case_for (choices c turns cases tail) k) h m) (fails SwitchRange m))))
   does c turns (Catch at body handlers) tail h m =
-      node c (Catch at body handlers) h m (
+      node_part c (Catch at body handlers) h m (
       from (does c turns body tail h m) (catching c.end turns false (readied c turns handlers tail) (length h.names) h.tries))
   does c turns (Exit at label_at label arguments) tail h m =
-      node c (Exit at label_at label arguments) h m (
+      node_part c (Exit at label_at label arguments) h m (
       and_then (waiting c turns arguments h m) (λ before h m.
       and_then (filled c turns arguments before h m) (λ values h m. jumps (exits label values h m))))
   does c turns (Try at body name_at name handler) tail h m =
-      node c (Try at body name_at name handler) h m (
+      node_part c (Try at body name_at name handler) h m (
       from (deepens (taken (within_try h)) (does c turns body false (within_try h) m))
       (trying
       (λ v h m.
       let raised : Scoped = record { name = name; type = ty.Val; mutable = false } in
-      back (length h.names) h.tries (does c turns handler tail (with_bound (raised ∷ []) (v ∷ []) h) m))
+      scope_restored (length h.names) h.tries (does c turns handler tail (with_bound (raised ∷ []) (v ∷ []) h) m))
       (length h.names) h.tries))
 
   -- the operands that are no light addresses, right to left; the others wait

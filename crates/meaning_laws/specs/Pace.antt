@@ -65,11 +65,11 @@ beats s (Spent memory) w = 0
 
 -- The call that a function alone asks for where it ends, as nothing is handed in for it: none or one. It has not come
 -- back, so it is none of the beats.
-abbrev pub pending : Evaluation → ℕ
-pending (Gives v h w) = 0
-pending (Exits label values h w) = 0
-pending (Raises v h w) = 0
-pending (Stops OutOfFuel w) = 0
-pending (Stops (NotProper kind) w) = 0
-pending (Stops (NoAnswer call) w) = 0
-pending (Stops (Asking call) w) = 1
+abbrev pub pending_calls : Evaluation → ℕ
+pending_calls (Gives v h w) = 0
+pending_calls (Exits label values h w) = 0
+pending_calls (Raises v h w) = 0
+pending_calls (Stops OutOfFuel w) = 0
+pending_calls (Stops (NotProper kind) w) = 0
+pending_calls (Stops (NoAnswer call) w) = 0
+pending_calls (Stops (Asking call) w) = 1

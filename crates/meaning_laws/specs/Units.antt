@@ -26,14 +26,14 @@ in_world f (Raises v h w) = Raises v h (f w)
 in_world f (Stops why w) = Stops why (f w)
 
 -- The second list begins with the first.
-pub record Begins {A : Type 0} (first whole : List A) : Type 0 where
+pub record IsPrefixOf {A : Type 0} (first whole : List A) : Type 0 where
   pub further : List A
   pub is : whole ≡ first ++ further
 
 -- Of two worlds of a run the second may come later: to the external calls some were added, the stack need did not
 -- fall, and the memory extends the earlier one.
 pub record Onward (w v : World) : Type 0 where
-  pub calls : Begins w.made v.made
+  pub calls : IsPrefixOf w.made v.made
   pub stack : w.stack_need ≤ v.stack_need
   pub memory : Extends w.memory v.memory
 
@@ -58,7 +58,7 @@ pub record CallsContinue (s : Surroundings) : Type 0 where
 -- Of two worlds of a function that is evaluated alone the second may come later: to the calls that it asked some
 -- were added, and the stack need did not fall. Of the memory nothing is said: what is handed in may be anything.
 pub record OnwardAlone (w v : World) : Type 0 where
-  pub asked : Begins w.asked v.asked
+  pub asked : IsPrefixOf w.asked v.asked
   pub stack : w.stack_need ≤ v.stack_need
 
 -- The same of two evaluations of a function alone: with k more units it ends alike; or it was out of units, and
@@ -76,6 +76,6 @@ pub data RunsOn (k : ℕ) : Run → Run → Type 0 where
   same_run : (r : Run) → RunsOn k r (record r { left = r.left + k })
   longer_run : {r longer : Run}
       → r.outcome ≡ More
-      → Begins r.calls longer.calls
+      → IsPrefixOf r.calls longer.calls
       → r.stack_need ≤ longer.stack_need
       → r.heap_need ≤ longer.heap_need → RunsOn k r longer

@@ -3,7 +3,7 @@ use Rattle.std.specs.Prelude.{ℕ, ◌%◌, ◌==◌, true, false, []}
 use Rattle.bs_words.specs.Word.{add_word}
 use Rattle.rv_machine.specs.Placement.{drawn_plan}
 use Rattle.rv_machine.specs.Run.{Schedule}
-use Rattle.mover_plans.specs.Words.{word}
+use Rattle.mover_plans.specs.Words.{seed_word}
 
 -- no asks and no plans
 abbrev pub never : Schedule
@@ -17,6 +17,6 @@ every = record { asks = λ k. true; plan = λ s blocks. [] }
 -- and at each service the plan that is drawn by its word of the next seed.
 abbrev pub seeded : ℕ → Schedule
 seeded seed = record {
-  asks = λ k. word seed k % 64 == 0;
-  plan = λ s blocks. drawn_plan (word (add_word seed 1) s) blocks;
+  asks = λ k. seed_word seed k % 64 == 0;
+  plan = λ s blocks. drawn_plan (seed_word (add_word seed 1) s) blocks;
 }

@@ -5,9 +5,9 @@ use Rattle.rand_pcg.specs.Lcg.{Lcg, advance}
 use Rattle.rand_pcg.specs.Pcg.{multiplier_64, pcg32, pcg32_of_seed}
 
 -- the generator of a seed after so many words
-unfoldable pub generator : ℕ → ℕ → Lcg
-generator seed k = advance 64 multiplier_64 k (pcg32_of_seed (pcg32_seed 16 seed))
+unfoldable pub generator_after : ℕ → ℕ → Lcg
+generator_after seed k = advance 64 multiplier_64 k (pcg32_of_seed (pcg32_seed 16 seed))
 
 -- word number k of a seed, from 0
-unfoldable pub word : ℕ → ℕ → ℕ
-word seed k = (pcg32 (generator seed k)).0
+unfoldable pub seed_word : ℕ → ℕ → ℕ
+seed_word seed k = (pcg32 (generator_after seed k)).0

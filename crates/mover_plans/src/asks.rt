@@ -1,7 +1,7 @@
 //! The asks of a seed.
 ghost use Rattle.std.specs.Prelude.{◌≡◌, ◌%◌, ◌==◌};
 ghost use Rattle.rand_pcg.specs.Pcg.{pcg32};
-ghost use Rattle.mover_plans.specs.Words.{generator};
+ghost use Rattle.mover_plans.specs.Words.{generator_after};
 
 use rand_core::SeedableRng;
 use rand_core::utils::NextWord;
@@ -25,7 +25,7 @@ impl Model for SeededAsks {
 impl SeededAsks {
     /// The asks of a seed, from the first instruction on.
     pub fn new(seed: u64) -> Self
-        ensures { result ≡ generator seed 0 }
+        ensures { result ≡ generator_after seed 0 }
     {
         SeededAsks {
             words: Lcg64Xsh32::seed_from_u64(seed),

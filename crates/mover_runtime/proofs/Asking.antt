@@ -5,7 +5,7 @@ use Rattle.std.specs.List.{list_any}
 use Rattle.rand_pcg.specs.Lcg.{Lcg}
 use Rattle.rand_pcg.specs.Pcg.{pcg32}
 use Rattle.rv_machine.specs.Run.{is_among}
-use Rattle.mover_plans.specs.Words.{generator, word}
+use Rattle.mover_plans.specs.Words.{generator_after, seed_word}
 use Rattle.mover_plans.proofs.Drawing.{generator-more}
 use Rattle.mover_runtime.specs.Schedules.{schedule_of}
 use Rattle.mover_runtime.specs.Standing.{StandsAt}
@@ -20,8 +20,8 @@ among-any [] k = refl
 among-any (n ∷ ns) k = ap (λ b. (n == k) || b) (among-any ns k)
 
 -- a word of the generator that is there, and the one after it
-seeded-asks : (seed k : ℕ) (words : Lcg) (r : Bool) → words ≡ generator seed k → r ≡ ((pcg32 words).0 % 64 == 0) → r ≡ (word seed k % 64 == 0)
-unfolding word
+seeded-asks : (seed k : ℕ) (words : Lcg) (r : Bool) → words ≡ generator_after seed k → r ≡ ((pcg32 words).0 % 64 == 0) → r ≡ (seed_word seed k % 64 == 0)
+unfolding seed_word
 seeded-asks seed k words r at e = e ∙ ap (λ (g : Lcg). (pcg32 g).0 % 64 == 0) at
 
 asks-drawn-by : (s : Schedule) (k : ℕ) (words : Lcg) (r : Bool) → r ≡ ((pcg32 words).0 % 64 == 0) → StandsAt s k (drawn.Seeded words) → r ≡ (schedule_of s).asks k

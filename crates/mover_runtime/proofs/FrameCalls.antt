@@ -9,26 +9,26 @@ use Rattle.bs_words.specs.declared.values.Obs.{Obs}
 use Rattle.rv_machine.specs.FrameCalls.{collected, has_trap_frame, raised, with_answer}
 use Rattle.rv_machine.specs.Hart.{Hart, Placed}
 use Rattle.rv_machine.specs.Relocation.{Serviced}
-use Rattle.rv_machine.specs.Services.{Machine, Going, Over, Asks, Stopped, after_collection, cleared, concluded, destroyed, filled, frame_answered, returned_with}
+use Rattle.rv_machine.specs.Services.{Machine, Going, Over, Asks, Stopped, after_collection, cleared, concluded, destroyed, filled_registers, machine_frame_answered, returned_with}
 use Rattle.rv_machine.specs.Step.{registers_after}
 use Rattle.rv_machine.specs.Text.{calls_text, shown_text}
 use Rattle.rv_machine.specs.declared.cause.Cause.TheVariants.{BadFrame}
-use Rattle.mover_runtime.specs.Calling.{made, wanted}
+use Rattle.mover_runtime.specs.Calling.{shown_call, wanted}
 use Rattle.mover_runtime.specs.Outcome.{calling_none}
 use Rattle.mover_runtime.proofs.Runs.{state}
 
 module _ (plan : List Placed → List ℕ) (ret : Ret) (call : Made) (answers : List ℕ) (m : Machine) where
-  pub asks : length answers ≤ 1 → frame_answered plan ret call answers m ≡ Over m.calls (Asks call)
+  pub asks : length answers ≤ 1 → machine_frame_answered plan ret call answers m ≡ Over m.calls (Asks call)
   asks few = by answers few
     where
-      by : (xs : List ℕ) → length xs ≤ 1 → frame_answered plan ret call xs m ≡ Over m.calls (Asks call)
+      by : (xs : List ℕ) → length xs ≤ 1 → machine_frame_answered plan ret call xs m ≡ Over m.calls (Asks call)
       by [] few = refl
       by (x ∷ []) few = refl
       by (x ∷ y ∷ xs) few = absurd (omega arith)
 
   module _ (first value : ℕ) (left : List ℕ) (two : answers ≡ first ∷ value ∷ left) where
-    pub comes : (came : Serviced) → collected plan m.hart ≡ came → frame_answered plan ret call answers m ≡ after_collection ret call first value left came m
-    comes came e = ap (λ (xs : List ℕ). frame_answered plan ret call xs m) two ∙ ap (λ (a : Serviced). after_collection ret call first value left a m) e
+    pub comes : (came : Serviced) → collected plan m.hart ≡ came → machine_frame_answered plan ret call answers m ≡ after_collection ret call first value left came m
+    comes came e = ap (λ (xs : List ℕ). machine_frame_answered plan ret call xs m) two ∙ ap (λ (a : Serviced). after_collection ret call first value left a m) e
 
 -- the answers after the next two
 pub two_left : (xs : List ℕ) (k a b : ℕ) (left : List ℕ) → drop k xs ≡ a ∷ b ∷ left → (drop (k + 2) xs ≡ left) × (k + 2 ≤ length xs)
@@ -41,7 +41,7 @@ two_left (x ∷ xs) (suc k) a b left e =
     let n : suc k + 2 ≡ suc (k + 2) = omega arith in
     (ap (λ (j : ℕ). drop j (x ∷ xs)) n ∙ later.0, omega (arith, later.1))
 
-registers_are : (ret : Ret) (value : ℕ) (registers : List ℕ) → registers_after (wanted ret value) registers ≡ with_answer ret value (filled destroyed registers)
+registers_are : (ret : Ret) (value : ℕ) (registers : List ℕ) → registers_after (wanted ret value) registers ≡ with_answer ret value (filled_registers destroyed registers)
 registers_are returns.Unit value registers = refl
 registers_are (returns.Comp c) value registers = refl
 
@@ -72,7 +72,7 @@ module _ (ret : Ret) (call : Made) (first value : ℕ) (left : List ℕ) (h new 
       by (suc n) ne = cond-false (has_trap_frame h) _ _ trap
 
 -- the line of a call
-pub line_is : (name : List ℕ) (shown : List Obs) → ((codes "call " ++ name) ++ shown_text shown) ++ codes "\n" ≡ calls_text (made name shown ∷ [])
+pub line_is : (name : List ℕ) (shown : List Obs) → ((codes "call " ++ name) ++ shown_text shown) ++ codes "\n" ≡ calls_text (shown_call name shown ∷ [])
 line_is name shown =
     ap (λ (t : List ℕ). t ++ codes "\n") (append_assoc (codes "call ") name (shown_text shown))
     ∙ sym (append-nil ((codes "call " ++ (name ++ shown_text shown)) ++ codes "\n"))

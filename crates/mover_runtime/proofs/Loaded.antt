@@ -8,7 +8,7 @@ use Rattle.image_form.specs.Image.{AreTables, EachNext, First, IsBehind}
 use Rattle.image_form.specs.Tables.{Tables, Func}
 use Rattle.rv_machine.specs.Loading.{func_named}
 use Rattle.rv_machine.specs.Memory.{code_start}
-use Rattle.rv_machine.specs.Run.{after, machine_run, seen}
+use Rattle.rv_machine.specs.Run.{now_after, machine_run, seen}
 use Rattle.rv_machine.specs.Services.{Going}
 use Rattle.rv_machine.specs.Start.{start}
 use Rattle.mover_runtime.specs.Outcome.{calling_none, entry_result, result_at, run_of}
@@ -52,5 +52,5 @@ pub loaded_run : (image : Tables) (name : List ℕ) (entry : Func) (args answers
     → AreTables image → func_named name image.funcs ≡ Some entry
     → run_of (start image entry args stack heap) answers schedule limit ≡ machine_run image entry args answers stack heap (schedule_of schedule) limit
 loaded_run image name entry args answers stack heap schedule limit t k =
-    ap (λ (r : Ret). seen (after (schedule_of schedule) limit (Going (calling_none (start image entry args stack heap) r answers))))
+    ap (λ (r : Ret). seen (now_after (schedule_of schedule) limit (Going (calling_none (start image entry args stack heap) r answers))))
     (entry_result-start image name entry args stack heap t k)

@@ -10,9 +10,9 @@ use Rattle.rv_isa.specs.Decoding.{decoded}
 use Rattle.rv_isa.specs.declared.instr.Instr.{Instr}
 use Rattle.rv_isa.specs.declared.instr.Instr.TheVariants.{Lui, Auipc, Jal, Jalr, Branch, Load, Store, OpImm, Shift, Op, Addiw, ShiftWord, OpWord, Ecall}
 use Rattle.rv_isa.specs.declared.instr.LoadWidth.{LoadWidth}
-use Rattle.rv_machine.specs.Allocation.{after_request, allocated, blocks_at_request, bytes_asked}
+use Rattle.rv_machine.specs.Allocation.{after_request, allocation_served, blocks_at_request, bytes_asked}
 use Rattle.rv_machine.specs.FrameCalls.{collected, has_trap_frame, raised}
-use Rattle.rv_machine.specs.Relocation.{Serviced, Goes, NoHeap, Refused, and_then, are_roots, emptied, relocated, with_blocks, with_frames}
+use Rattle.rv_machine.specs.Relocation.{Serviced, Goes, NoHeap, Refused, serve_then, are_roots, emptied, relocated, with_blocks, with_frames}
 use Rattle.rv_machine.specs.Observation.{blocks_at}
 use Rattle.rv_machine.specs.Arithmetic.{imm_i, imm_b, imm_j, is_taken}
 use Rattle.rv_machine.specs.Frames.{Frame, frames}
@@ -21,12 +21,12 @@ use Rattle.rv_machine.specs.Hart as next
 use Rattle.rv_machine.specs.Memory.{Region}
 use Rattle.rv_machine.specs.Placement.{bytes_used, new_places}
 use Rattle.rv_machine.specs.Run.{Schedule, after_next}
-use Rattle.rv_machine.specs.Services.{Machine, Now, Going, Over, Stopped, after_allocation, after_collection, answered, call_made, called, cleared, concluded, external, external_at, frame_answered, frame_call, service, served}
-use Rattle.rv_machine.specs.Step.{count, counted, counted_next, next_of}
+use Rattle.rv_machine.specs.Services.{Machine, Now, Going, Over, Stopped, after_allocation, after_collection, machine_answered, call_made, called, cleared, concluded, external, external_at, machine_frame_answered, frame_call, service, served}
+use Rattle.rv_machine.specs.Step.{count, with_retired_counted, counted_next, next_of}
 use Rattle.rv_machine.specs.Step as ended
 use Rattle.rv_machine.specs.declared.step_end.StepEnd.{StepEnd}
 use Rattle.rv_machine.specs.declared.step_end.StepEnd.TheVariants as step
-use Rattle.alloc_service.specs.Plan.{Keeps, Serves, both_counted, services_counted, with_counts}
+use Rattle.alloc_service.specs.Plan.{StaysUnlessServed, Serves, both_counted, services_counted, with_counts}
 use Rattle.alloc_service.specs.declared.service_end.ServiceEnd.{ServiceEnd}
 use Rattle.alloc_service.specs.declared.service_end.ServiceEnd.TheVariants as service_end
 use Rattle.rv_machine.specs.declared.cause.Cause.TheVariants.{BadFetch, BadFrame, BadRoot}
@@ -51,7 +51,7 @@ sets-retires rd value address h =
     either h.retired h.services ((rd == 2) && nat_lt value h.stack_base) next.StackOut
     (next.goes_to address (record h { registers = next.with_register rd value h.registers })) tt (refl, refl)
 
-jumps-retires : (n s target : ℕ) (nx : Next) → NextRetires n s nx → NextRetires n s (next.jumps target nx)
+jumps-retires : (n s target : ℕ) (nx : Next) → NextRetires n s nx → NextRetires n s (next.jumps_if_aligned target nx)
 jumps-retires n s target nx r = either n s (target % 4 == 0) nx (next.Stopped BadFetch) r tt
 
 loads-retires : (bytes : Option ℕ) (width : LoadWidth) (rd : ℕ) (h : Hart) → NextRetires h.retired h.services (loads bytes width rd h)
@@ -74,7 +74,7 @@ executed-retires (Jalr rd rs1 imm) h =
     jumps-retires h.retired h.services target (next.sets rd (h.pc + 4) target h) (sets-retires rd (h.pc + 4) target h)
 executed-retires (Branch condition rs1 rs2 offset) h =
     let target = add_word h.pc (imm_b offset) in
-    either h.retired h.services (is_taken condition (register h rs1) (register h rs2)) (next.jumps target (next.goes_to target h)) (next.goes_to (h.pc + 4) h)
+    either h.retired h.services (is_taken condition (register h rs1) (register h rs2)) (next.jumps_if_aligned target (next.goes_to target h)) (next.goes_to (h.pc + 4) h)
     (jumps-retires h.retired h.services target (next.goes_to target h) (refl, refl)) (refl, refl)
 executed-retires (Load width rd rs1 imm) h = loads-retires _ width rd h
 executed-retires (Store width rs1 rs2 imm) h = stores-retires _ h
@@ -126,18 +126,18 @@ blocks-move plan h (Some blocks) =
     let g = record h { blocks = blocks } in
     either_of h.retired h.services (nat_le (bytes_used blocks) h.heap) (with_frames plan g (frames g)) NoHeap (frames-move plan g (frames g)) tt
 
-request-moves : (n s bytes : ℕ) (came : Serviced) → Moves n s came → Moves (suc n) s (and_then (after_request bytes) came)
+request-moves : (n s bytes : ℕ) (came : Serviced) → Moves n s came → Moves (suc n) s (serve_then (after_request bytes) came)
 request-moves n s bytes (Goes h) m = (ap suc m.0, m.1)
 request-moves n s bytes NoHeap m = tt
 request-moves n s bytes (Refused cause) m = tt
 
-empty-moves : (n s : ℕ) (came : Serviced) → Moves n s came → Moves n s (and_then (λ g. Goes (emptied 0 g)) came)
+empty-moves : (n s : ℕ) (came : Serviced) → Moves n s came → Moves n s (serve_then (λ g. Goes (emptied 0 g)) came)
 empty-moves n s (Goes h) m = m
 empty-moves n s NoHeap m = tt
 empty-moves n s (Refused cause) m = tt
 
-pub allocated-moves : (plan : List Placed → List ℕ) (h : Hart) → Moves (suc h.retired) h.services (allocated plan h)
-unfolding allocated
+pub allocated-moves : (plan : List Placed → List ℕ) (h : Hart) → Moves (suc h.retired) h.services (allocation_served plan h)
+unfolding allocation_served
 allocated-moves plan h = request-moves h.retired h.services (bytes_asked h) (with_blocks plan h (blocks_at_request h)) (blocks-move plan h (blocks_at_request h))
 
 pub collected-moves : (plan : List Placed → List ℕ) (h : Hart) → Moves h.retired h.services (collected plan h)
@@ -148,7 +148,7 @@ allocation-retires n s (Goes h) m r = (r.0, omega (arith, r.1))
 allocation-retires n s NoHeap m r = tt
 allocation-retires n s (Refused cause) m r = tt
 
-answered-retires : (ret : Ret) (call : Made) (answers : List ℕ) (m : Machine) → Retires m.hart.retired m.hart.services (answered ret call answers m)
+answered-retires : (ret : Ret) (call : Made) (answers : List ℕ) (m : Machine) → Retires m.hart.retired m.hart.services (machine_answered ret call answers m)
 answered-retires returns.Unit call answers m = (refl, omega arith)
 answered-retires (returns.Comp c) call [] m = tt
 answered-retires (returns.Comp c) call (a ∷ answers) m = (refl, omega arith)
@@ -171,7 +171,7 @@ collection-retires n s ret call first value answers (Goes h) m r = concluded-ret
 collection-retires n s ret call first value answers NoHeap m r = tt
 collection-retires n s ret call first value answers (Refused cause) m r = tt
 
-frame-retires : (plan : List Placed → List ℕ) (ret : Ret) (call : Made) (answers : List ℕ) (m : Machine) → Retires m.hart.retired m.hart.services (frame_answered plan ret call answers m)
+frame-retires : (plan : List Placed → List ℕ) (ret : Ret) (call : Made) (answers : List ℕ) (m : Machine) → Retires m.hart.retired m.hart.services (machine_frame_answered plan ret call answers m)
 frame-retires plan ret call [] m = tt
 frame-retires plan ret call (first ∷ []) m = tt
 frame-retires plan ret call (first ∷ value ∷ answers) m =
@@ -186,7 +186,7 @@ served-retires plans zero m = tt
 served-retires plans (suc zero) m = tt
 served-retires plans (suc (suc zero)) m = external-retires (external_at m.hart) m
 served-retires plans (suc (suc (suc zero))) m =
-    allocation-retires m.hart.retired m.hart.services (allocated (plans m.hart.services) m.hart) m (allocated-moves (plans m.hart.services) m.hart)
+    allocation-retires m.hart.retired m.hart.services (allocation_served (plans m.hart.services) m.hart) m (allocated-moves (plans m.hart.services) m.hart)
 served-retires plans (suc (suc (suc (suc zero)))) m = call-retires (plans m.hart.services) (external_at m.hart) m
 served-retires plans (suc (suc (suc (suc (suc n))))) m = tt
 
@@ -220,7 +220,7 @@ retires schedule b h new result answers left calls e =
 pub count_small : (n : ℕ) → n < 2 ^ 64 → count n ≡ n
 count_small n small = omega arith
 
-pub counted_is : (h : Hart) → h.retired < 2 ^ 64 → counted h ≡ h
+pub counted_is : (h : Hart) → h.retired < 2 ^ 64 → with_retired_counted h ≡ h
 counted_is h small = ap (λ (n : ℕ). record h { retired = n }) (count_small h.retired small)
 
 next_counted : (n s : ℕ) (nx : Next) → n < 2 ^ 64 - 1 → NextRetires n s nx → counted_next nx ≡ nx
@@ -244,8 +244,8 @@ services_of n s (Goes h) b m = ap (λ (k : ℕ). Goes (record h { services = k }
 services_of n s NoHeap b m = refl
 services_of n s (Refused cause) b m = refl
 
-pub allocated_counted : (plan : List Placed → List ℕ) (h : Hart) → h.retired < 2 ^ 64 - 1 → h.services < 2 ^ 64 - 1 → with_counts both_counted (allocated plan h) ≡ allocated plan h
-allocated_counted plan h a b = both_of h.retired h.services (allocated plan h) a b (allocated-moves plan h)
+pub allocated_counted : (plan : List Placed → List ℕ) (h : Hart) → h.retired < 2 ^ 64 - 1 → h.services < 2 ^ 64 - 1 → with_counts both_counted (allocation_served plan h) ≡ allocation_served plan h
+allocated_counted plan h a b = both_of h.retired h.services (allocation_served plan h) a b (allocated-moves plan h)
 
 pub collected_counted : (plan : List Placed → List ℕ) (h : Hart) → h.services < 2 ^ 64 - 1 → with_counts services_counted (collected plan h) ≡ collected plan h
 collected_counted plan h b = services_of h.retired h.services (collected plan h) b (collected-moves plan h)
@@ -253,28 +253,28 @@ collected_counted plan h b = services_of h.retired h.services (collected plan h)
 -- ---- what the code reports
 
 -- a step retires one instruction at most
-pub step-most : (end : StepEnd) (h new : Hart) → next_of end new ≡ hart h → ended.Keeps end h new → new.retired ≤ suc h.retired
+pub step-most : (end : StepEnd) (h new : Hart) → next_of end new ≡ hart h → ended.StaysUnlessRetired end h new → new.retired ≤ suc h.retired
 step-most end h new e k = by_end end (subst (NextRetires h.retired h.services) (sym e) (hart-retires h)) k
   where
-    by_end : (end : StepEnd) → NextRetires h.retired h.services (next_of end new) → ended.Keeps end h new → new.retired ≤ suc h.retired
+    by_end : (end : StepEnd) → NextRetires h.retired h.services (next_of end new) → ended.StaysUnlessRetired end h new → new.retired ≤ suc h.retired
     by_end step.Retired r k = omega (arith, r.0)
     by_end step.Service r k = omega (arith, r.0)
     by_end step.StackOut r k = let same : new.retired ≡ h.retired = ap (λ (g : Hart). g.retired) k in omega (arith, same)
     by_end (step.Stopped cause) r k = let same : new.retired ≡ h.retired = ap (λ (g : Hart). g.retired) k in omega (arith, same)
 
 -- a service that goes on has retired so many, and another one none
-service-count : (n s : ℕ) (end : ServiceEnd) (came : Serviced) (h new : Hart) → Moves n s came → Serves end came new → Keeps end h new →
+service-count : (n s : ℕ) (end : ServiceEnd) (came : Serviced) (h new : Hart) → Moves n s came → Serves end came new → StaysUnlessServed end h new →
     (new.retired ≡ n) ⊎ (new.retired ≡ h.retired)
 service-count n s service_end.Goes came h new m e k = let r : Moves n s (Goes new) = subst (Moves n s) e m in inl r.0
 service-count n s service_end.HeapOut came h new m e k = inr (ap (λ (g : Hart). g.retired) k)
 service-count n s (service_end.Stopped cause) came h new m e k = inr (ap (λ (g : Hart). g.retired) k)
 
-pub allocated-most : (plan : List Placed → List ℕ) (end : ServiceEnd) (h new : Hart) → Serves end (allocated plan h) new → Keeps end h new →
+pub allocated-most : (plan : List Placed → List ℕ) (end : ServiceEnd) (h new : Hart) → Serves end (allocation_served plan h) new → StaysUnlessServed end h new →
     new.retired ≤ suc h.retired
 allocated-most plan end h new e k =
-    ⊎_elim (λ r. omega (arith, r)) (λ r. omega (arith, r)) (service-count (suc h.retired) h.services end (allocated plan h) h new (allocated-moves plan h) e k)
+    ⊎_elim (λ r. omega (arith, r)) (λ r. omega (arith, r)) (service-count (suc h.retired) h.services end (allocation_served plan h) h new (allocated-moves plan h) e k)
 
-pub collected-none : (plan : List Placed → List ℕ) (end : ServiceEnd) (h new : Hart) → Serves end (collected plan h) new → Keeps end h new →
+pub collected-none : (plan : List Placed → List ℕ) (end : ServiceEnd) (h new : Hart) → Serves end (collected plan h) new → StaysUnlessServed end h new →
     new.retired ≡ h.retired
 collected-none plan end h new e k =
     ⊎_elim (λ r. r) (λ r. r) (service-count h.retired h.services end (collected plan h) h new (collected-moves plan h) e k)

@@ -11,7 +11,7 @@ use Rattle.bs_words.specs.declared.types.Ret.TheVariants as returns
 use Rattle.image_form.specs.Tables.{Tables, tables, ext}
 use Rattle.image_form.specs.declared.image.Image as declared
 use Rattle.image_form.specs.declared.image.ExtRow.{ExtRow}
-use Rattle.rv_machine.specs.Services.{Machine, Over, Asks, answered}
+use Rattle.rv_machine.specs.Services.{Machine, Over, Asks, machine_answered}
 
 pub ext_at : (image : declared.Image) (t : Tables) (i j : ℕ) (o : Option ExtRow) → tables image ≡ t → i ≡ j → o ≡ slice_get (contents image.extcs) i
     → slice_get t.extcs j ≡ option_map ext o
@@ -32,5 +32,5 @@ none_taken (x ∷ xs) zero e = absurd (omega arith)
 none_taken (x ∷ xs) (suc i) e = none_taken xs i (omega arith)
 
 pub asks_now : (ret : Ret) (comp : Comp) (call : Made) (answers : List ℕ) (m : Machine) → ret ≡ returns.Comp comp → answers ≡ []
-    → answered ret call answers m ≡ Over m.calls (Asks call)
-asks_now ret comp call answers m e n = ap (λ (r : Ret). answered r call answers m) e ∙ ap (λ (as' : List ℕ). answered (returns.Comp comp) call as' m) n
+    → machine_answered ret call answers m ≡ Over m.calls (Asks call)
+asks_now ret comp call answers m e n = ap (λ (r : Ret). machine_answered r call answers m) e ∙ ap (λ (as' : List ℕ). machine_answered (returns.Comp comp) call as' m) n

@@ -5,12 +5,12 @@ use Rattle.bs_words.specs.External.{External}
 use Rattle.bs_words.specs.Observed.{Made}
 use Rattle.bs_words.specs.declared.types.Ret.{Ret}
 use Rattle.bs_words.specs.declared.types.Ret.TheVariants as returns
-use Rattle.rv_machine.specs.Allocation.{allocated}
+use Rattle.rv_machine.specs.Allocation.{allocation_served}
 use Rattle.rv_machine.specs.Relocation.{Serviced, Goes, NoHeap, Refused}
 use Rattle.rv_machine.specs.Hart.{Hart, Placed, Next, hart, register}
 use Rattle.rv_machine.specs.Hart as next
-use Rattle.rv_machine.specs.Run.{Schedule, after, after_next, one, seen, perhaps_asked}
-use Rattle.rv_machine.specs.Services.{End, Machine, Now, Going, Over, Running, Asks, StackOut, HeapOut, Stopped, after_allocation, after_collection, answered, call_made, called, cleared, concluded, external, external_at, frame_answered, frame_call, service, served}
+use Rattle.rv_machine.specs.Run.{Schedule, now_after, after_next, one, seen, perhaps_asked}
+use Rattle.rv_machine.specs.Services.{End, Machine, Now, Going, Over, Running, Asks, StackOut, HeapOut, Stopped, after_allocation, after_collection, machine_answered, call_made, called, cleared, concluded, external, external_at, machine_frame_answered, frame_call, service, served}
 use Rattle.rv_machine.specs.FrameCalls.{collected, has_trap_frame, raised}
 use Rattle.rv_machine.specs.declared.cause.Cause.TheVariants.{BadFrame}
 use Rattle.rv_machine.specs.Text.{calls_text, made_text, end_text, outcome_text}
@@ -30,7 +30,7 @@ over_behind : (cs : List Made) (end : End) → Over cs end ≡ behind cs (Over [
 over_behind cs end = ap (λ (calls : List Made). Over calls end) (sym (append-nil cs))
 
 answered_behind : (ret : Ret) (call : Made) (h : Hart) (result : Ret) (answers all : List ℕ) (cs : List Made)
-    → answered ret call answers (state h result all cs) ≡ behind cs (answered ret call answers (state h result all []))
+    → machine_answered ret call answers (state h result all cs) ≡ behind cs (machine_answered ret call answers (state h result all []))
 answered_behind returns.Unit call h result answers all cs = refl
 answered_behind (returns.Comp c) call h result [] all cs = over_behind cs (Asks call)
 answered_behind (returns.Comp c) call h result (a ∷ answers) all cs = refl
@@ -63,7 +63,7 @@ collection_behind ret call first value left NoHeap h result all cs = over_behind
 collection_behind ret call first value left (Refused cause) h result all cs = over_behind cs (Stopped cause)
 
 frame_behind : (plan : List Placed → List ℕ) (ret : Ret) (call : Made) (answers : List ℕ) (h : Hart) (result : Ret) (all : List ℕ) (cs : List Made)
-    → frame_answered plan ret call answers (state h result all cs) ≡ behind cs (frame_answered plan ret call answers (state h result all []))
+    → machine_frame_answered plan ret call answers (state h result all cs) ≡ behind cs (machine_frame_answered plan ret call answers (state h result all []))
 frame_behind plan ret call [] h result all cs = over_behind cs (Asks call)
 frame_behind plan ret call (first ∷ []) h result all cs = over_behind cs (Asks call)
 frame_behind plan ret call (first ∷ value ∷ left) h result all cs = collection_behind ret call first value left (collected plan h) h result all cs
@@ -81,7 +81,7 @@ served_behind : (plans : Plans) (n : ℕ) (h : Hart) (result : Ret) (answers : L
 served_behind plans zero h result answers cs = over_behind cs _
 served_behind plans (suc zero) h result answers cs = over_behind cs _
 served_behind plans (suc (suc zero)) h result answers cs = external_behind (external_at h) h result answers cs
-served_behind plans (suc (suc (suc zero))) h result answers cs = allocation_behind (allocated (plans h.services) h) h result answers cs
+served_behind plans (suc (suc (suc zero))) h result answers cs = allocation_behind (allocation_served (plans h.services) h) h result answers cs
 served_behind plans (suc (suc (suc (suc zero)))) h result answers cs = call_behind (plans h.services) (external_at h) h result answers cs
 served_behind plans (suc (suc (suc (suc (suc n))))) h result answers cs = over_behind cs _
 
@@ -120,7 +120,7 @@ next_grows schedule (next.Service h) m = (
 next_grows schedule next.StackOut m = (last_line StackOut, outcome_line m.calls StackOut)
 next_grows schedule (next.Stopped cause) m = (last_line (Stopped cause), outcome_line m.calls (Stopped cause))
 
-pub grows : (schedule : Schedule) (n : ℕ) (now : Now) → (rest : List ℕ) × (outcome_text (seen (after schedule n now)) ≡ progress_text now ++ rest)
+pub grows : (schedule : Schedule) (n : ℕ) (now : Now) → (rest : List ℕ) × (outcome_text (seen (now_after schedule n now)) ≡ progress_text now ++ rest)
 grows schedule zero (Going m) = (last_line Running, outcome_line m.calls Running)
 grows schedule zero (Over calls end) = ([], sym (append-nil (outcome_text (record { calls = calls; end = end }))))
 grows schedule (suc n) (Over calls end) = ([], sym (append-nil (outcome_text (record { calls = calls; end = end }))))
@@ -136,7 +136,7 @@ grows schedule (suc n) (Going m) =
 one_more : (n k : ℕ) → k < n → n - k ≡ suc (n - (k + 1))
 one_more n k h = omega arith
 
-pub over_stays : (schedule : Schedule) (n : ℕ) (calls : List Made) (end : End) → after schedule n (Over calls end) ≡ Over calls end
+pub over_stays : (schedule : Schedule) (n : ℕ) (calls : List Made) (end : End) → now_after schedule n (Over calls end) ≡ Over calls end
 over_stays schedule zero calls end = refl
 over_stays schedule (suc n) calls end = refl
 
@@ -150,20 +150,20 @@ next_behind schedule (next.Stopped cause) h result answers cs = over_behind cs (
 -- what one instruction comes to, after the calls that were made before
 pub advances : (schedule : Schedule) (limit k : ℕ) (asks : Bool) (h : Hart) (result : Ret) (answers : List ℕ) (cs : List Made) → k < limit
     → asks ≡ schedule.asks h.retired
-    → after schedule (limit - k) (Going (state h result answers cs))
-    ≡ after schedule (limit - (k + 1)) (behind cs (after_next schedule (hart (asked_if asks h)) (calling_none h result answers)))
+    → now_after schedule (limit - k) (Going (state h result answers cs))
+    ≡ now_after schedule (limit - (k + 1)) (behind cs (after_next schedule (hart (asked_if asks h)) (calling_none h result answers)))
 advances schedule limit k asks h result answers cs l a =
-    ap (λ (n : ℕ). after schedule n (Going (state h result answers cs))) (one_more limit k l)
-    ∙ ap (λ (b : Bool). after schedule (limit - (k + 1)) (after_next schedule (hart (asked_if b h)) (state h result answers cs))) (sym a)
-    ∙ ap (after schedule (limit - (k + 1))) (next_behind schedule (hart (asked_if asks h)) h result answers cs)
+    ap (λ (n : ℕ). now_after schedule n (Going (state h result answers cs))) (one_more limit k l)
+    ∙ ap (λ (b : Bool). now_after schedule (limit - (k + 1)) (after_next schedule (hart (asked_if b h)) (state h result answers cs))) (sym a)
+    ∙ ap (now_after schedule (limit - (k + 1))) (next_behind schedule (hart (asked_if asks h)) h result answers cs)
 
 pub goes_on : (schedule : Schedule) (n : ℕ) (cs calls : List Made) (now : Now) (h : Hart) (result : Ret) (answers : List ℕ) → now ≡ Going (state h result answers calls)
-    → after schedule n (behind cs now) ≡ after schedule n (Going (state h result answers (cs ++ calls)))
-goes_on schedule n cs calls now h result answers e = ap (λ (x : Now). after schedule n (behind cs x)) e
+    → now_after schedule n (behind cs now) ≡ now_after schedule n (Going (state h result answers (cs ++ calls)))
+goes_on schedule n cs calls now h result answers e = ap (λ (x : Now). now_after schedule n (behind cs x)) e
 
 pub ends_so : (schedule : Schedule) (n : ℕ) (cs calls : List Made) (now : Now) (end : End) → now ≡ Over calls end
-    → after schedule n (behind cs now) ≡ Over (cs ++ calls) end
-ends_so schedule n cs calls now end e = ap (λ (x : Now). after schedule n (behind cs x)) e ∙ over_stays schedule n (cs ++ calls) end
+    → now_after schedule n (behind cs now) ≡ Over (cs ++ calls) end
+ends_so schedule n cs calls now end e = ap (λ (x : Now). now_after schedule n (behind cs x)) e ∙ over_stays schedule n (cs ++ calls) end
 
 pub text_so : (cs calls : List Made) (now : Now) (end : End) → now ≡ Over calls end
     → calls_text cs ++ progress_text now ≡ outcome_text (record { calls = cs ++ calls; end = end })
@@ -175,13 +175,13 @@ text_on cs calls now h result answers e = sym (progress_behind cs now) ∙ ap (�
 
 -- the text of the whole run begins with what was end so far
 pub text_begins : (schedule : Schedule) (n : ℕ) (cs : List Made) (now : Now)
-    → (rest : List ℕ) × (outcome_text (seen (after schedule n (behind cs now))) ≡ calls_text cs ++ (progress_text now ++ rest))
+    → (rest : List ℕ) × (outcome_text (seen (now_after schedule n (behind cs now))) ≡ calls_text cs ++ (progress_text now ++ rest))
 text_begins schedule n cs now =
     let all = grows schedule n (behind cs now) in
     (all.0, all.1 ∙ ap (λ (t : List ℕ). t ++ all.0) (progress_behind cs now) ∙ append_assoc (calls_text cs) (progress_text now) all.0)
 
-pub stands_so : (schedule : Schedule) (limit k : ℕ) (m : Machine) → limit ≤ k → after schedule (limit - k) (Going m) ≡ Going m
-stands_so schedule limit k m h = let n : limit - k ≡ 0 = omega arith in ap (λ (j : ℕ). after schedule j (Going m)) n
+pub stands_so : (schedule : Schedule) (limit k : ℕ) (m : Machine) → limit ≤ k → now_after schedule (limit - k) (Going m) ≡ Going m
+stands_so schedule limit k m h = let n : limit - k ≡ 0 = omega arith in ap (λ (j : ℕ). now_after schedule j (Going m)) n
 
 -- what an allocation service writes, where no call was made before
 pub allocation_progress : (a : Serviced) (h : Hart) (result : Ret) (answers : List ℕ) → allocation_text a ≡ progress_text (after_allocation a (calling_none h result answers))

@@ -9,21 +9,21 @@ use Rattle.bs_words.specs.declared.types.Comp.TheVariants.{Int}
 use Rattle.bs_words.specs.declared.values.Obs.{Obs}
 use Rattle.bs_words.specs.declared.values.Obs.TheVariants.{Word}
 use Rattle.rv_machine.specs.Hart.{Hart, register}
-use Rattle.rv_machine.specs.Observation.{observed}
+use Rattle.rv_machine.specs.Observation.{observed_word}
 use Rattle.rv_machine.specs.Services.{arguments_from}
 use Rattle.rv_machine.specs.Text.{obs_text, shown_text}
 
 -- ---- what is seen, kept in places
 
 pub one_observed : (comps items : List Comp) (k word : ℕ) (obs : Obs) (shown : List Obs) (h : Hart) → items ≡ comps → k < length items → k < length shown
-    → word ≡ register h (10 + k) → obs ≡ observed h (get_or items k Int) word
+    → word ≡ register h (10 + k) → obs ≡ observed_word h (get_or items k Int) word
     → take k shown ++ arguments_from (10 + k) (drop k comps) h ≡ take (k + 1) (set shown k obs) ++ arguments_from (10 + (k + 1)) (drop (k + 1) comps) h
 one_observed comps items k word obs shown h e i j w o =
     let n : suc k ≡ k + 1 = omega arith in
     let m : suc (10 + k) ≡ 10 + (k + 1) = omega arith in
     ap (λ (cs : List Comp). take k shown ++ arguments_from (10 + k) (drop k cs) h) (sym e)
     ∙ ap (λ (cs : List Comp). take k shown ++ arguments_from (10 + k) cs h) (drop-cons items k Int i)
-    ∙ ap (λ (x : Obs). take k shown ++ x ∷ arguments_from (suc (10 + k)) (drop (suc k) items) h) (sym (o ∙ ap (observed h (get_or items k Int)) w))
+    ∙ ap (λ (x : Obs). take k shown ++ x ∷ arguments_from (suc (10 + k)) (drop (suc k) items) h) (sym (o ∙ ap (observed_word h (get_or items k Int)) w))
     ∙ sym (append_assoc (take k shown) (obs ∷ []) (arguments_from (suc (10 + k)) (drop (suc k) items) h))
     ∙ ap (λ (xs : List Obs). xs ++ arguments_from (suc (10 + k)) (drop (suc k) items) h) (sym (take-suc-set shown k obs j))
     ∙ ap (λ (cs : List Comp). take (suc k) (set shown k obs) ++ arguments_from (suc (10 + k)) (drop (suc k) cs) h) e

@@ -5,7 +5,7 @@ use Rattle.std.specs.Io.KnownBytes.{Appends}
 use Rattle.std.proofs.Math.Seq.{take-append-add}
 use Rattle.std.proofs.lemmas.List.{take-append-le}
 use Rattle.bs_io.specs.Whole.{AppendsPart}
-use Rattle.mover_runtime.specs.Written.{Writes}
+use Rattle.mover_runtime.specs.Written.{AppendsResult}
 
 pub appends_nothing : (a : Option (List ℕ)) → Appends a a []
 appends_nothing None = tt
@@ -31,15 +31,15 @@ part_of_second a b c xs ys h k =
     (length xs + k.0, fewer, subst (Appends a c) (sym (take-append-add xs ys k.0)) (appends_then a b c xs (take k.0 ys) h k.2))
 
 -- what is written after a text that was written
-pub writes_then : {T E : Type 0} (r : Result T E) (a b c : Option (List ℕ)) (xs ys : List ℕ) → Appends a b xs → Writes r b c ys → Writes r a c (xs ++ ys)
+pub writes_then : {T E : Type 0} (r : Result T E) (a b c : Option (List ℕ)) (xs ys : List ℕ) → Appends a b xs → AppendsResult r b c ys → AppendsResult r a c (xs ++ ys)
 writes_then (Ok t) a b c xs ys h k = appends_then a b c xs ys h k
 writes_then (Err e) a b c xs ys h k = part_of_second a b c xs ys h k
 
 -- a fault in the first of two texts
-pub writes_first : {T E : Type 0} (r : Result T E) (a b : Option (List ℕ)) (xs ys : List ℕ) → IsErr r → AppendsPart a b xs → Writes r a b (xs ++ ys)
+pub writes_first : {T E : Type 0} (r : Result T E) (a b : Option (List ℕ)) (xs ys : List ℕ) → IsErr r → AppendsPart a b xs → AppendsResult r a b (xs ++ ys)
 writes_first (Ok t) a b xs ys h k = absurd (cc)
 writes_first (Err f) a b xs ys h k = part_of_first a b xs ys k
 
-pub writes_fault : {T E : Type 0} (r : Result T E) (a b : Option (List ℕ)) (text : List ℕ) → IsErr r → AppendsPart a b text → Writes r a b text
+pub writes_fault : {T E : Type 0} (r : Result T E) (a b : Option (List ℕ)) (text : List ℕ) → IsErr r → AppendsPart a b text → AppendsResult r a b text
 writes_fault (Ok t) a b text h k = absurd (cc)
 writes_fault (Err f) a b text h k = k

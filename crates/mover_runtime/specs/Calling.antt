@@ -12,8 +12,8 @@ AreNext None answers = length answers ≤ 1
 AreNext (Some answer) answers = (left : List ℕ) × (answers ≡ answer.raises ∷ answer.value ∷ left)
 
 -- a call of that name that showed so
-abbrev pub made : List ℕ → List Obs → Made
-made name shown = record { name = name; shown = shown }
+abbrev pub shown_call : List ℕ → List Obs → Made
+shown_call name shown = record { name = name; shown = shown }
 
 -- the value, where the result type has one
 abbrev pub wanted : Ret → ℕ → Option ℕ

@@ -8,8 +8,8 @@ use Rattle.image_form.specs.Tables.{Func}
 use Rattle.rv_machine.specs.Relocation.{Serviced, Goes, NoHeap, Refused}
 use Rattle.rv_machine.specs.Hart.{Hart, hart}
 use Rattle.rv_machine.specs.Memory.{code_start}
-use Rattle.rv_machine.specs.Run.{Seen, after, after_next, asked, seen}
-use Rattle.rv_machine.specs.Services.{End, Machine, Now, Going, Over, answered, call_made, external, external_at, frame_answered, frame_call, service}
+use Rattle.rv_machine.specs.Run.{Seen, now_after, after_next, asked, seen}
+use Rattle.rv_machine.specs.Services.{End, Machine, Now, Going, Over, machine_answered, call_made, external, external_at, machine_frame_answered, frame_call, service}
 use Rattle.rv_machine.specs.Services as ends
 use Rattle.rv_machine.specs.Text.{calls_text, end_text, outcome_text}
 use Rattle.mover_runtime.specs.declared.outcome.RunEnd.{RunEnd}
@@ -40,8 +40,8 @@ abbrev pub calling_none : Hart → Ret → List ℕ → Machine
 calling_none h result answers = record { hart = h; result = result; answers = answers; calls = [] }
 
 -- the run of a machine that has made no call yet, and has taken so many of the answers
-abbrev pub before : Hart → Ret → List ℕ → ℕ → Machine
-before h result answers taken = calling_none h result (drop taken answers)
+abbrev pub run_before_calls : Hart → Ret → List ℕ → ℕ → Machine
+run_before_calls h result answers taken = calling_none h result (drop taken answers)
 
 -- the machine before its next instruction, where the mover asks or does not
 abbrev pub asked_if : Bool → Hart → Hart
@@ -50,34 +50,34 @@ asked_if asks h = cond asks (asked h) h
 -- the run of a machine from the state where it is, after so many instructions
 abbrev pub run_of : Hart → List ℕ → Schedule → ℕ → Seen
 run_of h answers schedule limit =
-    seen (after (schedule_of schedule) limit (Going (calling_none h (entry_result h) answers)))
+    seen (now_after (schedule_of schedule) limit (Going (calling_none h (entry_result h) answers)))
 
 -- ---- what comes of an instruction, of a service and of each kind of call
 
 abbrev pub one_now : Schedule → Bool → Hart → Ret → List ℕ → ℕ → Now
 one_now schedule asks h result answers taken =
-    after_next (schedule_of schedule) (hart (asked_if asks h)) (before h result answers taken)
+    after_next (schedule_of schedule) (hart (asked_if asks h)) (run_before_calls h result answers taken)
 
 abbrev pub service_now : Schedule → Hart → Ret → List ℕ → ℕ → Now
 service_now schedule h result answers taken =
-    service (schedule_of schedule).plan (before h result answers taken)
+    service (schedule_of schedule).plan (run_before_calls h result answers taken)
 
 abbrev pub external_now : Hart → Ret → List ℕ → ℕ → Now
-external_now h result answers taken = external (external_at h) (before h result answers taken)
+external_now h result answers taken = external (external_at h) (run_before_calls h result answers taken)
 
 abbrev pub answered_now : External → Hart → Ret → List ℕ → ℕ → Now
 answered_now row h result answers taken =
-    answered row.result (call_made row h) (drop taken answers) (before h result answers taken)
+    machine_answered row.result (call_made row h) (drop taken answers) (run_before_calls h result answers taken)
 
 abbrev pub frame_call_now : Schedule → Hart → Ret → List ℕ → ℕ → Now
 frame_call_now schedule h result answers taken =
     frame_call ((schedule_of schedule).plan h.services) (external_at h)
-    (before h result answers taken)
+    (run_before_calls h result answers taken)
 
 abbrev pub frame_answered_now : Schedule → External → Hart → Ret → List ℕ → ℕ → Now
 frame_answered_now schedule row h result answers taken =
-    frame_answered ((schedule_of schedule).plan h.services) row.result (call_made row h)
-    (drop taken answers) (before h result answers taken)
+    machine_frame_answered ((schedule_of schedule).plan h.services) row.result (call_made row h)
+    (drop taken answers) (run_before_calls h result answers taken)
 
 -- ---- the text
 
@@ -94,16 +94,16 @@ allocation_text (Refused cause) = end_text (ends.Stopped cause) ++ codes "\n"
 
 -- what a service reports: the run goes on, and the machine and the answers left are these; or it has
 -- ended
-abbrev pub Serves : Option RunEnd → Now → Hart → Ret → List ℕ → Type 0
-Serves None now h result answers =
+abbrev pub ServesRun : Option RunEnd → Now → Hart → Ret → List ℕ → Type 0
+ServesRun None now h result answers =
     (calls : List Made)
     × (now ≡ Going (record { hart = h; result = result; answers = answers; calls = calls }))
-Serves (Some reported) now h result answers =
+ServesRun (Some reported) now h result answers =
     (calls : List Made) × (end : End) × (now ≡ Over calls end) × (reported ≡ end_reported end)
 
 -- the same of a function that may have failed to write
 abbrev pub Reports : {E : Type 0} → Result (Option RunEnd) E → Now → Hart → Ret → List ℕ → Type 0
-Reports result now h returns answers = IfOk result (λ end. Serves end now h returns answers)
+Reports result now h returns answers = IfOk result (λ end. ServesRun end now h returns answers)
 
 -- the last line of a run
 abbrev pub last_line : End → List ℕ

@@ -3,7 +3,7 @@ use Rattle.std.specs.Prelude.{◌≡◌, ◌<◌, ◌^◌, ◌⊎◌, ℕ, lengt
 use Rattle.rv_isa.specs.Registers.{t0, t2}
 use Rattle.rv_machine.specs.Hart.{Hart, register}
 use Rattle.bs_words.specs.Contents.{contents}
-use Rattle.mover_plans.specs.Words.{generator}
+use Rattle.mover_plans.specs.Words.{generator_after}
 use Rattle.mover_runtime.specs.declared.schedule.Asks.{Asks}
 use Rattle.mover_runtime.specs.declared.schedule.Asks.TheVariants as drawn
 use Rattle.mover_runtime.specs.declared.schedule.Schedule.{Schedule}
@@ -13,7 +13,7 @@ use Rattle.mover_runtime.specs.declared.schedule.Schedule.TheVariants.{Never, Ev
 abbrev pub StandsAt : Schedule → ℕ → Asks → Type 0
 StandsAt Never k drawn.Never = Unit {0}
 StandsAt Every k drawn.Every = Unit {0}
-StandsAt (Seed seed) k (drawn.Seeded words) = words ≡ generator seed k
+StandsAt (Seed seed) k (drawn.Seeded words) = words ≡ generator_after seed k
 StandsAt (Lists asks plans) k (drawn.Among numbers) = numbers.now ≡ contents asks
 StandsAt _ k _ = ⊥
 

@@ -2,10 +2,10 @@
 ghost use Rattle.std.specs.Prelude.{◌≡◌, ◌≤◌, ◌<◌, ◌-◌, ◌^◌, ℕ, List, [], ◌∷◌, length, drop, IfOk, None, suc};
 ghost use Rattle.bs_words.specs.Contents.{contents};
 ghost use Rattle.image_form.specs.Tables.{ext};
-ghost use Rattle.mover_runtime.specs.Written.{Writes, Counts};
+ghost use Rattle.mover_runtime.specs.Written.{AppendsResult, Counts};
 ghost use Rattle.bs_words.specs.declared.types.Ret.{Ret};
-ghost use Rattle.mover_runtime.specs.Calling.{AreNext, made, wanted};
-ghost use Rattle.mover_runtime.specs.Outcome.{Reports, Serves, answered_now, calling_none, external_now, frame_answered_now, frame_call_now, progress_text};
+ghost use Rattle.mover_runtime.specs.Calling.{AreNext, shown_call, wanted};
+ghost use Rattle.mover_runtime.specs.Outcome.{Reports, ServesRun, answered_now, calling_none, external_now, frame_answered_now, frame_call_now, progress_text};
 ghost use Rattle.rv_machine.specs.Hart.{Hart};
 ghost use Rattle.rv_machine.specs.Services.{call_made, concluded, returned_with};
 ghost use Rattle.rv_machine.specs.Step.{registers_after};
@@ -42,7 +42,7 @@ pub fn call<K: Sink>(
     requires within { taken.old ≤ length answers.now }
     ensures reported { Reports result (external_now machine.old returns answers.now taken.old)
         machine.new returns (drop taken.new answers.now) }
-    ensures text { Writes result (K.held out.old) (K.held out.new)
+    ensures text { AppendsResult result (K.held out.old) (K.held out.new)
         (progress_text (external_now machine.old returns answers.now taken.old)) }
     ensures counts { Counts result (K.faults out.old) (K.faults out.new) }
     ensures retired { machine.new.retired ≤ suc machine.old.retired }
@@ -74,7 +74,7 @@ fn answer_call<K: Sink>(
     ensures reported { Reports result
         (answered_now (ext row.now) machine.old returns answers.now taken.old)
         machine.new returns (drop taken.new answers.now) }
-    ensures text { Writes result (K.held out.old) (K.held out.new)
+    ensures text { AppendsResult result (K.held out.old) (K.held out.new)
         (progress_text (answered_now (ext row.now) machine.old returns answers.now taken.old)) }
     ensures counts { Counts result (K.faults out.old) (K.faults out.new) }
     ensures retired { machine.new.retired ≤ suc machine.old.retired }
@@ -108,7 +108,7 @@ fn finish<K: Sink>(
     ensures reported { IfOk result (λ end. (end ≡ None)
         × (machine.new
         ≡ returned_with (registers_after answer machine.old.registers) machine.old)) }
-    ensures text { Writes result (K.held out.old) (K.held out.new)
+    ensures text { AppendsResult result (K.held out.old) (K.held out.new)
         (calls_text (call_made (ext row.now) machine.old ∷ [])) }
     ensures counts { Counts result (K.faults out.old) (K.faults out.new) }
     ensures retired { machine.new.retired ≤ suc machine.old.retired }
@@ -140,7 +140,7 @@ pub fn frame_call<K: Sink>(
     ensures reported { Reports result
         (frame_call_now schedule.now machine.old returns answers.now taken.old)
         machine.new returns (drop taken.new answers.now) }
-    ensures text { Writes result (K.held out.old) (K.held out.new)
+    ensures text { AppendsResult result (K.held out.old) (K.held out.new)
         (progress_text (frame_call_now schedule.now machine.old returns answers.now taken.old)) }
     ensures counts { Counts result (K.faults out.old) (K.faults out.new) }
     ensures retired { machine.new.retired ≤ suc machine.old.retired }
@@ -174,7 +174,7 @@ fn answer_frame_call<K: Sink>(
     ensures reported { Reports result
         (frame_answered_now schedule.now (ext row.now) machine.old returns answers.now taken.old)
         machine.new returns (drop taken.new answers.now) }
-    ensures text { Writes result (K.held out.old) (K.held out.new)
+    ensures text { AppendsResult result (K.held out.old) (K.held out.new)
         (progress_text
         (frame_answered_now schedule.now (ext row.now) machine.old returns answers.now taken.old)) }
     ensures counts { Counts result (K.faults out.old) (K.faults out.new) }
@@ -236,12 +236,12 @@ fn conclude<K: Sink>(
     requires near { machine.old.pc < 2 ^ 32 }
     requires room { machine.old.retired < 2 ^ 64 - 1 }
     ensures reported { IfOk result (λ end. (h : Hart) (returns : Ret) (all left : List ℕ) →
-        Serves end
-        (concluded row.now.result (made row.now.name shown.now) answer.raises answer.value left
+        ServesRun end
+        (concluded row.now.result (shown_call row.now.name shown.now) answer.raises answer.value left
         machine.old (calling_none h returns all)) machine.new returns left) }
-    ensures text { (h : Hart) (returns : Ret) (all left : List ℕ) → Writes result
+    ensures text { (h : Hart) (returns : Ret) (all left : List ℕ) → AppendsResult result
         (K.held out.old) (K.held out.new) (progress_text (concluded row.now.result
-        (made row.now.name shown.now) answer.raises answer.value left machine.old
+        (shown_call row.now.name shown.now) answer.raises answer.value left machine.old
         (calling_none h returns all))) }
     ensures counts { Counts result (K.faults out.old) (K.faults out.new) }
     ensures retired { machine.new.retired ≤ suc machine.old.retired }

@@ -1,11 +1,11 @@
 //! What the machine does where its counts are not at their ends.
 ghost use Rattle.std.specs.Prelude.{◌≡◌, ◌<◌, ◌≤◌, ◌-◌, ◌^◌, suc, true};
 ghost use Rattle.alloc_service.specs.Plan.{Serves, plan_of};
-ghost use Rattle.rv_machine.specs.Allocation.{allocated};
+ghost use Rattle.rv_machine.specs.Allocation.{allocation_served};
 ghost use Rattle.rv_machine.specs.FrameCalls.{collected, has_trap_frame, raised};
 ghost use Rattle.rv_machine.specs.Hart.{hart};
 ghost use Rattle.rv_machine.specs.Services.{cleared, returned_with};
-ghost use Rattle.rv_machine.specs.Step.{IsNear, Keeps, next_of, registers_after};
+ghost use Rattle.rv_machine.specs.Step.{IsNear, StaysUnlessRetired, next_of, registers_after};
 
 use alloc_service::{Plan, ServiceEnd};
 use rv_machine::{Machine, StepEnd};
@@ -15,7 +15,7 @@ use rv_machine::{Machine, StepEnd};
 pub fn step(machine: &mut Machine<'_>) -> StepEnd
     requires room { machine.old.retired < 2 ^ 64 - 1 }
     ensures exact { next_of result machine.new ≡ hart machine.old }
-    ensures kept { Keeps result machine.old machine.new }
+    ensures kept { StaysUnlessRetired result machine.old machine.new }
     ensures near { IsNear result machine.new }
     ensures retired { machine.new.retired ≤ suc machine.old.retired }
 {
@@ -27,7 +27,7 @@ pub fn allocate(machine: &mut Machine<'_>, plan: Plan<'_>) -> ServiceEnd
     requires near { machine.old.pc < 2 ^ 32 }
     requires room { machine.old.retired < 2 ^ 64 - 1 }
     requires services { machine.old.services < 2 ^ 64 - 1 }
-    ensures exact { Serves result (allocated (plan_of plan.entry) machine.old) machine.new }
+    ensures exact { Serves result (allocation_served (plan_of plan.entry) machine.old) machine.new }
     ensures retired { machine.new.retired ≤ suc machine.old.retired }
 {
     alloc_service::allocate(machine, plan)

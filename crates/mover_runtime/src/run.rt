@@ -1,6 +1,6 @@
 //! A run of a machine that was just loaded.
 ghost use Rattle.std.specs.Prelude.{◌≡◌, ◌≤◌, ◌<◌, ◌-◌, ◌^◌, length, drop, IfOk, suc};
-ghost use Rattle.mover_runtime.specs.Written.{Writes, Counts};
+ghost use Rattle.mover_runtime.specs.Written.{AppendsResult, Counts};
 ghost use Rattle.mover_runtime.specs.Outcome.{Reports, asked_if, end_reported, entry_result, one_now, progress_text, run_of};
 ghost use Rattle.rv_machine.specs.Text.{outcome_text};
 
@@ -35,7 +35,7 @@ pub fn run_image<K: Sink>(
     requires unmoved { machine.old.services ≡ 0 }
     ensures reported { IfOk result (λ end.
         end ≡ end_reported (run_of machine.old answers.now schedule.now limit).end) }
-    ensures text { Writes result (K.held out.old) (K.held out.new)
+    ensures text { AppendsResult result (K.held out.old) (K.held out.new)
         (outcome_text (run_of machine.old answers.now schedule.now limit)) }
     ensures counts { Counts result (K.faults out.old) (K.faults out.new) }
     ensures retired { machine.new.retired ≤ limit }
@@ -72,7 +72,7 @@ fn one<K: Sink>(
     ensures reported { Reports result
         (one_now schedule.now asks machine.old returns answers.now taken.old)
         machine.new returns (drop taken.new answers.now) }
-    ensures text { Writes result (K.held out.old) (K.held out.new)
+    ensures text { AppendsResult result (K.held out.old) (K.held out.new)
         (progress_text (one_now schedule.now asks machine.old returns answers.now taken.old)) }
     ensures counts { Counts result (K.faults out.old) (K.faults out.new) }
     ensures retired { machine.new.retired ≤ suc machine.old.retired }

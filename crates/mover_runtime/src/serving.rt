@@ -1,19 +1,19 @@
 //! The services of the runtime: return, uncaught raise, external calls and allocation.
 ghost use Rattle.std.specs.Prelude.{◌≡◌, ◌≤◌, ◌<◌, ◌-◌, ◌^◌, ℕ, List, length, drop, IfOk, suc};
-ghost use Rattle.mover_runtime.specs.Written.{Writes, Counts};
-ghost use Rattle.alloc_service.specs.Plan.{Keeps, both_counted, plan_of, services_counted, with_counts};
+ghost use Rattle.mover_runtime.specs.Written.{AppendsResult, Counts};
+ghost use Rattle.alloc_service.specs.Plan.{StaysUnlessServed, both_counted, plan_of, services_counted, with_counts};
 ghost use Rattle.alloc_service.specs.Plan.{Serves as ServesBy};
 ghost use Rattle.mover_runtime.specs.Standing.{MovesBlocks};
 ghost use Rattle.rv_machine.specs.FrameCalls.{collected};
 ghost use Rattle.bs_words.specs.declared.types.Ret.{Ret};
-ghost use Rattle.mover_runtime.specs.Outcome.{Reports, Serves, allocation_text, calling_none, progress_text, last_line, service_now};
+ghost use Rattle.mover_runtime.specs.Outcome.{Reports, ServesRun, allocation_text, calling_none, progress_text, last_line, service_now};
 ghost use Rattle.mover_runtime.specs.Schedules.{schedule_of};
-ghost use Rattle.rv_machine.specs.Allocation.{allocated};
+ghost use Rattle.rv_machine.specs.Allocation.{allocation_served};
 ghost use Rattle.rv_isa.specs.Registers.{a0, t2};
 ghost use Rattle.rv_machine.specs.Hart.{register};
 ghost use Rattle.rv_machine.specs.Services.{after_allocation, service, value_returned};
 ghost use Rattle.rv_machine.specs.Services as ends;
-ghost use Rattle.rv_machine.specs.Observation.{observed};
+ghost use Rattle.rv_machine.specs.Observation.{observed_word};
 
 use crate::calling::{call, frame_call};
 use crate::counting;
@@ -48,7 +48,7 @@ pub fn serve<K: Sink>(
     ensures reported { Reports result
         (service_now schedule.now machine.old returns answers.now taken.old)
         machine.new returns (drop taken.new answers.now) }
-    ensures text { Writes result (K.held out.old) (K.held out.new)
+    ensures text { AppendsResult result (K.held out.old) (K.held out.new)
         (progress_text (service_now schedule.now machine.old returns answers.now taken.old)) }
     ensures counts { Counts result (K.faults out.old) (K.faults out.new) }
     ensures retired { machine.new.retired ≤ suc machine.old.retired }
@@ -82,12 +82,12 @@ pub fn serve<K: Sink>(
 pub fn service(machine: &mut Machine<'_>, schedule: &Schedule) -> ServiceEnd
     requires { MovesBlocks machine.old }
     ensures allocates { register machine.old t2 ≡ 3 → ServesBy result (with_counts both_counted
-        (allocated ((schedule_of schedule.now).plan machine.old.services) machine.old))
+        (allocation_served ((schedule_of schedule.now).plan machine.old.services) machine.old))
         machine.new }
     ensures collects { register machine.old t2 ≡ 4 → ServesBy result (with_counts services_counted
         (collected ((schedule_of schedule.now).plan machine.old.services) machine.old))
         machine.new }
-    ensures kept { Keeps result machine.old machine.new }
+    ensures kept { StaysUnlessServed result machine.old machine.new }
 {
     let plan = schedule.plan(machine.services());
     if machine.register(Register::T2 as u8) == 3 {
@@ -106,11 +106,11 @@ fn allocate<K: Sink>(
     requires near { machine.old.pc < 2 ^ 32 }
     requires room { machine.old.retired < 2 ^ 64 - 1 }
     requires services { machine.old.services < 2 ^ 64 - 1 }
-    ensures reported { IfOk result (λ end. (returns : Ret) (answers : List ℕ) → Serves end
-        (after_allocation (allocated (plan_of plan.entry) machine.old)
+    ensures reported { IfOk result (λ end. (returns : Ret) (answers : List ℕ) → ServesRun end
+        (after_allocation (allocation_served (plan_of plan.entry) machine.old)
         (calling_none machine.old returns answers)) machine.new returns answers) }
-    ensures text { Writes result (K.held out.old) (K.held out.new)
-        (allocation_text (allocated (plan_of plan.entry) machine.old)) }
+    ensures text { AppendsResult result (K.held out.old) (K.held out.new)
+        (allocation_text (allocation_served (plan_of plan.entry) machine.old)) }
     ensures counts { Counts result (K.faults out.old) (K.faults out.new) }
     ensures retired { machine.new.retired ≤ suc machine.old.retired }
 {
@@ -135,7 +135,7 @@ fn end_returned<K: Sink>(
 ) -> Result<RunEnd, OutFault>
     ensures reported { IfOk result (λ end.
         end ≡ RunEnd.Returned (value_returned returns machine.now)) }
-    ensures text { Writes result (K.held out.old) (K.held out.new)
+    ensures text { AppendsResult result (K.held out.old) (K.held out.new)
         (last_line (ends.Returned (value_returned returns machine.now))) }
     ensures counts { Counts result (K.faults out.old) (K.faults out.new) }
 {
@@ -155,9 +155,9 @@ fn end_returned<K: Sink>(
 // The run has ended by a raise of a0 that nothing caught.
 fn end_raised<K: Sink>(machine: &Machine<'_>, out: &mut K) -> Result<RunEnd, OutFault>
     ensures reported { IfOk result (λ end.
-        end ≡ RunEnd.Raised (observed machine.now Comp.Val (register machine.now a0))) }
-    ensures text { Writes result (K.held out.old) (K.held out.new)
-        (last_line (ends.Raised (observed machine.now Comp.Val (register machine.now a0)))) }
+        end ≡ RunEnd.Raised (observed_word machine.now Comp.Val (register machine.now a0))) }
+    ensures text { AppendsResult result (K.held out.old) (K.held out.new)
+        (last_line (ends.Raised (observed_word machine.now Comp.Val (register machine.now a0)))) }
     ensures counts { Counts result (K.faults out.old) (K.faults out.new) }
 {
     let obs = machine.observe(Comp::Val, machine.register(Register::A0 as u8));
@@ -173,7 +173,7 @@ fn end_raised<K: Sink>(machine: &Machine<'_>, out: &mut K) -> Result<RunEnd, Out
 /// not all of it.
 pub fn end_stopped<K: Sink>(cause: Cause, out: &mut K) -> Result<RunEnd, OutFault>
     ensures reported { IfOk result (λ end. end ≡ RunEnd.Stopped cause) }
-    ensures text { Writes result (K.held out.old) (K.held out.new)
+    ensures text { AppendsResult result (K.held out.old) (K.held out.new)
         (last_line (ends.Stopped cause)) }
     ensures counts { Counts result (K.faults out.old) (K.faults out.new) }
 {
@@ -189,7 +189,7 @@ pub fn end_stopped<K: Sink>(cause: Cause, out: &mut K) -> Result<RunEnd, OutFaul
 /// not all of it.
 pub fn end_stack_out<K: Sink>(out: &mut K) -> Result<RunEnd, OutFault>
     ensures reported { IfOk result (λ end. end ≡ RunEnd.StackOut) }
-    ensures text { Writes result (K.held out.old) (K.held out.new) (last_line ends.StackOut) }
+    ensures text { AppendsResult result (K.held out.old) (K.held out.new) (last_line ends.StackOut) }
     ensures counts { Counts result (K.faults out.old) (K.faults out.new) }
 {
     write_line(b"stack out", out)?;
@@ -204,7 +204,7 @@ pub fn end_stack_out<K: Sink>(out: &mut K) -> Result<RunEnd, OutFault>
 /// not all of it.
 pub fn end_heap_out<K: Sink>(out: &mut K) -> Result<RunEnd, OutFault>
     ensures reported { IfOk result (λ end. end ≡ RunEnd.HeapOut) }
-    ensures text { Writes result (K.held out.old) (K.held out.new) (last_line ends.HeapOut) }
+    ensures text { AppendsResult result (K.held out.old) (K.held out.new) (last_line ends.HeapOut) }
     ensures counts { Counts result (K.faults out.old) (K.faults out.new) }
 {
     write_line(b"heap out", out)?;
@@ -219,7 +219,7 @@ pub fn end_heap_out<K: Sink>(out: &mut K) -> Result<RunEnd, OutFault>
 /// not all of it.
 pub fn end_more<K: Sink>(out: &mut K) -> Result<RunEnd, OutFault>
     ensures reported { IfOk result (λ end. end ≡ RunEnd.More) }
-    ensures text { Writes result (K.held out.old) (K.held out.new) (last_line ends.Running) }
+    ensures text { AppendsResult result (K.held out.old) (K.held out.new) (last_line ends.Running) }
     ensures counts { Counts result (K.faults out.old) (K.faults out.new) }
 {
     write_line(b"more", out)?;

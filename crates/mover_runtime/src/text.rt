@@ -4,7 +4,7 @@ ghost use Rattle.std.specs.Fmt.{decimal, signed_decimal};
 ghost use Rattle.bs_words.specs.Word.{signed_of};
 ghost use Rattle.bs_words.specs.Contents.{contents};
 ghost use Rattle.image_form.specs.Tables.{ext};
-ghost use Rattle.mover_runtime.specs.Written.{Writes, Counts};
+ghost use Rattle.mover_runtime.specs.Written.{AppendsResult, Counts};
 ghost use Rattle.rv_isa.specs.Registers.{a0};
 ghost use Rattle.rv_machine.specs.Services.{arguments_from, call_made};
 ghost use Rattle.rv_machine.specs.Text.{obs_text, shown_text, made_text, cause_text};
@@ -26,7 +26,7 @@ const FIRST_ARGUMENT: u8 = Register::A0 as u8;
 /// `OutFault::Write` where a write failed or took nothing: the sink then has a part of the bytes, from their front
 /// and not all of them.
 pub fn put<K: Sink>(bytes: &[u8], out: &mut K) -> Result<(), OutFault>
-    ensures text { Writes result (K.held out.old) (K.held out.new) bytes.now }
+    ensures text { AppendsResult result (K.held out.old) (K.held out.new) bytes.now }
     ensures counts { Counts result (K.faults out.old) (K.faults out.new) }
 {
     write_all(out, bytes)
@@ -39,7 +39,7 @@ pub fn put<K: Sink>(bytes: &[u8], out: &mut K) -> Result<(), OutFault>
 /// `OutFault::Write` where a write failed or took nothing: the sink then has a part of that text, from its front and
 /// not all of it.
 pub fn write_obs<K: Sink>(obs: Obs, out: &mut K) -> Result<(), OutFault>
-    ensures text { Writes result (K.held out.old) (K.held out.new) (obs_text obs) }
+    ensures text { AppendsResult result (K.held out.old) (K.held out.new) (obs_text obs) }
     ensures counts { Counts result (K.faults out.old) (K.faults out.new) }
 {
     match obs {
@@ -49,7 +49,7 @@ pub fn write_obs<K: Sink>(obs: Obs, out: &mut K) -> Result<(), OutFault>
 }
 
 fn write_word<K: Sink>(word: u64, out: &mut K) -> Result<(), OutFault>
-    ensures text { Writes result (K.held out.old) (K.held out.new)
+    ensures text { AppendsResult result (K.held out.old) (K.held out.new)
         (signed_decimal (signed_of word)) }
     ensures counts { Counts result (K.faults out.old) (K.faults out.new) }
 {
@@ -58,7 +58,7 @@ fn write_word<K: Sink>(word: u64, out: &mut K) -> Result<(), OutFault>
 }
 
 fn write_block<K: Sink>(serial: u64, out: &mut K) -> Result<(), OutFault>
-    ensures text { Writes result (K.held out.old) (K.held out.new)
+    ensures text { AppendsResult result (K.held out.old) (K.held out.new)
         (codes "block " ++ decimal serial) }
     ensures counts { Counts result (K.faults out.old) (K.faults out.new) }
 {
@@ -67,7 +67,7 @@ fn write_block<K: Sink>(serial: u64, out: &mut K) -> Result<(), OutFault>
 }
 
 fn write_number<K: Sink>(number: u64, out: &mut K) -> Result<(), OutFault>
-    ensures text { Writes result (K.held out.old) (K.held out.new) (decimal number) }
+    ensures text { AppendsResult result (K.held out.old) (K.held out.new) (decimal number) }
     ensures counts { Counts result (K.faults out.old) (K.faults out.new) }
 {
     let mut digits = Buffer::new();
@@ -76,7 +76,7 @@ fn write_number<K: Sink>(number: u64, out: &mut K) -> Result<(), OutFault>
 
 // Writes a text and an observation.
 fn put_obs<K: Sink>(text: &[u8], obs: Obs, out: &mut K) -> Result<(), OutFault>
-    ensures text { Writes result (K.held out.old) (K.held out.new) (text.now ++ obs_text obs) }
+    ensures text { AppendsResult result (K.held out.old) (K.held out.new) (text.now ++ obs_text obs) }
     ensures counts { Counts result (K.faults out.old) (K.faults out.new) }
 {
     put(text, out)?;
@@ -101,7 +101,7 @@ pub fn observe_arguments(machine: &Machine<'_>, comps: &List<Comp>) -> [Obs; 16]
 
 // Writes observations, each after a space.
 fn write_shown<K: Sink>(shown: &[Obs], out: &mut K) -> Result<(), OutFault>
-    ensures text { Writes result (K.held out.old) (K.held out.new) (shown_text shown.now) }
+    ensures text { AppendsResult result (K.held out.old) (K.held out.new) (shown_text shown.now) }
     ensures counts { Counts result (K.faults out.old) (K.faults out.new) }
 {
     for obs in shown {
@@ -112,7 +112,7 @@ fn write_shown<K: Sink>(shown: &[Obs], out: &mut K) -> Result<(), OutFault>
 
 // Writes a text and a name.
 fn put_name<K: Sink>(text: &[u8], name: &Name, out: &mut K) -> Result<(), OutFault>
-    ensures text { Writes result (K.held out.old) (K.held out.new) (text.now ++ name.now) }
+    ensures text { AppendsResult result (K.held out.old) (K.held out.new) (text.now ++ name.now) }
     ensures counts { Counts result (K.faults out.old) (K.faults out.new) }
 {
     put(text, out)?;
@@ -121,7 +121,7 @@ fn put_name<K: Sink>(text: &[u8], name: &Name, out: &mut K) -> Result<(), OutFau
 
 // Writes the front of a line on a call.
 fn put_call<K: Sink>(text: &[u8], name: &Name, shown: &[Obs], out: &mut K) -> Result<(), OutFault>
-    ensures text { Writes result (K.held out.old) (K.held out.new)
+    ensures text { AppendsResult result (K.held out.old) (K.held out.new)
         ((text.now ++ name.now) ++ shown_text shown.now) }
     ensures counts { Counts result (K.faults out.old) (K.faults out.new) }
 {
@@ -141,7 +141,7 @@ pub fn write_call_line<K: Sink>(
     shown: &[Obs],
     out: &mut K,
 ) -> Result<(), OutFault>
-    ensures text { Writes result (K.held out.old) (K.held out.new)
+    ensures text { AppendsResult result (K.held out.old) (K.held out.new)
         (((text.now ++ name.now) ++ shown_text shown.now) ++ codes "\n") }
     ensures counts { Counts result (K.faults out.old) (K.faults out.new) }
 {
@@ -156,7 +156,7 @@ pub fn write_call_line<K: Sink>(
 /// `OutFault::Write` where a write failed or took nothing: the sink then has a part of the line, from its front and
 /// not all of it.
 pub fn write_line<K: Sink>(text: &[u8], out: &mut K) -> Result<(), OutFault>
-    ensures text { Writes result (K.held out.old) (K.held out.new) (text.now ++ codes "\n") }
+    ensures text { AppendsResult result (K.held out.old) (K.held out.new) (text.now ++ codes "\n") }
     ensures counts { Counts result (K.faults out.old) (K.faults out.new) }
 {
     put(text, out)?;
@@ -170,7 +170,7 @@ pub fn write_line<K: Sink>(text: &[u8], out: &mut K) -> Result<(), OutFault>
 /// `OutFault::Write` where a write failed or took nothing: the sink then has a part of the line, from its front and
 /// not all of it.
 pub fn write_obs_line<K: Sink>(text: &[u8], obs: Obs, out: &mut K) -> Result<(), OutFault>
-    ensures text { Writes result (K.held out.old) (K.held out.new)
+    ensures text { AppendsResult result (K.held out.old) (K.held out.new)
         (text.now ++ obs_text obs ++ codes "\n") }
     ensures counts { Counts result (K.faults out.old) (K.faults out.new) }
 {
@@ -192,7 +192,7 @@ pub fn write_made_line<K: Sink>(
     out: &mut K,
 ) -> Result<(), OutFault>
     requires { length (contents row.now.params) ≤ 16 }
-    ensures text { Writes result (K.held out.old) (K.held out.new)
+    ensures text { AppendsResult result (K.held out.old) (K.held out.new)
         (text.now ++ made_text (call_made (ext row.now) machine.now) ++ codes "\n") }
     ensures counts { Counts result (K.faults out.old) (K.faults out.new) }
 {
@@ -222,7 +222,7 @@ fn stopped_text(cause: Cause) -> &'static str
 /// `OutFault::Write` where a write failed or took nothing: the sink then has a part of the line, from its front and
 /// not all of it.
 pub fn write_stopped<K: Sink>(cause: Cause, out: &mut K) -> Result<(), OutFault>
-    ensures text { Writes result (K.held out.old) (K.held out.new)
+    ensures text { AppendsResult result (K.held out.old) (K.held out.new)
         (codes "stopped " ++ cause_text cause ++ codes "\n") }
     ensures counts { Counts result (K.faults out.old) (K.faults out.new) }
 {

@@ -4,7 +4,7 @@ use Rattle.std.proofs.lemmas.Bool.{le-leb, lt-leb, and_from, and_right, cond-tru
 use Rattle.image_form.specs.Image.{AreTables}
 use Rattle.image_form.specs.Tables.{Tables}
 use Rattle.rv_machine.specs.Loading.{IsRoom}
-use Rattle.rv_machine.specs.Memory.{Region, byte_in, code_start, is_inside, or_zero, read, word}
+use Rattle.rv_machine.specs.Memory.{Region, byte_in, code_start, is_inside, or_zero, read, memory_word}
 use Rattle.bs_words.specs.Memory.{part}
 use Rattle.rv_machine.specs.Observation.{young_start}
 use Rattle.rv_machine.specs.Start.{data_region, domain_region, stack_region, start_memory, uniform}
@@ -42,8 +42,8 @@ in_stack stack room =
 
 -- its first word is the address in the stub that ends the run with an uncaught raise
 pub bottom_start : (image : Tables) (stack heap : ℕ) → AreTables image → IsRoom stack → IsRoom heap →
-    word (start_memory image stack heap) stack_bottom ≡ code_start + 8
-unfolding word uniform data_region domain_region
+    memory_word (start_memory image stack heap) stack_bottom ≡ code_start + 8
+unfolding memory_word uniform data_region domain_region
 bottom_start image stack heap tables stack_room heap_room =
     let short = tables.bytes.short in
     let most = heap_room.most in

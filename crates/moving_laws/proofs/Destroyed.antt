@@ -3,14 +3,14 @@ use Rattle.std.proofs.Common.{◌≡◌, ◌≢◌, ℕ, zero, suc, ◌<◌, ◌
 use Rattle.std.specs.List.{AllByRecursion}
 use Rattle.rv_machine.specs.Hart.{with_register}
 use Rattle.rv_machine.specs.Places.{filler}
-use Rattle.rv_machine.specs.Services.{destroyed, filled}
+use Rattle.rv_machine.specs.Services.{destroyed, filled_registers}
 use Rattle.machine_laws.proofs.Serving.{not_filled}
 
 with_length : (r value : ℕ) (registers : List ℕ) → length (with_register r value registers) ≡ length registers
 with_length zero value registers = refl
 with_length (suc r) value registers = length-set registers (suc r) value
 
-pub filled_length : (rs registers : List ℕ) → length (filled rs registers) ≡ length registers
+pub filled_length : (rs registers : List ℕ) → length (filled_registers rs registers) ≡ length registers
 filled_length [] registers = refl
 filled_length (k ∷ rs) registers = filled_length rs (with_register k filler registers) ∙ with_length k filler registers
 
@@ -60,5 +60,5 @@ spared r s = (
     off k (inr s) (inl h) e = omega (arith, s, h, e)
     off k (inr s) (inr h) e = omega (arith, s, h, e)
 
-pub destroyed_other : (registers : List ℕ) (r : ℕ) → IsSpared r → slice_index (filled destroyed registers) r ≡ slice_index registers r
+pub destroyed_other : (registers : List ℕ) (r : ℕ) → IsSpared r → slice_index (filled_registers destroyed registers) r ≡ slice_index registers r
 destroyed_other registers r s = not_filled destroyed registers r (spared r s)

@@ -8,15 +8,15 @@ use Rattle.rv_machine.specs.Allocation.{young_from}
 use Rattle.rv_machine.specs.Frames.{Frame, descriptor_at}
 use Rattle.rv_machine.specs.Hart.{Hart, Placed, with_register}
 use Rattle.rv_machine.specs.Loading.{IsRoom}
-use Rattle.rv_machine.specs.Memory.{word, write, code_start}
+use Rattle.rv_machine.specs.Memory.{memory_word, write, code_start}
 use Rattle.rv_machine.specs.Start.{start}
 use Rattle.machine_laws.proofs.Memory.{has_write}
 use Rattle.machine_laws.proofs.Starting.{start_sound}
 use Rattle.machine_laws.proofs.Words.{with_registers, words_none}
 use Rattle.rv_machine.specs.Sound.{IsSound}
-use Rattle.moving_laws.specs.Service.{Contents, Knows, IsReady, IsAllocated}
+use Rattle.moving_laws.specs.Service.{Contents, Knows, IsServiceReady, IsAllocationServed}
 use Rattle.moving_laws.specs.Values.{HasFunctions}
-use Rattle.moving_laws.specs.Waiting.{Activation}
+use Rattle.moving_laws.specs.Waiting.{WaitingActivation}
 use Rattle.moving_laws.proofs.Moving.{allocates}
 use Rattle.moving_laws.proofs.Usable.{formed_regions, stack_readable}
 use Rattle.moving_laws.proofs.Words.{word_same}
@@ -54,7 +54,7 @@ module _ (image : Tables) (functions : HasFunctions image) (bytes : AllByRecursi
         apart = s.apart;
       }
 
-  return_word : word asking.memory 0x3FFFFFE8 ≡ code_start
+  return_word : memory_word asking.memory 0x3FFFFFE8 ≡ code_start
   return_word =
       let s = start_sound image entry [] stack heap functions.tables bytes words_none stack_room heap_room in
       word_same first.memory 0x3FFFFFE8 code_start (formed_regions _ first.memory s.memory)
@@ -64,7 +64,7 @@ module _ (image : Tables) (functions : HasFunctions image) (bytes : AllByRecursi
   abbrev frame : Frame
   frame = record { at = 0x3FFFFFE0; desc = record { after = after; size = 16; entries = [] } }
 
-  abbrev activation : Activation
+  abbrev activation : WaitingActivation
   activation = record { back = code_start; count = 0; slot = λ k. None; tries = [] }
 
   abbrev holds : Contents
@@ -123,7 +123,7 @@ module _ (image : Tables) (functions : HasFunctions image) (bytes : AllByRecursi
     statics = record { cell = λ x v e. absurd (cc); kind = λ x v e. absurd (cc); known = λ x v e. absurd (cc); place = λ x v e. absurd (cc) };
   }
 
-  ready : IsReady asking (young_from asking) [] frame (λ r. None)
+  ready : IsServiceReady asking (young_from asking) [] frame (λ r. None)
   unfolding add_word
   ready = record {
     functions = functions;
@@ -136,5 +136,5 @@ module _ (image : Tables) (functions : HasFunctions image) (bytes : AllByRecursi
     no_s10 = refl;
   }
 
-  pub allocates_here : (plan : List Placed → List ℕ) → IsAllocated plan asking frame [] holds
+  pub allocates_here : (plan : List Placed → List ℕ) → IsAllocationServed plan asking frame [] holds
   allocates_here plan = allocates asking [] frame [] holds knows plan refl ready (omega arith)

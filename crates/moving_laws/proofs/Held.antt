@@ -6,7 +6,7 @@ use Rattle.std.proofs.lemmas.Bool.{and_from, and_parts, cases_lt, cond-true, con
 use Rattle.std.proofs.lemmas.Option.{same_Some}
 use Rattle.std.proofs.Math.Nat.{add-zero}
 use Rattle.image_form.specs.Tables.{Tables}
-use Rattle.rv_machine.specs.Memory.{Region, byte_in, index_in, is_inside, loaded, memory_or, or_zero, read, with_written, word, write, written}
+use Rattle.rv_machine.specs.Memory.{Region, byte_in, index_in, is_inside, loaded_number, memory_or, or_zero, read, with_written, memory_word, write, written}
 use Rattle.bs_words.specs.Memory.{part, replaced}
 use Rattle.rv_machine.specs.Sound.{Extent, HasRegions, IsRegion, IsStackBase, extent, extents}
 use Rattle.machine_laws.proofs.Words.{set_words}
@@ -155,8 +155,8 @@ read_hold (r ∷ rs) x y z e f n = by_test (is_inside r x 1) refl (read_hold rs 
     by_test true h later = here (is_inside r y 8) refl (inside_parts r x 1 h).0
     by_test false h later = ap (cond (is_inside r y 8) (Some (part (slice_index r.words (index_in r y)) (byte_in r y) 8))) later
 
-pub word_hold : (m : List Region) (x y z : ℕ) → x % 8 ≡ 0 → x ≢ y → word (hold m x z) y ≡ word m y
-unfolding word
+pub word_hold : (m : List Region) (x y z : ℕ) → x % 8 ≡ 0 → x ≢ y → memory_word (hold m x z) y ≡ memory_word m y
+unfolding memory_word
 word_hold m x y z e n = by_test (y % 8 == 0) refl
   where
     by_test : (t : Bool) → (y % 8 == 0) ≡ t → or_zero (cond t (read (hold m x z) y 8) None) ≡ or_zero (cond t (read m y 8) None)
@@ -261,7 +261,7 @@ covered_held : (m : List Region) (x : ℕ) → IsReadable m x → IsHeld m x
 covered_held m x r = record { is = covers_byte x (map extent m) (covered m x r) }
 
 -- a word of 8 bytes that can be read is the held one
-pub held_is : (m : List Region) (x : ℕ) → AllByRecursion IsRegion m → AllShare x 8 m → IsReadable m x → held_word m x ≡ word m x
+pub held_is : (m : List Region) (x : ℕ) → AllByRecursion IsRegion m → AllShare x 8 m → IsReadable m x → held_word m x ≡ memory_word m x
 held_is m x each share r =
     let even = readable_even m x r in
     let h : read m (x + 0) 8 ≡ Some (part (held_word m x) 0 8) = read_part x 0 8 (omega arith) even (omega arith) m share (covered_held m x r).is in
@@ -282,15 +282,15 @@ write_hold m x z each share r small =
 -- ---- words that cannot be read
 
 pub readable_or_not : (m : List Region) (x : ℕ) → IsReadable m x ⊎ (IsReadable m x → ⊥)
-readable_or_not m x = by_test (is_some (loaded m x 8)) refl
+readable_or_not m x = by_test (is_some (loaded_number m x 8)) refl
   where
-    by_test : (t : Bool) → is_some (loaded m x 8) ≡ t → IsReadable m x ⊎ (IsReadable m x → ⊥)
+    by_test : (t : Bool) → is_some (loaded_number m x 8) ≡ t → IsReadable m x ⊎ (IsReadable m x → ⊥)
     by_test true e = inl (record { is = e })
     by_test false e = inr (λ r. let i = r.is in absurd (cc))
 
-pub word_none : (m : List Region) (x : ℕ) → (IsReadable m x → ⊥) → word m x ≡ 0
-unfolding word
-word_none m x n = by_case (loaded m x 8) (λ e. n (record { is = e }))
+pub word_none : (m : List Region) (x : ℕ) → (IsReadable m x → ⊥) → memory_word m x ≡ 0
+unfolding memory_word
+word_none m x n = by_case (loaded_number m x 8) (λ e. n (record { is = e }))
   where
     by_case : (o : Option ℕ) → (is_some o ≡ true → ⊥) → or_zero o ≡ 0
     by_case None h = refl
@@ -450,7 +450,7 @@ module _ (image : Tables) (heap base : ℕ) (short : length image.bytes ≤ 1677
   }
 
   -- where a word can be read, it is the held one, and is set as it is written
-  pub held_readable : (x : ℕ) → IsReadable m x → held_word m x ≡ word m x
+  pub held_readable : (x : ℕ) → IsReadable m x → held_word m x ≡ memory_word m x
   held_readable x r = held_is m x has.each (readable_shares x r) r
 
   pub hold_readable : (x z : ℕ) → IsReadable m x → z < 2 ^ 64 → hold m x z ≡ write m x z

@@ -4,17 +4,17 @@ use Rattle.std.specs.List.{list_all, AllByRecursion}
 use Rattle.std.proofs.lemmas.Bool.{eqb-true, leb-true, and_parts, or_cases}
 use Rattle.rv_machine.specs.Hart.{Placed}
 use Rattle.rv_machine.specs.Memory.{Region}
-use Rattle.rv_machine.specs.Placement.{bytes_used, end_of, is_in_half, is_in_heap, is_apart, are_apart, is_valid, packed, placed_at, spaced, new_places}
+use Rattle.rv_machine.specs.Placement.{bytes_used, block_end, is_in_half, is_in_heap, is_apart, are_apart, is_valid, packed, placed_at, spaced, new_places}
 use Rattle.rv_machine.specs.Places.{half_start}
 use Rattle.machine_laws.proofs.InHeap.{in_half}
 use Rattle.moving_laws.specs.Words.{IsReadable}
-use Rattle.moving_laws.specs.Values.{start_of, words_of}
+use Rattle.moving_laws.specs.Values.{start_of, cells_of_block}
 use Rattle.moving_laws.specs.Heap.{IsInHeap, AreApart, AllApart, SameSizes}
 
 -- a block lies in a half of so many bytes
 pub record IsInHalf (heap : ℕ) (b : Placed) : Type 0 where
   pub aligned : b.start % 8 ≡ 0
-  pub half : ((0x30000008 ≤ b.start) × (end_of b ≤ 0x30000000 + heap)) ⊎ ((0x34000008 ≤ b.start) × (end_of b ≤ 0x34000000 + heap))
+  pub half : ((0x30000008 ≤ b.start) × (block_end b ≤ 0x30000000 + heap)) ⊎ ((0x34000008 ≤ b.start) × (block_end b ≤ 0x34000000 + heap))
 
 half_is : (heap : ℕ) (b : Placed) → is_in_heap heap b ≡ true → IsInHalf heap b
 half_is heap b h =
@@ -34,8 +34,8 @@ far_is : (b : Placed) (bs : List Placed) → list_all (is_apart b) bs ≡ true �
 far_is b [] h = tt
 far_is b (c ∷ cs) h =
     let p = and_parts (is_apart b c) (list_all (is_apart b) cs) h in (
-      ⊎_elim (λ t. inl (leb-true (end_of b + 8) c.start t)) (λ t. inr (leb-true (end_of c + 8) b.start t))
-          (or_cases (nat_le (end_of b + 8) c.start) (nat_le (end_of c + 8) b.start) p.0),
+      ⊎_elim (λ t. inl (leb-true (block_end b + 8) c.start t)) (λ t. inr (leb-true (block_end c + 8) b.start t))
+          (or_cases (nat_le (block_end b + 8) c.start) (nat_le (block_end c + 8) b.start) p.0),
       far_is b cs p.1,
     )
 
@@ -51,7 +51,7 @@ placed_sizes (b ∷ bs) [] = (refl, same bs) where
   same (b ∷ bs) = (refl, same bs)
 placed_sizes (b ∷ bs) (s ∷ starts) = (refl, placed_sizes bs starts)
 
-packed_far : (c : Placed) (at : ℕ) (bs : List Placed) → end_of c ≤ at → AllByRecursion (AreApart c) (placed_at bs (spaced 0 at bs))
+packed_far : (c : Placed) (at : ℕ) (bs : List Placed) → block_end c ≤ at → AllByRecursion (AreApart c) (placed_at bs (spaced 0 at bs))
 packed_far c at [] l = tt
 packed_far c at (b ∷ bs) l = (inl (omega (arith, l)), packed_far c (at + 0 + (8 + 8 * b.words)) bs (omega (arith, l)))
 
@@ -121,14 +121,14 @@ halves_inside heap (b ∷ bs) l h = (
   halves_inside heap bs l h.1,
 )
 
-pub readable_at : (m : List Region) (bs : List Placed) → AllByRecursion (λ b. (x : ℕ) → x % 8 ≡ 0 → b.start - 8 ≤ x → x < end_of b → IsReadable m x) bs →
-    (k x : ℕ) → k < length bs → x % 8 ≡ 0 → start_of bs k - 8 ≤ x → x < start_of bs k + 8 * words_of bs k → IsReadable m x
+pub readable_at : (m : List Region) (bs : List Placed) → AllByRecursion (λ b. (x : ℕ) → x % 8 ≡ 0 → b.start - 8 ≤ x → x < block_end b → IsReadable m x) bs →
+    (k x : ℕ) → k < length bs → x % 8 ≡ 0 → start_of bs k - 8 ≤ x → x < start_of bs k + 8 * cells_of_block bs k → IsReadable m x
 readable_at m [] r k x l e lo hi = absurd (omega (arith, l))
 readable_at m (b ∷ bs) r zero x l e lo hi = r.0 x e lo hi
 readable_at m (b ∷ bs) r (suc k) x l e lo hi = readable_at m bs r.1 k x (omega (arith, l)) e lo hi
 
 pub halves_low : (heap : ℕ) (bs : List Placed) → heap ≤ 0x4000000 → AllByRecursion (IsInHalf heap) bs →
-    AllByRecursion (λ (b : Placed). end_of b ≤ 0x38000000) bs
+    AllByRecursion (λ (b : Placed). block_end b ≤ 0x38000000) bs
 halves_low heap [] l h = tt
 halves_low heap (b ∷ bs) l h = (
   ⊎_elim (λ i. let i1 = i.1 in omega (arith, i1, l))
@@ -142,7 +142,7 @@ pub record AreHalvesReadable (heap : ℕ) (m : List Region) : Type 0 where
   pub second : (x : ℕ) → x % 8 ≡ 0 → 0x34000000 ≤ x → x + 8 ≤ 0x34000000 + heap → IsReadable m x
 
 pub halves_readable : (heap : ℕ) (m : List Region) (bs : List Placed) → AreHalvesReadable heap m → heap % 8 ≡ 0 → AllByRecursion (IsInHalf heap) bs →
-    AllByRecursion (λ b. (x : ℕ) → x % 8 ≡ 0 → b.start - 8 ≤ x → x < end_of b → IsReadable m x) bs
+    AllByRecursion (λ b. (x : ℕ) → x % 8 ≡ 0 → b.start - 8 ≤ x → x < block_end b → IsReadable m x) bs
 halves_readable heap m [] r e h = tt
 halves_readable heap m (b ∷ bs) r e h =
     let al = h.0.aligned in (

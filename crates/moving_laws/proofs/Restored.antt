@@ -4,13 +4,13 @@ use Rattle.std.specs.List.{AllByRecursion}
 use Rattle.bs_words.specs.declared.values.Value.{Value}
 use Rattle.image_form.specs.Tables.{Tables}
 use Rattle.rv_machine.specs.Hart.{Placed}
-use Rattle.rv_machine.specs.Memory.{Region, word, write}
+use Rattle.rv_machine.specs.Memory.{Region, memory_word, write}
 use Rattle.rv_machine.specs.Moving.{rewritten, is_scanned, vacated, copied, redirected, moved_memory}
-use Rattle.rv_machine.specs.Placement.{end_of}
+use Rattle.rv_machine.specs.Placement.{block_end}
 use Rattle.moving_laws.specs.Words.{IsFormed, IsReadable, held_word}
 use Rattle.moving_laws.specs.Heap.{IsInHeap, IsBeside, SameSizes, AreBlocks}
-use Rattle.moving_laws.specs.Values.{start_of, words_of, value_word, IsVal, IsKnown, FitsCell, HasFunctions}
-use Rattle.moving_laws.specs.Stands.{Blocks, BlocksStand, AreSettled, IsOutside, Among}
+use Rattle.moving_laws.specs.Values.{start_of, cells_of_block, value_word, IsVal, IsKnown, FitsCell, HasFunctions}
+use Rattle.moving_laws.specs.Stands.{Blocks, BlocksStand, AreSettled, IsOutside, AmongNumbers}
 use Rattle.machine_laws.proofs.Memory.{word_below, other_word}
 use Rattle.moving_laws.proofs.Words.{readable_write, formed_write}
 use Rattle.moving_laws.proofs.Moves.{cell_after, vacated_formed, vacated_readable, vacated_keeps, vacated_off, copied_keeps, copied_formed, copied_readable, copied_off, landed, lands_header, lands_cell, AllLand, redirected_formed, redirected_readable, redirected_settled, redirected_in, redirected_keeps, redirected_off}
@@ -24,7 +24,7 @@ beside_all x (b ∷ bs) out h =
     let hi = h.0.high in
     (record { low = omega (arith, lo); off = ⊎_elim (λ l. inl (omega (arith, l, lo))) (λ l. inr (omega (arith, l, hi))) out }, beside_all x bs out h.1)
 
-same_words : (os ns : List Placed) (k : ℕ) → SameSizes os ns → words_of ns k ≡ words_of os k
+same_words : (os ns : List Placed) (k : ℕ) → SameSizes os ns → cells_of_block ns k ≡ cells_of_block os k
 same_words [] [] k s = refl
 same_words [] (n ∷ ns) k s = absurd s
 same_words (o ∷ os) [] k s = absurd s
@@ -38,20 +38,20 @@ pub record IsMove (image : Tables) (olds news : List Placed) (m : List Region) :
   pub old : AreBlocks olds
   pub new : AreBlocks news
   pub sizes : SameSizes olds news
-  pub readable : AllByRecursion (λ b. (x : ℕ) → x % 8 ≡ 0 → b.start - 8 ≤ x → x < end_of b → IsReadable m x) news
+  pub readable : AllByRecursion (λ b. (x : ℕ) → x % 8 ≡ 0 → b.start - 8 ≤ x → x < block_end b → IsReadable m x) news
 
 -- what it restores: m is the memory before, m' the one after
 pub record IsMemoryRestored (image : Tables) (olds news : List Placed) (places : List ℕ) (m m' : List Region) (blocks : Blocks) : Type 0 where
   pub stand : BlocksStand image news m' blocks
   -- a word that stands for a value that fits val, at a place that is named, stands for it again
-  pub named : (x : ℕ) (v : Value) → IsReadable m x → IsOutside x → Among x places → IsVal image (length olds) v → word m x ≡ value_word image olds v →
-      word m' x ≡ value_word image news v
+  pub named : (x : ℕ) (v : Value) → IsReadable m x → IsOutside x → AmongNumbers x places → IsVal image (length olds) v → memory_word m x ≡ value_word image olds v →
+      memory_word m' x ≡ value_word image news v
   -- a word outside the heap that is no block's start stays, named or not
-  pub plain : (x : ℕ) → IsReadable m x → IsOutside x → NoStart (word m x) olds → word m' x ≡ word m x
+  pub plain : (x : ℕ) → IsReadable m x → IsOutside x → NoStart (memory_word m x) olds → memory_word m' x ≡ memory_word m x
   -- a word outside the heap that is not named stays
-  pub unnamed : (x : ℕ) → IsOutside x → (Among x places → ⊥) → word m' x ≡ word m x
+  pub unnamed : (x : ℕ) → IsOutside x → (AmongNumbers x places → ⊥) → memory_word m' x ≡ memory_word m x
   -- also in part
-  pub held : (x : ℕ) → x % 8 ≡ 0 → IsOutside x → (Among x places → ⊥) → held_word m' x ≡ held_word m x
+  pub held : (x : ℕ) → x % 8 ≡ 0 → IsOutside x → (AmongNumbers x places → ⊥) → held_word m' x ≡ held_word m x
   pub readable : (x : ℕ) → IsReadable m x → IsReadable m' x
   pub formed : IsFormed m'
 
@@ -83,8 +83,8 @@ module _ (image : Tables) (olds news : List Placed) (places : List ℕ) (m : Lis
   readable2 : (x : ℕ) → IsReadable m x → IsReadable m2 x
   readable2 x r = vacated_readable m1 olds x (redirected_readable (rewritten olds news) m m places x r)
 
-  new_readable : (bs : List Placed) → AllByRecursion (λ b. (x : ℕ) → x % 8 ≡ 0 → b.start - 8 ≤ x → x < end_of b → IsReadable m x) bs →
-      AllByRecursion (λ b. (x : ℕ) → x % 8 ≡ 0 → b.start - 8 ≤ x → x < end_of b → IsReadable m2 x) bs
+  new_readable : (bs : List Placed) → AllByRecursion (λ b. (x : ℕ) → x % 8 ≡ 0 → b.start - 8 ≤ x → x < block_end b → IsReadable m x) bs →
+      AllByRecursion (λ b. (x : ℕ) → x % 8 ≡ 0 → b.start - 8 ≤ x → x < block_end b → IsReadable m2 x) bs
   new_readable [] r = tt
   new_readable (b ∷ bs) r = (λ x e lo hi. readable2 x (r.0 x e lo hi), new_readable bs r.1)
 
@@ -92,12 +92,12 @@ module _ (image : Tables) (olds news : List Placed) (places : List ℕ) (m : Lis
   small w l = rewritten_below olds news w move.new.inside l
 
   -- outside the heap only what is redirected changes
-  off3 : (x : ℕ) → (x < 0x30000000) ⊎ (0x38010000 ≤ x) → word m3 x ≡ word m1 x
+  off3 : (x : ℕ) → (x < 0x30000000) ⊎ (0x38010000 ≤ x) → memory_word m3 x ≡ memory_word m1 x
   off3 x out =
       copied_off (rewritten olds news) m m2 olds news x move.sizes (beside_all x news out move.new.inside)
       ∙ vacated_off m1 olds x (beside_all x olds out move.old.inside)
 
-  off4 : (x : ℕ) → IsOutside x → word m4 x ≡ word m1 x
+  off4 : (x : ℕ) → IsOutside x → memory_word m4 x ≡ memory_word m1 x
   off4 x out = other_word m3 0x20000000 x limit (λ e. out.no_limit (sym e)) ∙ off3 x out.off
 
   held4 : (x : ℕ) → x % 8 ≡ 0 → IsOutside x → held_word m4 x ≡ held_word m1 x
@@ -120,7 +120,7 @@ module _ (image : Tables) (olds news : List Placed) (places : List ℕ) (m : Lis
     same : length news ≡ length olds
     same = same_length olds news move.sizes
 
-    header_again : (k w : ℕ) → k < length news → blocks.header k ≡ Some w → word m4 (start_of news k - 8) ≡ w
+    header_again : (k w : ℕ) → k < length news → blocks.header k ≡ Some w → memory_word m4 (start_of news k - 8) ≡ w
     header_again k w l h =
         let at = start_inside news k move.new.inside l in
         let n = same in
@@ -128,18 +128,18 @@ module _ (image : Tables) (olds news : List Placed) (places : List ℕ) (m : Lis
         ∙ lands_header (rewritten olds news) m m3 olds news k lands (omega (arith, l, n))
         ∙ st.header k w (omega (arith, l, n)) h
 
-    value_again : (k j : ℕ) (v : Value) → k < length news → j < words_of news k → blocks.cell k j ≡ Some v →
-        word m4 (start_of news k + 8 * j) ≡ value_word image news v
+    value_again : (k j : ℕ) (v : Value) → k < length news → j < cells_of_block news k → blocks.cell k j ≡ Some v →
+        memory_word m4 (start_of news k + 8 * j) ≡ value_word image news v
     value_again k j v l h e =
         let at = start_inside news k move.new.inside l in
         let n = same in
         let l' : k < length olds = omega (arith, l, n) in
-        let h' : j < words_of olds k = let z = same_words olds news k move.sizes in omega (arith, z, h) in
+        let h' : j < cells_of_block olds k = let z = same_words olds news k move.sizes in omega (arith, z, h) in
         let head = settled.header k l' in
         let here = st.header k head.0 l' head.1 in
         other_word m3 0x20000000 (start_of news k + 8 * j) limit (λ e. omega (arith, e, at))
         ∙ lands_cell (rewritten olds news) m m3 olds news k j lands l' h'
-        ∙ cell_again k j (word m (start_of olds k + 8 * j)) v (is_scanned (word m (start_of olds k - 8)))
+        ∙ cell_again k j (memory_word m (start_of olds k + 8 * j)) v (is_scanned (memory_word m (start_of olds k - 8)))
         (subst (λ w. FitsCell image (length olds) (is_scanned w) v) (sym here) (settled.cell k j head.0 v l' head.1 e))
         (st.cell k j v l' h' e)
 
@@ -155,13 +155,13 @@ module _ (image : Tables) (olds news : List Placed) (places : List ℕ) (m : Lis
       };
       named = λ x v r out i fit e.
           off4 x out
-          ∙ redirected_in (rewritten olds news) m m places x move.formed r (small (word m x) (word_below m x)) i
+          ∙ redirected_in (rewritten olds news) m m places x move.formed r (small (memory_word m x) (word_below m x)) i
           ∙ ap (rewritten olds news) e
           ∙ value_moves image olds news v move.low move.sizes move.old.inside move.old.apart move.new.inside fit;
       plain = λ x r out none.
-          let still = stays olds news (word m x) none in
+          let still = stays olds news (memory_word m x) none in
           off4 x out
-          ∙ redirected_settled (rewritten olds news) m m places x move.formed r (small (word m x) (word_below m x)) (sym still)
+          ∙ redirected_settled (rewritten olds news) m m places x move.formed r (small (memory_word m x) (word_below m x)) (sym still)
           ∙ still;
       unnamed = λ x out none. off4 x out ∙ redirected_off (rewritten olds news) m m places x none;
       held = λ x even out none.

@@ -8,18 +8,18 @@ use Rattle.image_form.specs.Tables.{Tables}
 use Rattle.rv_isa.specs.Registers.{s1, sp}
 use Rattle.rv_machine.specs.Frames.{Frame, frames, registers_named, slots_of}
 use Rattle.rv_machine.specs.Hart.{Hart, Placed, register}
-use Rattle.rv_machine.specs.Memory.{word, write}
+use Rattle.rv_machine.specs.Memory.{memory_word, write}
 use Rattle.rv_machine.specs.Moving.{rewritten, moved_memory, redirected_registers}
 use Rattle.rv_machine.specs.Observation.{blocks_at, young_top}
 use Rattle.rv_machine.specs.Placement.{bytes_used, new_places}
 use Rattle.rv_machine.specs.Places.{limit_at_rest, stack_end}
 use Rattle.bs_words.specs.Fits.{data_start}
-use Rattle.rv_machine.specs.Relocation.{Goes, NoHeap, are_roots, emptied, is_root, relocated, root_cells, with_blocks, with_frames}
+use Rattle.rv_machine.specs.Relocation.{Goes, NoHeap, are_roots, emptied, is_root_word, relocated, root_addresses, with_blocks, with_frames}
 use Rattle.rv_machine.specs.Sound.{IsSound, extents}
 use Rattle.machine_laws.proofs.Memory.{has_moved, has_write}
 use Rattle.moving_laws.specs.Heap.{IsInHeap}
-use Rattle.moving_laws.specs.Service.{Contents, Knows, IsReady, IsRestored}
-use Rattle.moving_laws.specs.Stands.{Blocks, AreSettled, Among}
+use Rattle.moving_laws.specs.Service.{Contents, Knows, IsServiceReady, IsRestored}
+use Rattle.moving_laws.specs.Stands.{Blocks, AreSettled, AmongNumbers}
 use Rattle.moving_laws.specs.Values.{value_word, IsVal, IsStill, IsKnown}
 use Rattle.moving_laws.specs.Waiting.{Chain, TrapsFrom}
 use Rattle.moving_laws.specs.Words.{IsReadable, held_word}
@@ -44,13 +44,13 @@ settled_again image n n' blocks e s = subst (λ k. AreSettled image k blocks) (s
 
 -- the root cells lie in the data
 pub roots_low : (bytes : ℕ) (roots : List ℕ) (x : ℕ) → bytes ≤ 16777216 → AllByRecursion (IsRoot bytes) roots →
-    Among x (map (λ offset. data_start + offset) roots) → x < 0x20000000
+    AmongNumbers x (map (λ offset. data_start + offset) roots) → x < 0x20000000
 roots_low bytes [] x short all i = absurd i
 roots_low bytes (r ∷ rs) x short all (inl e) = let inside = all.0.in_data in omega (arith, e, inside, short)
 roots_low bytes (r ∷ rs) x short all (inr i) = roots_low bytes rs x short all.1 i
 
 -- and are whole words of it
-pub roots_whole : (bytes : ℕ) (roots : List ℕ) (x : ℕ) → AllByRecursion (IsRoot bytes) roots → Among x (map (λ offset. data_start + offset) roots) →
+pub roots_whole : (bytes : ℕ) (roots : List ℕ) (x : ℕ) → AllByRecursion (IsRoot bytes) roots → AmongNumbers x (map (λ offset. data_start + offset) roots) →
     (x % 8 ≡ 0) × (data_start ≤ x) × (x + 8 ≤ data_start + bytes)
 roots_whole bytes [] x all i = absurd i
 roots_whole bytes (r ∷ rs) x all (inl e) =
@@ -60,7 +60,7 @@ roots_whole bytes (r ∷ rs) x all (inl e) =
 roots_whole bytes (r ∷ rs) x all (inr i) = roots_whole bytes rs x all.1 i
 
 -- the blocks that a service finds
-pub blocks_found : (h : Hart) (from : ℕ) (young : List Placed) (f : Frame) (regs : ℕ → Option Value) → IsSound h → IsReady h from young f regs →
+pub blocks_found : (h : Hart) (from : ℕ) (young : List Placed) (f : Frame) (regs : ℕ → Option Value) → IsSound h → IsServiceReady h from young f regs →
     blocks_at h from ≡ Some (h.blocks ++ reverse young)
 blocks_found h from young f regs sound ready =
     ap (option_map (λ bs. h.blocks ++ reverse bs))
@@ -71,7 +71,7 @@ pub no_room : (plan : List Placed → List ℕ) (h : Hart) (blocks : List Placed
 no_room plan h blocks l = cond-false (nat_le (bytes_used blocks) h.heap) _ _ (lt-leb (bytes_used blocks) h.heap l)
 
 module _ (h : Hart) (from : ℕ) (young : List Placed) (f : Frame) (fs : List Frame) (holds : Contents)
-    (knows : Knows (h.blocks ++ reverse young) h (f ∷ fs) holds (h.pc + 4)) (ready : IsReady h from young f holds.registers)
+    (knows : Knows (h.blocks ++ reverse young) h (f ∷ fs) holds (h.pc + 4)) (ready : IsServiceReady h from young f holds.registers)
     (fits : bytes_used (h.blocks ++ reverse young) ≤ h.heap) (plan : List Placed → List ℕ) where
   abbrev olds : List Placed
   olds = h.blocks ++ reverse young
@@ -80,7 +80,7 @@ module _ (h : Hart) (from : ℕ) (young : List Placed) (f : Frame) (fs : List Fr
   news = new_places h.heap h.services (h.blocks ++ reverse young) (plan (h.blocks ++ reverse young))
 
   abbrev places : List ℕ
-  places = slots_of (f ∷ fs) ++ root_cells h.image
+  places = slots_of (f ∷ fs) ++ root_addresses h.image
 
   abbrev named : List ℕ
   named = registers_named f.desc.entries
@@ -128,38 +128,38 @@ module _ (h : Hart) (from : ℕ) (young : List Placed) (f : Frame) (fs : List Fr
   is_moved =
       let c = knows.chain in
       let walk = walks_all h.image.descs h.stack_base h.memory true (f ∷ fs) (h.pc + 4) (register h sp) knows.sp_low knows.sp_high c in
-      let rs : list_all (λ r. is_root h.image olds (register h r)) named ≡ true =
-      all_from_among (λ r. is_root h.image olds (register h r)) named
+      let rs : list_all (λ r. is_root_word h.image olds (register h r)) named ≡ true =
+      all_from_among (λ r. is_root_word h.image olds (register h r)) named
       (λ r i. let n = ready.named.named r i in let p = (ready.plain r i).0 in
       is_root_of h.image olds n.0 (register h r) ready.functions knows.old.inside n.2 (register_is h r (omega (arith, p))
       ∙ knows.in_registers.register r n.0 n.1)) in
-      let ss : list_all (λ a. is_root h.image olds (word h.memory a)) (slots_of (f ∷ fs)) ≡ true =
-      all_from_among (λ a. is_root h.image olds (word h.memory a)) (slots_of (f ∷ fs))
+      let ss : list_all (λ a. is_root_word h.image olds (memory_word h.memory a)) (slots_of (f ∷ fs)) ≡ true =
+      all_from_among (λ a. is_root_word h.image olds (memory_word h.memory a)) (slots_of (f ∷ fs))
       (slots_root h.image olds h.memory h.image.descs h.stack_base true (h.pc + 4)
       (register h sp) holds.waiting (f ∷ fs) ready.functions knows.old.inside c knows.waits) in
       ap (with_blocks plan h) (blocks_found h from young f holds.registers knows.sound ready)
       ∙ cond-true (nat_le (bytes_used olds) h.heap) _ _ (le-leb (bytes_used olds) h.heap fits)
       ∙ ap (with_frames plan entered) walk
-      ∙ cond-true (are_roots entered (f ∷ fs)) _ _ (and_from (list_all (λ r. is_root h.image olds (register h r)) named)
-      (list_all (λ a. is_root h.image olds (word h.memory a)) (slots_of (f ∷ fs))) rs ss)
+      ∙ cond-true (are_roots entered (f ∷ fs)) _ _ (and_from (list_all (λ r. is_root_word h.image olds (register h r)) named)
+      (list_all (λ a. is_root_word h.image olds (memory_word h.memory a)) (slots_of (f ∷ fs))) rs ss)
 
-  only_slots : (y : ℕ) → register h sp ≤ y → Among y places → Among y (slots_of (f ∷ fs))
+  only_slots : (y : ℕ) → register h sp ≤ y → AmongNumbers y places → AmongNumbers y (slots_of (f ∷ fs))
   only_slots y l i =
       let b = base_high in
       let s = knows.sp_low in
       ⊎_elim (λ t. t)
       (λ t. absurd (let z = roots_low (length h.image.bytes) h.image.roots y ready.functions.tables.bytes.short ready.functions.tables.roots.each t in omega
       (arith, z, l, s, b)))
-      (among_append y (slots_of (f ∷ fs)) (root_cells h.image) i)
+      (among_append y (slots_of (f ∷ fs)) (root_addresses h.image) i)
 
-  only_roots : (y : ℕ) → y < 0x20000000 → Among y places → Among y (root_cells h.image)
+  only_roots : (y : ℕ) → y < 0x20000000 → AmongNumbers y places → AmongNumbers y (root_addresses h.image)
   only_roots y l i =
       let b = base_high in
       let s = knows.sp_low in
       ⊎_elim
       (λ t. absurd (below h.image.descs h.stack_base h.memory true (h.pc + 4) (register h sp) y (f ∷ fs) knows.chain (omega (arith, l, s, b)) t))
       (λ t. t)
-      (among_append y (slots_of (f ∷ fs)) (root_cells h.image) i)
+      (among_append y (slots_of (f ∷ fs)) (root_addresses h.image) i)
 
   -- ---- with so many bytes taken off the young area, at any place
 
@@ -167,7 +167,7 @@ module _ (h : Hart) (from : ℕ) (young : List Placed) (f : Frame) (fs : List Fr
     abbrev pub after : Hart
     after = record (emptied bytes moved) { pc = pc; retired = retired }
 
-    same_reg : (r : ℕ) → r ≢ 26 → (Among r named → ⊥) → slice_index after.registers r ≡ slice_index h.registers r
+    same_reg : (r : ℕ) → r ≢ 26 → (AmongNumbers r named → ⊥) → slice_index after.registers r ≡ slice_index h.registers r
     same_reg r n none =
         get_or-set_other (redirected_registers (rewritten olds news) h.registers named h.registers) 26 r (young_top - bytes) 0 n
         ∙ regs_off (rewritten olds news) h.registers named h.registers r none
@@ -199,7 +199,7 @@ module _ (h : Hart) (from : ℕ) (young : List Placed) (f : Frame) (fs : List Fr
         same_reg r n26 none ∙ knows.in_registers.register r v e ∙ still_word h.image olds news v still)
         (among_or_not r named)
 
-    unnamed_special : (s : ℕ) → (s ≡ 2) ⊎ (s ≡ 9) → Among s named → ⊥
+    unnamed_special : (s : ℕ) → (s ≡ 2) ⊎ (s ≡ 9) → AmongNumbers s named → ⊥
     unnamed_special s (inl e) i = let p = (ready.plain s i).0 in omega (arith, p, e)
     unnamed_special s (inr e) i = (ready.plain s i).2 e
 
@@ -210,8 +210,8 @@ module _ (h : Hart) (from : ℕ) (young : List Placed) (f : Frame) (fs : List Fr
     s1_same = same_reg 9 (λ e. omega (arith, e)) (unnamed_special 9 (inr refl))
 
     -- a root cell is a whole word, before the move and after it
-    root_words : (x : ℕ) → Among x (root_cells h.image) →
-        IsReadable h.memory x × (held_word h.memory x ≡ word h.memory x) × (held_word after.memory x ≡ word after.memory x)
+    root_words : (x : ℕ) → AmongNumbers x (root_addresses h.image) →
+        IsReadable h.memory x × (held_word h.memory x ≡ memory_word h.memory x) × (held_word after.memory x ≡ memory_word after.memory x)
     root_words x i =
         let p = roots_whole (length h.image.bytes) h.image.roots x ready.functions.tables.roots.each i in
         let moves = has_moved (extents h.image h.heap h.stack_base) olds news h.memory places knows.sound.memory in
@@ -241,15 +241,15 @@ module _ (h : Hart) (from : ℕ) (young : List Placed) (f : Frame) (fs : List Fr
               knows.chain);
           in_registers = record { register = register_again; known = λ q x e. subst (λ z. IsKnown h.image z x) (sym n) (knows.in_registers.known q x e) };
           waits = waits h.image olds news places h.memory after.memory holds.blocks r new_are.sizes knows.old.inside h.stack_base base_high can h.image.descs true (h.pc + 4) (register h sp) holds.waiting (f ∷ fs) knows.chain
-              (λ y i. among_first y (slots_of (f ∷ fs)) (root_cells h.image) i) only_slots knows.waits;
+              (λ y i. among_first y (slots_of (f ∷ fs)) (root_addresses h.image) i) only_slots knows.waits;
           traps = subst (λ x. TrapsFrom h.stack_base after.memory x holds.traps holds.last) (sym s1_same)
               (traps_kept h.image olds news places h.memory after.memory holds.blocks r new_are.sizes knows.old.inside h.stack_base base_high can
               (register h s1) holds.traps holds.last knows.traps);
           stand = r.stand;
           settled = settled_again h.image (length olds) (length news) holds.blocks n knows.settled;
           statics = statics_kept h.image olds news places h.memory after.memory holds.blocks r new_are.sizes knows.old.inside h.stack_base base_high can
-              (root_cells h.image) holds.static
-              ready.functions.tables.bytes.short (λ x i. among_second x (slots_of (f ∷ fs)) (root_cells h.image) i) only_roots
+              (root_addresses h.image) holds.static
+              ready.functions.tables.bytes.short (λ x i. among_second x (slots_of (f ∷ fs)) (root_addresses h.image) i) only_roots
               root_words knows.statics;
         }
 

@@ -5,20 +5,20 @@ use Rattle.bs_words.specs.declared.values.Value.{Value}
 use Rattle.image_form.specs.Tables.{Tables, Desc}
 use Rattle.rv_machine.specs.Frames.{Frame, slots_named, slots_of}
 use Rattle.rv_machine.specs.Hart.{Placed, with_register}
-use Rattle.rv_machine.specs.Memory.{Region, word}
+use Rattle.rv_machine.specs.Memory.{Region, memory_word}
 use Rattle.rv_machine.specs.Moving.{redirected_registers}
 use Rattle.rv_machine.specs.Places.{stack_end}
 use Rattle.moving_laws.specs.Words.{IsReadable, held_word}
 use Rattle.moving_laws.specs.Heap.{IsInHeap, SameSizes}
 use Rattle.moving_laws.specs.Values.{IsVal, IsStill, IsKnown}
-use Rattle.moving_laws.specs.Stands.{Blocks, IsOutside, Among, StaticsStand}
-use Rattle.moving_laws.specs.Waiting.{Activation, slot_offset, Chain, IsWaiting, AllWait, TrapsFrom}
+use Rattle.moving_laws.specs.Stands.{Blocks, IsOutside, AmongNumbers, StaticsStand}
+use Rattle.moving_laws.specs.Waiting.{WaitingActivation, slot_offset, Chain, IsWaiting, AllWait, TrapsFrom}
 use Rattle.moving_laws.proofs.Words.{same_or_not}
 use Rattle.moving_laws.proofs.Rewriting.{far_no_start, still_word, same_length}
 use Rattle.moving_laws.proofs.Restored.{IsMemoryRestored}
 use Rattle.moving_laws.proofs.Walk.{among_append, among_first, among_second, entry_named, own, above_frame}
 
-pub among_or_not : (x : ℕ) (xs : List ℕ) → Among x xs ⊎ (Among x xs → ⊥)
+pub among_or_not : (x : ℕ) (xs : List ℕ) → AmongNumbers x xs ⊎ (AmongNumbers x xs → ⊥)
 among_or_not x [] = inr (λ a. a)
 among_or_not x (y ∷ ys) =
     ⊎_elim (λ e. inl (inl e))
@@ -32,10 +32,10 @@ module _ (image : Tables) (olds news : List Placed) (places : List ℕ) (m m' : 
   on_stack x l = record { off = inr (omega (arith, l, high)); no_limit = λ e. omega (arith, e, l, high) }
 
   -- words of the stack that lie in no heap stay
-  pub stack_keeps : (x : ℕ) → base ≤ x → x + 8 ≤ stack_end → x % 8 ≡ 0 → (word m x < 0x30000008) ⊎ (0x38010000 < word m x) → word m' x ≡ word m x
-  stack_keeps x l h e out = r.plain x (can x e l h) (on_stack x l) (far_no_start (word m x) olds out inside)
+  pub stack_keeps : (x : ℕ) → base ≤ x → x + 8 ≤ stack_end → x % 8 ≡ 0 → (memory_word m x < 0x30000008) ⊎ (0x38010000 < memory_word m x) → memory_word m' x ≡ memory_word m x
+  stack_keeps x l h e out = r.plain x (can x e l h) (on_stack x l) (far_no_start (memory_word m x) olds out inside)
 
-  pub return_keeps : (x : ℕ) → base ≤ x → x + 8 ≤ stack_end → x % 8 ≡ 0 → word m x ≤ 0x10000000 → word m' x ≡ word m x
+  pub return_keeps : (x : ℕ) → base ≤ x → x + 8 ≤ stack_end → x % 8 ≡ 0 → memory_word m x ≤ 0x10000000 → memory_word m' x ≡ memory_word m x
   return_keeps x l h e low = stack_keeps x l h e (inl (omega (arith, low)))
 
   count_same : length news ≡ length olds
@@ -48,10 +48,10 @@ module _ (image : Tables) (olds news : List Placed) (places : List ℕ) (m m' : 
   one_value v v' o e e' = cc
 
   pub waits_one :
-      (x : Activation) (f : Frame) → base ≤ f.at → f.at % 8 ≡ 0 → f.at + f.desc.size ≤ stack_end →
-      ((e : ℕ) → Among e f.desc.entries → e % 2 ≡ 0 → Among (f.at + e) places) →
-      ((k : ℕ) → k < f.desc.size → (Among k f.desc.entries → ⊥) → Among (f.at + k) places → ⊥) →
-      word m' (f.at + (f.desc.size - 8)) ≡ word m (f.at + (f.desc.size - 8)) →
+      (x : WaitingActivation) (f : Frame) → base ≤ f.at → f.at % 8 ≡ 0 → f.at + f.desc.size ≤ stack_end →
+      ((e : ℕ) → AmongNumbers e f.desc.entries → e % 2 ≡ 0 → AmongNumbers (f.at + e) places) →
+      ((k : ℕ) → k < f.desc.size → (AmongNumbers k f.desc.entries → ⊥) → AmongNumbers (f.at + k) places → ⊥) →
+      memory_word m' (f.at + (f.desc.size - 8)) ≡ memory_word m (f.at + (f.desc.size - 8)) →
       IsWaiting image olds m x f → IsWaiting image news m' x f
   waits_one x f lo even hi sub only ret w = record {
     room = w.room;
@@ -80,8 +80,8 @@ module _ (image : Tables) (olds news : List Placed) (places : List ℕ) (m m' : 
   }
 
   pub waits :
-      (ds : List Desc) (first : Bool) (a p : ℕ) (xs : List Activation) (fs : List Frame) → Chain ds base m first a p fs →
-      ((y : ℕ) → Among y (slots_of fs) → Among y places) → ((y : ℕ) → p ≤ y → Among y places → Among y (slots_of fs)) →
+      (ds : List Desc) (first : Bool) (a p : ℕ) (xs : List WaitingActivation) (fs : List Frame) → Chain ds base m first a p fs →
+      ((y : ℕ) → AmongNumbers y (slots_of fs) → AmongNumbers y places) → ((y : ℕ) → p ≤ y → AmongNumbers y places → AmongNumbers y (slots_of fs)) →
       AllWait image olds m xs fs → AllWait image news m' xs fs
   waits ds first a p [] [] c sub only w = w
   waits ds first a p [] (f ∷ fs) c sub only w = w
@@ -96,13 +96,13 @@ module _ (image : Tables) (olds news : List Placed) (places : List ℕ) (m m' : 
         waits_one x f (omega (arith, at, lo)) (omega (arith, at, ev)) hi'
             (λ e i v. sub (f.at + e) (among_first (f.at + e) (slots_named f.at f.desc.entries) (slots_of fs)
             (entry_named f.at f.desc.size e f.desc.entries hi' is.entries i v)))
-            (λ k l none i. none (own ds base m first a p k f fs c l (subst (λ q. Among (q + k) (slots_of (f ∷ fs))) at (only (f.at + k)
+            (λ k l none i. none (own ds base m first a p k f fs c l (subst (λ q. AmongNumbers (q + k) (slots_of (f ∷ fs))) at (only (f.at + k)
             (omega (arith, at)) i))))
             (let se = is.size_even in let sl = is.size_least in
             return_keeps (f.at + (f.desc.size - 8)) (omega (arith, at, lo)) (omega (arith, at, hi, sl)) (omega (arith, at, ev, se, sl))
-            (subst (λ q. word m (q + (f.desc.size - 8)) ≤ 0x10000000) (sym at) c.4))
+            (subst (λ q. memory_word m (q + (f.desc.size - 8)) ≤ 0x10000000) (sym at) c.4))
             w.0,
-        waits ds false (word m (p + (f.desc.size - 8))) (p + f.desc.size) xs fs c.5
+        waits ds false (memory_word m (p + (f.desc.size - 8))) (p + f.desc.size) xs fs c.5
             (λ y i. sub y (among_second y (slots_named f.at f.desc.entries) (slots_of fs) i))
             (λ y l i. ⊎_elim
             (λ t. absurd (above_frame y f f.desc.entries hi' is.entries (omega (arith, l, at)) t))
@@ -121,9 +121,9 @@ module _ (image : Tables) (olds news : List Placed) (places : List ℕ) (m m' : 
       let ev = t.3 in
       let h = t.5.high in
       let e = t.4 in
-      let here : word m' s ≡ word m s = return_keeps s lo (omega (arith, hi)) ev (omega (arith, h, e)) in
+      let here : memory_word m' s ≡ memory_word m s = return_keeps s lo (omega (arith, hi)) ev (omega (arith, h, e)) in
       let up = t.6 in
-      let next : word m' (s + 8) ≡ word m (s + 8) = stack_keeps (s + 8) (omega (arith, lo)) (omega (arith, hi)) (omega (arith, ev))
+      let next : memory_word m' (s + 8) ≡ memory_word m (s + 8) = stack_keeps (s + 8) (omega (arith, lo)) (omega (arith, hi)) (omega (arith, ev))
       (inr (omega (arith, up, high))) in (
         t.0,
         t.1,
@@ -133,14 +133,14 @@ module _ (image : Tables) (olds news : List Placed) (places : List ℕ) (m m' : 
         t.5,
         subst (λ w. base ≤ w) (sym next) t.6,
         subst (λ w. TrapsFrom base m' w ts last) (sym next)
-            (traps_kept (word m (s + 8)) ts last t.7),
+            (traps_kept (memory_word m (s + 8)) ts last t.7),
       )
 
   -- ---- static cells
 
   pub statics_kept : (roots : List ℕ) (static : ℕ → Option Value) → length image.bytes ≤ 16777216 →
-      ((x : ℕ) → Among x roots → Among x places) → ((x : ℕ) → x < 0x20000000 → Among x places → Among x roots) →
-      ((x : ℕ) → Among x roots → IsReadable m x × (held_word m x ≡ word m x) × (held_word m' x ≡ word m' x)) →
+      ((x : ℕ) → AmongNumbers x roots → AmongNumbers x places) → ((x : ℕ) → x < 0x20000000 → AmongNumbers x places → AmongNumbers x roots) →
+      ((x : ℕ) → AmongNumbers x roots → IsReadable m x × (held_word m x ≡ memory_word m x) × (held_word m' x ≡ memory_word m' x)) →
       StaticsStand image olds m roots static → StaticsStand image news m' roots static
   statics_kept roots static short sub only whole s = record {
     cell = λ x v e.
@@ -207,7 +207,7 @@ module _ (f : ℕ → ℕ) (old : List ℕ) where
       (λ ne. set_other r x v registers ne ∙ e)
       (same_or_not r x))
 
-  pub regs_in : (rs registers : List ℕ) (x : ℕ) → 1 ≤ x → x < length registers → Among x rs →
+  pub regs_in : (rs registers : List ℕ) (x : ℕ) → 1 ≤ x → x < length registers → AmongNumbers x rs →
       slice_index (redirected_registers f old rs registers) x ≡ f (slice_index old x)
   regs_in [] registers x o l i = absurd i
   regs_in (r ∷ rs) registers x o l i =
@@ -220,7 +220,7 @@ module _ (f : ℕ → ℕ) (old : List ℕ) where
       (λ j. regs_in rs (with_register r v registers) x o l' j)
       i
 
-  pub regs_off : (rs registers : List ℕ) (x : ℕ) → (Among x rs → ⊥) → slice_index (redirected_registers f old rs registers) x ≡ slice_index registers x
+  pub regs_off : (rs registers : List ℕ) (x : ℕ) → (AmongNumbers x rs → ⊥) → slice_index (redirected_registers f old rs registers) x ≡ slice_index registers x
   regs_off [] registers x none = refl
   regs_off (r ∷ rs) registers x none =
       let v : ℕ = f (slice_index old r) in

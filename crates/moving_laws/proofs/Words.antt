@@ -3,7 +3,7 @@ use Rattle.std.proofs.Common.{◌≡◌, ◌≢◌, ℕ, ◌+◌, ◌%◌, ◌^�
 use Rattle.std.specs.List.{AllByRecursion}
 use Rattle.std.specs.Option.{is_some}
 use Rattle.std.proofs.lemmas.Bool.{and_parts, leb-true, eqb-true, cases_lt}
-use Rattle.rv_machine.specs.Memory.{Region, byte_in, index_in, is_inside, memory_or, or_zero, read, stored, with_written, word, write, written}
+use Rattle.rv_machine.specs.Memory.{Region, byte_in, index_in, is_inside, memory_or, or_zero, read, stored_number, with_written, memory_word, write, written}
 use Rattle.bs_words.specs.Memory.{part, replaced}
 use Rattle.rv_machine.specs.Sound.{IsRegion, extent}
 use Rattle.machine_laws.proofs.Memory.{has_write}
@@ -61,8 +61,8 @@ aligned_by m a false e h = absurd (cc)
 pub readable_even : (m : List Region) (a : ℕ) → IsReadable m a → a % 8 ≡ 0
 readable_even m a r = eqb-true (a % 8) 0 (aligned_by m a (a % 8 == 0) refl r.is)
 
-pub word_same : (m : List Region) (a v : ℕ) → IsFormed m → IsReadable m a → v < 2 ^ 64 → word (write m a v) a ≡ v
-unfolding word write
+pub word_same : (m : List Region) (a v : ℕ) → IsFormed m → IsReadable m a → v < 2 ^ 64 → memory_word (write m a v) a ≡ v
+unfolding memory_word write
 word_same m a v f r small = by_test (a % 8 == 0) refl r.is where
   by_test : (t : Bool) → (a % 8 == 0) ≡ t → is_some (cond t (read m a 8) None) ≡ true →
       or_zero (cond t (read (memory_or m (cond t (written m a 8 v) None)) a 8) None) ≡ v
@@ -120,9 +120,9 @@ some_or : (m : List Region) (o : Option (List Region)) → is_some o ≡ true �
 some_or m None h = absurd (cc)
 some_or m (Some new) h = refl
 
-pub stored_is : (m : List Region) (a v : ℕ) → IsReadable m a → stored m a 8 v ≡ Some (write m a v)
+pub stored_is : (m : List Region) (a v : ℕ) → IsReadable m a → stored_number m a 8 v ≡ Some (write m a v)
 unfolding write
-stored_is m a v r = some_or m (stored m a 8 v) (by_test (a % 8 == 0) r.is) where
+stored_is m a v r = some_or m (stored_number m a 8 v) (by_test (a % 8 == 0) r.is) where
   by_test : (t : Bool) → is_some (cond t (read m a 8) None) ≡ true → is_some (cond t (written m a 8 v) None) ≡ true
   by_test true h = written_some m a v ∙ h
   by_test false h = h

@@ -3,20 +3,20 @@ use Rattle.std.specs.Prelude.{◌≡◌, ℕ, suc, ◌+◌, ◌-◌, ◌%◌, �
 use Rattle.std.specs.List.{AllByRecursion}
 use Rattle.bs_words.specs.declared.values.Value.{Value}
 use Rattle.rv_isa.specs.Registers.{s1, s10, s11, sp}
-use Rattle.rv_machine.specs.Allocation.{allocated, bytes_asked}
+use Rattle.rv_machine.specs.Allocation.{allocation_served, bytes_asked}
 use Rattle.rv_machine.specs.FrameCalls.{collected}
 use Rattle.rv_machine.specs.Frames.{Frame, registers_named}
 use Rattle.rv_machine.specs.Hart.{Hart, Placed, register}
-use Rattle.rv_machine.specs.Memory.{word}
+use Rattle.rv_machine.specs.Memory.{memory_word}
 use Rattle.rv_machine.specs.Observation.{young_start, young_top}
-use Rattle.rv_machine.specs.Placement.{end_of}
+use Rattle.rv_machine.specs.Placement.{block_end}
 use Rattle.rv_machine.specs.Places.{domain_start, limit_at_rest, stack_end}
-use Rattle.rv_machine.specs.Relocation.{Goes, root_cells}
+use Rattle.rv_machine.specs.Relocation.{Goes, root_addresses}
 use Rattle.rv_machine.specs.Sound.{IsSound}
 use Rattle.moving_laws.specs.Heap.{AreBlocks}
-use Rattle.moving_laws.specs.Stands.{Blocks, BlocksStand, AreSettled, StaticsStand, AreReadable, Among}
+use Rattle.moving_laws.specs.Stands.{Blocks, BlocksStand, AreSettled, StaticsStand, AreReadable, AmongNumbers}
 use Rattle.moving_laws.specs.Values.{HasFunctions}
-use Rattle.moving_laws.specs.Waiting.{Activation, Chain, AllWait, TrapsFrom, AreRegisters, AreNamed}
+use Rattle.moving_laws.specs.Waiting.{WaitingActivation, Chain, AllWait, TrapsFrom, AreRegisterValues, AreNamed}
 use Rattle.moving_laws.specs.Words.{IsReadable}
 use Rattle.moving_laws.specs.Young.{Rises, HaveHeads}
 
@@ -25,7 +25,7 @@ use Rattle.moving_laws.specs.Young.{Rises, HaveHeads}
 -- the static cells by address.
 pub record Contents : Type 0 where
   pub registers : ℕ → Option Value
-  pub waiting : List Activation
+  pub waiting : List WaitingActivation
   pub traps : List (ℕ × ℕ)
   pub last : ℕ
   pub blocks : Blocks
@@ -42,16 +42,16 @@ pub record Knows (placed : List Placed) (h : Hart) (frames : List Frame) (c : Co
   pub sp_low : h.stack_base ≤ register h sp
   pub sp_high : register h sp ≤ stack_end
   pub chain : Chain h.image.descs h.stack_base h.memory true back (register h sp) frames
-  pub in_registers : AreRegisters h.image placed h.registers c.registers
+  pub in_registers : AreRegisterValues h.image placed h.registers c.registers
   pub waits : AllWait h.image placed h.memory c.waiting frames
   pub traps : TrapsFrom h.stack_base h.memory (register h s1) c.traps c.last
   pub stand : BlocksStand h.image placed h.memory c.blocks
   pub settled : AreSettled h.image (length placed) c.blocks
-  pub statics : StaticsStand h.image placed h.memory (root_cells h.image) c.static
+  pub statics : StaticsStand h.image placed h.memory (root_addresses h.image) c.static
 
 -- What a service asks for that moves the blocks: the young ones lie from an address on, and the
 -- first descriptor names just the registers that hold vals.
-pub record IsReady (h : Hart) (from : ℕ) (young : List Placed) (f : Frame)
+pub record IsServiceReady (h : Hart) (from : ℕ) (young : List Placed) (f : Frame)
     (registers : ℕ → Option Value) : Type 0 where
   pub functions : HasFunctions h.image
   pub from_even : from % 8 ≡ 0
@@ -59,7 +59,7 @@ pub record IsReady (h : Hart) (from : ℕ) (young : List Placed) (f : Frame)
   pub rises : Rises from young
   pub heads : HaveHeads h.memory young
   pub named : AreNamed h.image (length (h.blocks ++ reverse young)) registers f.desc
-  pub plain : (r : ℕ) → Among r (registers_named f.desc.entries) → (3 ≤ r) × (r < 32) × (r ≢ s1)
+  pub plain : (r : ℕ) → AmongNumbers r (registers_named f.desc.entries) → (3 ≤ r) × (r < 32) × (r ≢ s1)
       × (r ≢ s10) × (r ≢ s11)
   pub no_s10 : registers s10 ≡ None
 
@@ -71,23 +71,23 @@ pub record IsRestored (bytes : ℕ) (h : Hart) (f : Frame) (frames : List Frame)
   pub stack_base : new.stack_base ≡ h.stack_base
   pub heap : new.heap ≡ h.heap
   pub s10_is : slice_index new.registers s10 ≡ young_top - bytes
-  pub others : (r : ℕ) → r ≢ s10 → (Among r (registers_named f.desc.entries) → ⊥) →
+  pub others : (r : ℕ) → r ≢ s10 → (AmongNumbers r (registers_named f.desc.entries) → ⊥) →
       slice_index new.registers r ≡ slice_index h.registers r
   pub readable : (x : ℕ) → IsReadable h.memory x → IsReadable new.memory x
-  pub table_low : AllByRecursion (λ (b : Placed). end_of b ≤ young_start) new.blocks
+  pub table_low : AllByRecursion (λ (b : Placed). block_end b ≤ young_start) new.blocks
   pub blocks_readable : AreReadable new.memory new.blocks
   -- the mover asks no more
-  pub limit : word new.memory domain_start ≡ limit_at_rest
+  pub limit : memory_word new.memory domain_start ≡ limit_at_rest
   -- a word of the stack that lies in no heap stays
   pub stays : (x : ℕ) → h.stack_base ≤ x → x + 8 ≤ stack_end → x % 8 ≡ 0 →
-      (word h.memory x < 0x30000008) ⊎ (0x38010000 < word h.memory x) →
-      word new.memory x ≡ word h.memory x
+      (memory_word h.memory x < 0x30000008) ⊎ (0x38010000 < memory_word h.memory x) →
+      memory_word new.memory x ≡ memory_word h.memory x
 
 -- The allocation service, where the bytes have been taken off s10 before.
-pub record IsAllocated (plan : List Placed → List ℕ) (h : Hart) (f : Frame) (frames : List Frame)
+pub record IsAllocationServed (plan : List Placed → List ℕ) (h : Hart) (f : Frame) (frames : List Frame)
     (c : Contents) : Type 0 where
   pub new : Hart
-  pub is : allocated plan h ≡ Goes new
+  pub is : allocation_served plan h ≡ Goes new
   pub restored : IsRestored (bytes_asked h) h f frames c new
   pub pc : new.pc ≡ h.pc + 4
   pub retired : new.retired ≡ suc h.retired

@@ -3,11 +3,11 @@ use Rattle.std.specs.Prelude.{◌≡◌, ℕ, ◌+◌, ◌-◌, ◌*◌, ◌%◌
 use Rattle.bs_words.specs.declared.values.Value.{Value}
 use Rattle.image_form.specs.Tables.{Tables}
 use Rattle.rv_machine.specs.Hart.{Placed}
-use Rattle.rv_machine.specs.Memory.{Region, word}
+use Rattle.rv_machine.specs.Memory.{Region, memory_word}
 use Rattle.rv_machine.specs.Moving.{is_scanned}
 use Rattle.bs_words.specs.Fits.{data_start}
 use Rattle.moving_laws.specs.Words.{IsReadable, held_word}
-use Rattle.moving_laws.specs.Values.{start_of, words_of, value_word, IsVal, IsStill, IsKnown, FitsCell}
+use Rattle.moving_laws.specs.Values.{start_of, cells_of_block, value_word, IsVal, IsStill, IsKnown, FitsCell}
 
 -- The blocks of a run, by serial. A header or a cell that has not been written yet has nothing.
 pub record Blocks : Type 0 where
@@ -21,11 +21,11 @@ pub record Blocks : Type 0 where
 pub record BlocksStand (image : Tables) (placed : List Placed) (m : List Region)
     (blocks : Blocks) : Type 0 where
   pub count : blocks.count ≡ length placed
-  pub sizes : (k : ℕ) → k < length placed → words_of placed k ≡ blocks.size k
+  pub sizes : (k : ℕ) → k < length placed → cells_of_block placed k ≡ blocks.size k
   pub header : (k w : ℕ) → k < length placed → blocks.header k ≡ Some w →
-      word m (start_of placed k - 8) ≡ w
-  pub cell : (k j : ℕ) (v : Value) → k < length placed → j < words_of placed k →
-      blocks.cell k j ≡ Some v → word m (start_of placed k + 8 * j) ≡ value_word image placed v
+      memory_word m (start_of placed k - 8) ≡ w
+  pub cell : (k j : ℕ) (v : Value) → k < length placed → j < cells_of_block placed k →
+      blocks.cell k j ≡ Some v → memory_word m (start_of placed k + 8 * j) ≡ value_word image placed v
   pub known : (k j : ℕ) (v : Value) → k < length placed → blocks.cell k j ≡ Some v →
       IsKnown image (length placed) v
 
@@ -38,16 +38,16 @@ pub record AreSettled (image : Tables) (count : ℕ) (blocks : Blocks) : Type 0 
 -- every word of the blocks can be read and written
 pub record AreReadable (m : List Region) (placed : List Placed) : Type 0 where
   pub each : (k x : ℕ) → k < length placed → x % 8 ≡ 0 → start_of placed k - 8 ≤ x →
-      x < start_of placed k + 8 * words_of placed k → IsReadable m x
+      x < start_of placed k + 8 * cells_of_block placed k → IsReadable m x
 
 -- an address at which the program keeps words of its own: no word of a block, nor the limit word
 pub record IsOutside (x : ℕ) : Type 0 where
   pub off : (x < 0x30000000) ⊎ (0x38010000 ≤ x)
   pub no_limit : x ≢ 0x20000000
 
-abbrev pub Among : ℕ → List ℕ → Type 0
-Among x [] = ⊥
-Among x (a ∷ rest) = (x ≡ a) ⊎ Among x rest
+abbrev pub AmongNumbers : ℕ → List ℕ → Type 0
+AmongNumbers x [] = ⊥
+AmongNumbers x (a ∷ rest) = (x ≡ a) ⊎ AmongNumbers x rest
 
 -- the static cells, by address, hold these values: a root cell what fits val, another one no
 -- pointer
@@ -55,7 +55,7 @@ pub record StaticsStand (image : Tables) (placed : List Placed) (m : List Region
     (static : ℕ → Option Value) : Type 0 where
   pub cell : (x : ℕ) (v : Value) → static x ≡ Some v → held_word m x ≡ value_word image placed v
   pub kind : (x : ℕ) (v : Value) → static x ≡ Some v →
-      (IsVal image (length placed) v × Among x roots) ⊎ (IsStill v × (Among x roots → ⊥))
+      (IsVal image (length placed) v × AmongNumbers x roots) ⊎ (IsStill v × (AmongNumbers x roots → ⊥))
   pub known : (x : ℕ) (v : Value) → static x ≡ Some v → IsKnown image (length placed) v
   -- some byte of the cell lies in the data; the last one may be cut off
   pub place : (x : ℕ) (v : Value) → static x ≡ Some v → (x % 8 ≡ 0) × (data_start ≤ x)

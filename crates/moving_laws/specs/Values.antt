@@ -18,10 +18,10 @@ start_of (b ∷ bs) zero = b.start
 start_of (b ∷ bs) (suc k) = start_of bs k
 
 -- its number of cells
-abbrev pub words_of : List Placed → ℕ → ℕ
-words_of [] k = 0
-words_of (b ∷ bs) zero = b.words
-words_of (b ∷ bs) (suc k) = words_of bs k
+abbrev pub cells_of_block : List Placed → ℕ → ℕ
+cells_of_block [] k = 0
+cells_of_block (b ∷ bs) zero = b.words
+cells_of_block (b ∷ bs) (suc k) = cells_of_block bs k
 
 -- the address of a function
 abbrev pub function_at : List Func → ℕ → ℕ

@@ -5,14 +5,14 @@ use Rattle.bs_words.specs.declared.values.Value.{Value}
 use Rattle.image_form.specs.Tables.{Tables, Desc}
 use Rattle.rv_machine.specs.Frames.{Frame, descriptor_at, names_register, registers_named}
 use Rattle.rv_machine.specs.Hart.{Placed}
-use Rattle.rv_machine.specs.Memory.{Region, word, code_start}
+use Rattle.rv_machine.specs.Memory.{Region, memory_word, code_start}
 use Rattle.rv_machine.specs.Places.{stack_end}
 use Rattle.moving_laws.specs.Values.{value_word, IsVal, IsStill, IsKnown}
-use Rattle.moving_laws.specs.Stands.{Among}
+use Rattle.moving_laws.specs.Stands.{AmongNumbers}
 
 -- An activation that waits at a frame point: what its slots hold, and the handlers of its tries
 -- that are pushed, the innermost first.
-pub record Activation : Type 0 where
+pub record WaitingActivation : Type 0 where
   -- where it goes back to
   pub back : ℕ
   -- the number of its slots, and what each holds: nothing where it may not be read
@@ -21,7 +21,7 @@ pub record Activation : Type 0 where
   pub tries : List ℕ
 
 -- where slot k lies in its frame
-abbrev pub slot_offset : Activation → ℕ → ℕ
+abbrev pub slot_offset : WaitingActivation → ℕ → ℕ
 slot_offset x k = 16 * length x.tries + 8 * k
 
 -- a frame with this descriptor lies at an address
@@ -32,7 +32,7 @@ pub record IsFrameAt (first : Bool) (base p : ℕ) (d : Desc) : Type 0 where
   pub size_least : 16 ≤ d.size
   pub high : p + d.size ≤ stack_end
   pub registers : (first ≡ true) ⊎ (names_register d.entries ≡ false)
-  pub entries : (e : ℕ) → Among e d.entries → e % 2 ≡ 0 → (e % 8 ≡ 0) × (e + 8 ≤ d.size)
+  pub entries : (e : ℕ) → AmongNumbers e d.entries → e % 2 ≡ 0 → (e % 8 ≡ 0) × (e + 8 ≤ d.size)
 
 -- the frames from a return address and a stack pointer up to the stub's address
 abbrev pub Chain : List Desc → ℕ → List Region → Bool → ℕ → ℕ → List Frame → Type 0
@@ -40,26 +40,26 @@ Chain ds base m first a p [] = a ≡ code_start
 Chain ds base m first a p (f ∷ fs) =
     (a ≢ code_start) × (descriptor_at ds a ≡ Some f.desc) × (f.at ≡ p)
     × IsFrameAt first base p f.desc
-    × (word m (p + (f.desc.size - 8)) ≤ data_start)
-    × Chain ds base m false (word m (p + (f.desc.size - 8))) (p + f.desc.size) fs
+    × (memory_word m (p + (f.desc.size - 8)) ≤ data_start)
+    × Chain ds base m false (memory_word m (p + (f.desc.size - 8))) (p + f.desc.size) fs
 
 -- Its frame has what the activation has: a slot holds its value, a pointer is only where the
 -- descriptor names it, and what is named fits val.
-pub record IsWaiting (image : Tables) (placed : List Placed) (m : List Region) (x : Activation)
+pub record IsWaiting (image : Tables) (placed : List Placed) (m : List Region) (x : WaitingActivation)
     (f : Frame) : Type 0 where
   pub room : slot_offset x (x.count) + 8 ≤ f.desc.size
-  pub back : word m (f.at + (f.desc.size - 8)) ≡ x.back
+  pub back : memory_word m (f.at + (f.desc.size - 8)) ≡ x.back
   pub slot : (k : ℕ) (v : Value) → k < x.count → x.slot k ≡ Some v →
-      word m (f.at + slot_offset x k) ≡ value_word image placed v
+      memory_word m (f.at + slot_offset x k) ≡ value_word image placed v
   pub known : (k : ℕ) (v : Value) → k < x.count → x.slot k ≡ Some v →
       IsKnown image (length placed) v
   pub value : (k : ℕ) (v : Value) → k < x.count → x.slot k ≡ Some v → IsStill v
-      ⊎ Among (slot_offset x k) f.desc.entries
-  pub named : (e : ℕ) → Among e f.desc.entries → e % 2 ≡ 0 → (k : ℕ) × (v : Value)
+      ⊎ AmongNumbers (slot_offset x k) f.desc.entries
+  pub named : (e : ℕ) → AmongNumbers e f.desc.entries → e % 2 ≡ 0 → (k : ℕ) × (v : Value)
       × (e ≡ slot_offset x k) × (k < x.count) × (x.slot k ≡ Some v)
       × IsVal image (length placed) v
 
-abbrev pub AllWait : Tables → List Placed → List Region → List Activation → List Frame → Type 0
+abbrev pub AllWait : Tables → List Placed → List Region → List WaitingActivation → List Frame → Type 0
 AllWait image placed m [] [] = Unit {0}
 AllWait image placed m [] (f ∷ fs) = ⊥
 AllWait image placed m (x ∷ xs) [] = ⊥
@@ -77,9 +77,9 @@ pub record IsBack (a : ℕ) : Type 0 where
 abbrev pub TrapsFrom : ℕ → List Region → ℕ → List (ℕ × ℕ) → ℕ → Type 0
 TrapsFrom base m s [] last = s ≡ last
 TrapsFrom base m s (t ∷ ts) last =
-    (s ≡ t.0) × (base ≤ s) × (s + 16 ≤ stack_end) × (s % 8 ≡ 0) × (word m s ≡ t.1) × IsBack t.1
-    × (base ≤ word m (s + 8))
-    × TrapsFrom base m (word m (s + 8)) ts last
+    (s ≡ t.0) × (base ≤ s) × (s + 16 ≤ stack_end) × (s % 8 ≡ 0) × (memory_word m s ≡ t.1) × IsBack t.1
+    × (base ≤ memory_word m (s + 8))
+    × TrapsFrom base m (memory_word m (s + 8)) ts last
 
 -- the places and handlers of a frame's tries
 abbrev pub traps_at : ℕ → List ℕ → List (ℕ × ℕ)
@@ -87,7 +87,7 @@ traps_at p [] = []
 traps_at p (t ∷ ts) = (p, t) ∷ traps_at (p + 16) ts
 
 -- Registers: each location holds its value.
-pub record AreRegisters (image : Tables) (placed : List Placed) (registers : List ℕ)
+pub record AreRegisterValues (image : Tables) (placed : List Placed) (registers : List ℕ)
     (regs : ℕ → Option Value) : Type 0 where
   pub register : (r : ℕ) (v : Value) → regs r ≡ Some v →
       slice_index registers r ≡ value_word image placed v
@@ -97,6 +97,6 @@ pub record AreRegisters (image : Tables) (placed : List Placed) (registers : Lis
 pub record AreNamed (image : Tables) (count : ℕ) (regs : ℕ → Option Value) (d : Desc)
     : Type 0 where
   pub value : (r : ℕ) (v : Value) → regs r ≡ Some v → IsStill v
-      ⊎ Among r (registers_named d.entries)
-  pub named : (r : ℕ) → Among r (registers_named d.entries) → (v : Value) × (regs r ≡ Some v)
+      ⊎ AmongNumbers r (registers_named d.entries)
+  pub named : (r : ℕ) → AmongNumbers r (registers_named d.entries) → (v : Value) × (regs r ≡ Some v)
       × IsVal image count v

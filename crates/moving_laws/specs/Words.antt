@@ -2,7 +2,7 @@
 use Rattle.std.specs.Prelude.{◌≡◌, ℕ, true, cond, List, [], ◌∷◌, slice_index}
 use Rattle.std.specs.List.{AllByRecursion}
 use Rattle.std.specs.Option.{is_some}
-use Rattle.rv_machine.specs.Memory.{Region, index_in, is_inside, loaded}
+use Rattle.rv_machine.specs.Memory.{Region, index_in, is_inside, loaded_number}
 use Rattle.rv_machine.specs.Sound.{IsRegion}
 
 pub record IsFormed (m : List Region) : Type 0 where
@@ -10,7 +10,7 @@ pub record IsFormed (m : List Region) : Type 0 where
 
 -- a word of 8 bytes can be read and written there
 pub record IsReadable (m : List Region) (a : ℕ) : Type 0 where
-  pub is : is_some (loaded m a 8) ≡ true
+  pub is : is_some (loaded_number m a 8) ≡ true
 
 -- the word of the region that has a byte at this address, whole also where the region ends inside
 -- it; 0 where there is none

@@ -2,8 +2,8 @@
 use Rattle.std.proofs.Common.{◌≡◌, ◌≢◌, ℕ, zero, suc, ◌+◌, ◌≤◌, ◌⊎◌, Bool, true, false, cond, List, [], ◌∷◌, ◌++◌, length, Option, Some, None, refl, sym, ap, ◌∙◌, subst, arith, inl, inr, append_assoc, length-append}
 use Rattle.bs_words.specs.declared.types.Loc.{Loc}
 use Rattle.par_moves.specs.declared.moves.Move.{Move}
-use Rattle.par_moves.specs.Moves.{Moves, same_place, spare, needed, saved, from_spare, first_target, ReadsOn, IsCycle, joined}
-use Rattle.par_moves.specs.Resolved.{Made, then_made, first_reader, others, top_target, unwound, turned, walked, walk_from, gathered, added, drained_by, drained_within, drained_at, drained, resolved_moves}
+use Rattle.par_moves.specs.Moves.{Moves, same_place, spare, needed, saved, from_spare, first_target, ReadsOn, IsCycle, joined_moves}
+use Rattle.par_moves.specs.Resolved.{MovesMade, then_made, first_reader, others, top_target, unwound, turned, walked, walk_from, gathered, added, drained_by, drained_within, drained_at, drained, resolved_moves}
 use Rattle.par_moves.proofs.Places.{same_place-true}
 use Rattle.par_moves.proofs.Members.{In, NotTo, Apart, split_first}
 use Rattle.par_moves.proofs.Turns.{length-others}
@@ -23,9 +23,9 @@ Apart-append (x ∷ xs) ys a b across = (
   Apart-append xs ys a.1 b (λ m h. across m (inr h)),
 )
 
-joined-append : (xs ys : List Moves) → joined (xs ++ ys) ≡ joined xs ++ joined ys
+joined-append : (xs ys : List Moves) → joined_moves (xs ++ ys) ≡ joined_moves xs ++ joined_moves ys
 joined-append [] ys = refl
-joined-append (x ∷ xs) ys = ap (λ (r : Moves). x ++ r) (joined-append xs ys) ∙ sym (append_assoc x (joined xs) (joined ys))
+joined-append (x ∷ xs) ys = ap (λ (r : Moves). x ++ r) (joined-append xs ys) ∙ sym (append_assoc x (joined_moves xs) (joined_moves ys))
 
 abbrev pub EachCycle : List Moves → Type 0
 EachCycle [] = Unit
@@ -52,15 +52,15 @@ abbrev pub IsFrom : Move → Move → Type 0
 IsFrom m made = (made ≡ m) ⊎ ((made ≡ from_spare m) ⊎ (made ≡ saved m))
 
 -- a walk whose root reads t0 makes each move once
-record Plain (root : Move) (path pending : Moves) (w : Made) : Type 0 where
+record Plain (root : Move) (path pending : Moves) (w : MovesMade) : Type 0 where
   pub few : length w.made + length w.left ≤ suc (length path) + length pending
   pub made : (r : Move) → In r w.made → (r ≡ root) ⊎ (In r path ⊎ In r pending)
   pub left_in : (r : Move) → In r w.left → In r pending
 
-abbrev ArePlain : (Move → Moves → Moves → Made) → Type 0
+abbrev ArePlain : (Move → Moves → Moves → MovesMade) → Type 0
 ArePlain go = (root : Move) (path pending : Moves) → ((m : Move) → In m path → m.to ≢ spare) → ((m : Move) → In m pending → m.to ≢ spare) → root.from ≡ spare → Plain root path pending (go root path pending)
 
-plain_no_reader : (go : Move → Moves → Moves → Made) → ArePlain go → (root : Move) (path pending : Moves) → ((m : Move) → In m path → m.to ≢ spare) → ((m : Move) → In m pending → m.to ≢ spare) → root.from ≡ spare → Plain root path pending (unwound go root path pending)
+plain_no_reader : (go : Move → Moves → Moves → MovesMade) → ArePlain go → (root : Move) (path pending : Moves) → ((m : Move) → In m path → m.to ≢ spare) → ((m : Move) → In m pending → m.to ≢ spare) → root.from ≡ spare → Plain root path pending (unwound go root path pending)
 plain_no_reader go goes root [] pending tp tq e = record {
   few = omega arith;
   made = λ r h. elim h [ inl is ↦ inl is | inr k ↦ absurd k ];
@@ -78,7 +78,7 @@ plain_no_reader go goes root (top ∷ path) pending tp tq e = by (same_place top
         left_in = p.left_in;
       }
 
-plain_turned : (go : Move → Moves → Moves → Made) → ArePlain go → (root : Move) (path pending : Moves) → ((m : Move) → In m path → m.to ≢ spare) → ((m : Move) → In m pending → m.to ≢ spare) → root.from ≡ spare → Plain root path pending (turned go root path pending (first_reader (top_target root path) pending))
+plain_turned : (go : Move → Moves → Moves → MovesMade) → ArePlain go → (root : Move) (path pending : Moves) → ((m : Move) → In m path → m.to ≢ spare) → ((m : Move) → In m pending → m.to ≢ spare) → root.from ≡ spare → Plain root path pending (turned go root path pending (first_reader (top_target root path) pending))
 plain_turned go goes root path pending tp tq e = by (first_reader (top_target root path) pending) refl where
   by : (found : Option Move) → first_reader (top_target root path) pending ≡ found → Plain root path pending (turned go root path pending found)
   by None f = plain_no_reader go goes root path pending tp tq e
@@ -106,20 +106,20 @@ unfolding walked
 plain_walked zero root path pending tp tq e = record { few = omega arith; made = λ r h. absurd h; left_in = λ r h. h }
 plain_walked (suc n) root path pending tp tq e = plain_turned (walked n) (plain_walked n) root path pending tp tq e
 
-pub record Costs (root : Move) (path pending : Moves) (w : Made) : Type 0 where
+pub record Costs (root : Move) (path pending : Moves) (w : MovesMade) : Type 0 where
   pub cycles : List Moves
   pub each : EachCycle cycles
-  pub inside : (m : Move) → In m (joined cycles) → (m ≡ root) ⊎ (In m path ⊎ In m pending)
-  pub apart : Apart (joined cycles)
-  pub gone : (m : Move) → In m (joined cycles) → NotTo m.to w.left
+  pub inside : (m : Move) → In m (joined_moves cycles) → (m ≡ root) ⊎ (In m path ⊎ In m pending)
+  pub apart : Apart (joined_moves cycles)
+  pub gone : (m : Move) → In m (joined_moves cycles) → NotTo m.to w.left
   pub few : length w.made + length w.left ≤ suc (length path) + length pending + length cycles
   pub made : (r : Move) → In r w.made → IsFrom root r ⊎ (In r path ⊎ In r pending)
   pub left_in : (r : Move) → In r w.left → In r pending
 
-abbrev HaveCosts : (Move → Moves → Moves → Made) → Type 0
+abbrev HaveCosts : (Move → Moves → Moves → MovesMade) → Type 0
 HaveCosts go = (root : Move) (path pending : Moves) → Fit root path pending → Costs root path pending (go root path pending)
 
-costs_cycle : (go : Move → Moves → Moves → Made) → ArePlain go → (root top : Move) (path pending : Moves) → Fit root (top ∷ path) pending → top.to ≡ root.from → Costs root (top ∷ path) pending (then_made (saved root ∷ top ∷ []) (go (from_spare root) path pending))
+costs_cycle : (go : Move → Moves → Moves → MovesMade) → ArePlain go → (root top : Move) (path pending : Moves) → Fit root (top ∷ path) pending → top.to ≡ root.from → Costs root (top ∷ path) pending (then_made (saved root ∷ top ∷ []) (go (from_spare root) path pending))
 costs_cycle go plain root top path pending f back = record {
   cycles = cycle ∷ [];
   each = ((f.follows.0 ∙ first_target-path root path top.to, reads_path root path top.to f.follows.1 (sym back)), tt);
@@ -167,7 +167,7 @@ costs_cycle go plain root top path pending f back = record {
     | inr l ↦ f.across m l x (rest.left_in x k) e
   ]
 
-costs_no_reader : (go : Move → Moves → Moves → Made) → ArePlain go → HaveCosts go → (root : Move) (path pending : Moves) → Fit root path pending → Costs root path pending (unwound go root path pending)
+costs_no_reader : (go : Move → Moves → Moves → MovesMade) → ArePlain go → HaveCosts go → (root : Move) (path pending : Moves) → Fit root path pending → Costs root path pending (unwound go root path pending)
 costs_no_reader go plain goes root [] pending f = record {
   cycles = [];
   each = tt;
@@ -198,7 +198,7 @@ costs_no_reader go plain goes root (top ∷ path) pending f = by (same_place top
         left_in = c.left_in;
       }
 
-costs_turned : (go : Move → Moves → Moves → Made) → ArePlain go → HaveCosts go → (root : Move) (path pending : Moves) → Fit root path pending → Costs root path pending (turned go root path pending (first_reader (top_target root path) pending))
+costs_turned : (go : Move → Moves → Moves → MovesMade) → ArePlain go → HaveCosts go → (root : Move) (path pending : Moves) → Fit root path pending → Costs root path pending (turned go root path pending (first_reader (top_target root path) pending))
 costs_turned go plain goes root path pending f = by (first_reader (top_target root path) pending) refl where
   by : (found : Option Move) → first_reader (top_target root path) pending ≡ found → Costs root path pending (turned go root path pending found)
   by None e = costs_no_reader go plain goes root path pending f
@@ -239,12 +239,12 @@ costs_walked (suc n) root path pending f = costs_turned (walked n) (plain_walked
 
 -- ---- all walks
 
-pub record Total (pending : Moves) (w : Made) : Type 0 where
+pub record Total (pending : Moves) (w : MovesMade) : Type 0 where
   pub cycles : List Moves
   pub each : EachCycle cycles
-  pub inside : (m : Move) → In m (joined cycles) → In m pending
-  pub apart : Apart (joined cycles)
-  pub gone : (m : Move) → In m (joined cycles) → NotTo m.to w.left
+  pub inside : (m : Move) → In m (joined_moves cycles) → In m pending
+  pub apart : Apart (joined_moves cycles)
+  pub gone : (m : Move) → In m (joined_moves cycles) → NotTo m.to w.left
   pub few : length w.made + length w.left ≤ length pending + length cycles
   pub made : (r : Move) → In r w.made → (m : Move) × In m pending × IsFrom m r
   pub left_in : (r : Move) → In r w.left → In r pending
@@ -286,10 +286,10 @@ total_one_walk place pending root e r =
       left_in = λ x h. s.back x (c.left_in x h);
     }
 
-total_then : (pending : Moves) (v w : Made) → Total pending v → Total v.left w → Total pending (then_made v.made w)
+total_then : (pending : Moves) (v w : MovesMade) → Total pending v → Total v.left w → Total pending (then_made v.made w)
 total_then pending v w e f =
-    let parts : (m : Move) → In m (joined (e.cycles ++ f.cycles)) → In m (joined e.cycles) ⊎ In m (joined f.cycles) =
-    λ m h. In-append (joined e.cycles) (joined f.cycles) m (subst (In m) (joined-append e.cycles f.cycles) h) in
+    let parts : (m : Move) → In m (joined_moves (e.cycles ++ f.cycles)) → In m (joined_moves e.cycles) ⊎ In m (joined_moves f.cycles) =
+    λ m h. In-append (joined_moves e.cycles) (joined_moves f.cycles) m (subst (In m) (joined-append e.cycles f.cycles) h) in
     let few_e : length v.made + length v.left ≤ length pending + length e.cycles = e.few in
     let few_f : length w.made + length w.left ≤ length v.left + length f.cycles = f.few in
     let longer : length (v.made ++ w.made) ≡ length v.made + length w.made = length-append v.made w.made in
@@ -298,7 +298,7 @@ total_then pending v w e f =
       cycles = e.cycles ++ f.cycles;
       each = EachCycle-append e.cycles f.cycles e.each f.each;
       inside = λ m h. elim (parts m h) [ inl k ↦ e.inside m k | inr k ↦ e.left_in m (f.inside m k) ];
-      apart = subst Apart (sym (joined-append e.cycles f.cycles)) (Apart-append (joined e.cycles) (joined f.cycles) e.apart f.apart (λ m h x k t. e.gone m h x (f.inside x k) t));
+      apart = subst Apart (sym (joined-append e.cycles f.cycles)) (Apart-append (joined_moves e.cycles) (joined_moves f.cycles) e.apart f.apart (λ m h x k t. e.gone m h x (f.inside x k) t));
       gone = λ m h x k t. elim (parts m h) [ inl l ↦ e.gone m l x (f.left_in x k) t | inr l ↦ f.gone m l x k t ];
       few = omega arith;
       made = λ r h. elim (In-append v.made w.made r h) [
@@ -354,8 +354,8 @@ length-gathered (m ∷ ms) pending =
 pub record Sums (moves done : Moves) : Type 0 where
   pub cycles : List Moves
   pub each : EachCycle cycles
-  pub inside : (m : Move) → In m (joined cycles) → In m (needed moves)
-  pub apart : Apart (joined cycles)
+  pub inside : (m : Move) → In m (joined_moves cycles) → In m (needed moves)
+  pub apart : Apart (joined_moves cycles)
   pub few : length done ≤ length (needed moves) + length cycles
   pub made : (r : Move) → In r done → (m : Move) × In m (needed moves) × IsFrom m r
 

@@ -2,14 +2,14 @@
 use Rattle.std.proofs.Common.{◌≡◌, ◌≢◌, ℕ, zero, suc, ◌+◌, ◌<◌, ◌≤◌, ◌⊎◌, Bool, true, false, cond, [], ◌∷◌, ◌++◌, length, Option, Some, None, refl, sym, ap, ◌∙◌, arith, inl, inr}
 use Rattle.bs_words.specs.declared.types.Loc.{Loc}
 use Rattle.par_moves.specs.declared.moves.Move.{Move}
-use Rattle.par_moves.specs.Moves.{Moves, same_place, spare, after}
-use Rattle.par_moves.specs.Resolved.{Made, then_made, first_reader, others, walk_from, added, gathered, drained_by, drained_within, drained_at, drained, resolved_moves}
+use Rattle.par_moves.specs.Moves.{Moves, same_place, spare, after_moves}
+use Rattle.par_moves.specs.Resolved.{MovesMade, then_made, first_reader, others, walk_from, added, gathered, drained_by, drained_within, drained_at, drained, resolved_moves}
 use Rattle.par_moves.proofs.Places.{same_place-true, same_place-false}
 use Rattle.par_moves.proofs.Members.{In, NotTo, Apart, split_first, none_reads}
 use Rattle.par_moves.proofs.Turns.{length-others, length-walked}
 use Rattle.par_moves.proofs.Effects.{Effect, Ready, fit_root, effect_nothing, effect_root, effect_then, effect_walked}
 
-pub ready_left : {A : Type 0} (held : Loc → A) (place : Loc) (pending : Moves) (w : Made) → Ready place pending → Effect held [] pending w → Ready place w.left
+pub ready_left : {A : Type 0} (held : Loc → A) (place : Loc) (pending : Moves) (w : MovesMade) → Ready place pending → Effect held [] pending w → Ready place w.left
 ready_left held place pending w r e = record {
   apart = e.left_apart;
   targets = λ m h. r.targets m (e.left_in m h);
@@ -33,7 +33,7 @@ effect_drained_within {A} (suc n) place pending r held = by (λ q s h. effect_dr
       let w = walk_from root (others place pending) in
       let first : Effect held [] pending w = effect_one_walk held place pending root e r in
       effect_then held pending w (drained_within n place w.left) r.targets first
-      (later w.left (ready_left held place pending w r first) (after w.made held))
+      (later w.left (ready_left held place pending w r first) (after_moves w.made held))
 
 -- nothing is left that reads the place
 pub drained_none_reads : (n : ℕ) (place : Loc) (pending : Moves) → length pending < n → (m : Move) → In m (drained_within n place pending).left → m.from ≡ place → ⊥
@@ -54,7 +54,7 @@ effect_drained (m ∷ ms) pending a targets free held =
     let w = drained_at m.from pending in
     let first : Effect held [] pending w = effect_drained_within (suc (length pending)) m.from pending (record { apart = a; targets = targets; spare_free = inr free }) held in
     effect_then held pending w (drained ms w.left) targets first
-    (effect_drained ms w.left first.left_apart (λ x h. targets x (first.left_in x h)) (λ x h. free x (first.left_in x h)) (after w.made held))
+    (effect_drained ms w.left first.left_apart (λ x h. targets x (first.left_in x h)) (λ x h. free x (first.left_in x h)) (after_moves w.made held))
 
 -- nothing is left that reads the source of one of the moves
 pub drained_nothing : (ms pending : Moves) → Apart pending → ((m : Move) → In m pending → m.to ≢ spare) → ((m : Move) → In m pending → m.from ≢ spare) → (x : Move) → In x (drained ms pending).left → (m : Move) → In m ms → x.from ≡ m.from → ⊥
@@ -128,8 +128,8 @@ apart_same (m ∷ ms) a x y h k e = by (λ p q. apart_same ms a.1 x y p q e) h k
 
 -- what the sequence does to any values
 pub record Leaves {A : Type 0} (held : Loc → A) (moves done : Moves) : Type 0 where
-  pub targets : (m : Move) → In m moves → after done held m.to ≡ held m.from
-  pub rest : (place : Loc) → place ≢ spare → NotTo place moves → after done held place ≡ held place
+  pub targets : (m : Move) → In m moves → after_moves done held m.to ≡ held m.from
+  pub rest : (place : Loc) → place ≢ spare → NotTo place moves → after_moves done held place ≡ held place
 
 pub leaves : {A : Type 0} (held : Loc → A) (moves : Moves) → Apart moves → ((m : Move) → In m moves → m.to ≢ spare) → Leaves held moves (resolved_moves moves)
 leaves {A} held moves a targets = record {
@@ -139,7 +139,7 @@ leaves {A} held moves a targets = record {
   all : Moves
   all = gathered moves []
 
-  first : Made
+  first : MovesMade
   first = drained_at spare all
 
   planned : (x : Move) → In x all → In x [] ⊎ (In x moves × (x.from ≡ x.to → ⊥))
@@ -160,9 +160,9 @@ leaves {A} held moves a targets = record {
   whole : Effect held [] all (then_made first.made (drained moves first.left))
   whole =
       effect_then held all first (drained moves first.left) planned_target first_effect
-      (effect_drained moves first.left first_effect.left_apart left_target no_spare (after first.made held))
+      (effect_drained moves first.left first_effect.left_apart left_target no_spare (after_moves first.made held))
 
-  by : (m : Move) → In m moves → (t : Bool) → same_place m.from m.to ≡ t → after (first.made ++ (drained moves first.left).made) held m.to ≡ held m.from
+  by : (m : Move) → In m moves → (t : Bool) → same_place m.from m.to ≡ t → after_moves (first.made ++ (drained moves first.left).made) held m.to ≡ held m.from
   by m h true e =
       let stays : m.from ≡ m.to = same_place-true m.from m.to e in
       let no_target : NotTo m.to all = λ x k t. elim (planned x k) [

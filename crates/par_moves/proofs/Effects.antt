@@ -3,8 +3,8 @@ use Rattle.std.proofs.Common.{◌≡◌, ◌≢◌, ℕ, zero, suc, ◌+◌, ◌
 use Rattle.std.proofs.lemmas.Bool.{cond-true, cond-false}
 use Rattle.bs_words.specs.declared.types.Loc.{Loc}
 use Rattle.par_moves.specs.declared.moves.Move.{Move}
-use Rattle.par_moves.specs.Moves.{Moves, same_place, spare, saved, from_spare, moved, after}
-use Rattle.par_moves.specs.Resolved.{Made, then_made, first_reader, others, top_target, unwound, turned, walked}
+use Rattle.par_moves.specs.Moves.{Moves, same_place, spare, saved, from_spare, moved, after_moves}
+use Rattle.par_moves.specs.Resolved.{MovesMade, then_made, first_reader, others, top_target, unwound, turned, walked}
 use Rattle.par_moves.proofs.Places.{same_place-refl, same_place-true, same_place-false, same_place-apart}
 use Rattle.par_moves.proofs.Members.{In, NotTo, Apart, Split, split_first, none_reads}
 use Rattle.par_moves.proofs.Turns.{length-others}
@@ -21,12 +21,12 @@ moved-there m held place apart = cond-false _ _ _ (same_place-apart place m.to a
 
 -- The moves of the first list are all made, those of the second or left, and what is left can still
 -- be made from where things are.
-pub record Effect {A : Type 0} (held : Loc → A) (walk pending : Moves) (w : Made) : Type 0 where
-  pub walk_done : (m : Move) → In m walk → after w.made held m.to ≡ held m.from
-  pub done : (m : Move) → In m pending → In m w.left ⊎ (NotTo m.to w.left × (after w.made held m.to ≡ held m.from))
+pub record Effect {A : Type 0} (held : Loc → A) (walk pending : Moves) (w : MovesMade) : Type 0 where
+  pub walk_done : (m : Move) → In m walk → after_moves w.made held m.to ≡ held m.from
+  pub done : (m : Move) → In m pending → In m w.left ⊎ (NotTo m.to w.left × (after_moves w.made held m.to ≡ held m.from))
   pub left_in : (m : Move) → In m w.left → In m pending
-  pub left_reads : (m : Move) → In m w.left → after w.made held m.from ≡ held m.from
-  pub rest : (place : Loc) → place ≢ spare → NotTo place walk → NotTo place pending → after w.made held place ≡ held place
+  pub left_reads : (m : Move) → In m w.left → after_moves w.made held m.from ≡ held m.from
+  pub rest : (place : Loc) → place ≢ spare → NotTo place walk → NotTo place pending → after_moves w.made held place ≡ held place
   pub left_apart : Apart w.left
 
 -- the root and each move of the path read the target of the one before, the last one first
@@ -99,7 +99,7 @@ fit_saved root path pending f = record {
 
 -- ---- one turn
 
-effect_pushed : {A : Type 0} (held : Loc → A) (root : Move) (path pending rest : Moves) (c : Move) (w : Made) → Split (top_target root path) pending rest c → Fit root path pending → Effect held (root ∷ c ∷ path) rest w → Effect held (root ∷ path) pending w
+effect_pushed : {A : Type 0} (held : Loc → A) (root : Move) (path pending rest : Moves) (c : Move) (w : MovesMade) → Split (top_target root path) pending rest c → Fit root path pending → Effect held (root ∷ c ∷ path) rest w → Effect held (root ∷ path) pending w
 effect_pushed held root path pending rest c w s f e = record {
   walk_done = λ m h. elim h [ inl is ↦ e.walk_done m (inl is) | inr k ↦ e.walk_done m (inr (inr k)) ];
   done = λ m h. elim (s.cases m h) [
@@ -126,15 +126,15 @@ effect_last held root pending none f = record {
 }
 
 -- a move of the path is made, perhaps after its root's value was saved
-effect_unwound : {A : Type 0} (held held2 : Loc → A) (root root2 top : Move) (path pending made2 : Moves) (w : Made) → root2.to ≡ root.to → held2 root2.from ≡ held root.from → held2 top.to ≡ held top.from → ((m : Move) → In m path → held2 m.from ≡ held m.from) → ((m : Move) → In m pending → held2 m.from ≡ held m.from) → ((place : Loc) → place ≢ spare → (place ≡ top.to → ⊥) → held2 place ≡ held place) → ((place : Loc) → after made2 held place ≡ after w.made held2 place) → Fit root (top ∷ path) pending → Effect held2 (root2 ∷ path) pending w → Effect held (root ∷ top ∷ path) pending (record { made = made2; left = w.left })
+effect_unwound : {A : Type 0} (held held2 : Loc → A) (root root2 top : Move) (path pending made2 : Moves) (w : MovesMade) → root2.to ≡ root.to → held2 root2.from ≡ held root.from → held2 top.to ≡ held top.from → ((m : Move) → In m path → held2 m.from ≡ held m.from) → ((m : Move) → In m pending → held2 m.from ≡ held m.from) → ((place : Loc) → place ≢ spare → (place ≡ top.to → ⊥) → held2 place ≡ held place) → ((place : Loc) → after_moves made2 held place ≡ after_moves w.made held2 place) → Fit root (top ∷ path) pending → Effect held2 (root2 ∷ path) pending w → Effect held (root ∷ top ∷ path) pending (record { made = made2; left = w.left })
 effect_unwound held held2 root root2 top path pending made2 w target by_root by_top by_path by_pending by_rest same f e = record {
   walk_done = λ m h. elim h [
     | inl is ↦
-        (let P : Move → Type 0 = λ x. after made2 held x.to ≡ held x.from in
-        subst P (sym is) (same root.to ∙ (ap (after w.made held2) (sym target) ∙ (e.walk_done root2 (inl refl) ∙ by_root))))
+        (let P : Move → Type 0 = λ x. after_moves made2 held x.to ≡ held x.from in
+        subst P (sym is) (same root.to ∙ (ap (after_moves w.made held2) (sym target) ∙ (e.walk_done root2 (inl refl) ∙ by_root))))
     | inr k ↦ elim k [
       | inl is ↦
-          (let P : Move → Type 0 = λ x. after made2 held x.to ≡ held x.from in
+          (let P : Move → Type 0 = λ x. after_moves made2 held x.to ≡ held x.from in
           let apart : NotTo top.to (root2 ∷ path) = λ x h t. elim h [
             | inl is2 ↦ f.below top (inl refl) (sym t ∙ (ap (λ (y : Move). y.to) is2 ∙ target))
             | inr l ↦ f.path_apart.0 x l t
@@ -181,10 +181,10 @@ path_reads_no_top root top path pending f m h e =
 -- ---- all turns
 
 -- the walks of at most so many turns have their effects
-abbrev pub HaveEffects : Type 0 → ℕ → (Move → Moves → Moves → Made) → Type 0
+abbrev pub HaveEffects : Type 0 → ℕ → (Move → Moves → Moves → MovesMade) → Type 0
 HaveEffects A n go = (root : Move) (path pending : Moves) → length pending + length pending + length path < n → Fit root path pending → (held : Loc → A) → Effect held (root ∷ path) pending (go root path pending)
 
-effect_cycle : {A : Type 0} (go : Move → Moves → Moves → Made) (held : Loc → A) (root top : Move) (path pending : Moves) → ((h : Loc → A) → Effect h (from_spare root ∷ path) pending (go (from_spare root) path pending)) → Fit root (top ∷ path) pending → first_reader top.to pending ≡ None → top.to ≡ root.from → Effect held (root ∷ top ∷ path) pending (then_made (saved root ∷ top ∷ []) (go (from_spare root) path pending))
+effect_cycle : {A : Type 0} (go : Move → Moves → Moves → MovesMade) (held : Loc → A) (root top : Move) (path pending : Moves) → ((h : Loc → A) → Effect h (from_spare root ∷ path) pending (go (from_spare root) path pending)) → Fit root (top ∷ path) pending → first_reader top.to pending ≡ None → top.to ≡ root.from → Effect held (root ∷ top ∷ path) pending (then_made (saved root ∷ top ∷ []) (go (from_spare root) path pending))
 effect_cycle {A} go held root top path pending later f none back =
     let held1 : Loc → A = moved (saved root) held in
     let held2 : Loc → A = moved top held1 in
@@ -202,7 +202,7 @@ effect_cycle {A} go held root top path pending later f none back =
     f
     (later held2)
 
-effect_step : {A : Type 0} (go : Move → Moves → Moves → Made) (held : Loc → A) (root top : Move) (path pending : Moves) → ((h : Loc → A) → Effect h (root ∷ path) pending (go root path pending)) → Fit root (top ∷ path) pending → first_reader top.to pending ≡ None → (root.from ≡ top.to → ⊥) → Effect held (root ∷ top ∷ path) pending (then_made (top ∷ []) (go root path pending))
+effect_step : {A : Type 0} (go : Move → Moves → Moves → MovesMade) (held : Loc → A) (root top : Move) (path pending : Moves) → ((h : Loc → A) → Effect h (root ∷ path) pending (go root path pending)) → Fit root (top ∷ path) pending → first_reader top.to pending ≡ None → (root.from ≡ top.to → ⊥) → Effect held (root ∷ top ∷ path) pending (then_made (top ∷ []) (go root path pending))
 effect_step {A} go held root top path pending later f none on =
     let held2 : Loc → A = moved top held in
     effect_unwound held held2 root root top path pending (top ∷ (go root path pending).made) (go root path pending)
@@ -216,7 +216,7 @@ effect_step {A} go held root top path pending later f none on =
     f
     (later held2)
 
-effect_no_reader : {A : Type 0} (go : Move → Moves → Moves → Made) (n : ℕ) → HaveEffects A n go → (held : Loc → A) (root : Move) (path pending : Moves) → length pending + length pending + length path < suc n → Fit root path pending → first_reader (top_target root path) pending ≡ None → Effect held (root ∷ path) pending (unwound go root path pending)
+effect_no_reader : {A : Type 0} (go : Move → Moves → Moves → MovesMade) (n : ℕ) → HaveEffects A n go → (held : Loc → A) (root : Move) (path pending : Moves) → length pending + length pending + length path < suc n → Fit root path pending → first_reader (top_target root path) pending ≡ None → Effect held (root ∷ path) pending (unwound go root path pending)
 effect_no_reader go n goes held root [] pending enough f none = effect_last held root pending none f
 effect_no_reader {A} go n goes held root (top ∷ path) pending enough f none = by (same_place top.to root.from) refl where
   by : (t : Bool) → same_place top.to root.from ≡ t → Effect held (root ∷ top ∷ path) pending (then_made (cond t (saved root ∷ top ∷ []) (top ∷ [])) (go (cond t (from_spare root) root) path pending))
@@ -229,7 +229,7 @@ effect_no_reader {A} go n goes held root (top ∷ path) pending enough f none = 
       (λ h. goes root path pending (omega arith) (fit_popped root top path pending f) h)
       f none (λ back. same_place-false top.to root.from e (sym back))
 
-effect_turned : {A : Type 0} (go : Move → Moves → Moves → Made) (n : ℕ) → HaveEffects A n go → (held : Loc → A) (root : Move) (path pending : Moves) → length pending + length pending + length path < suc n → Fit root path pending → Effect held (root ∷ path) pending (turned go root path pending (first_reader (top_target root path) pending))
+effect_turned : {A : Type 0} (go : Move → Moves → Moves → MovesMade) (n : ℕ) → HaveEffects A n go → (held : Loc → A) (root : Move) (path pending : Moves) → length pending + length pending + length path < suc n → Fit root path pending → Effect held (root ∷ path) pending (turned go root path pending (first_reader (top_target root path) pending))
 effect_turned go n goes held root path pending enough f = by (first_reader (top_target root path) pending) refl where
   by : (found : Option Move) → first_reader (top_target root path) pending ≡ found → Effect held (root ∷ path) pending (turned go root path pending found)
   by None e = effect_no_reader go n goes held root path pending enough f e
@@ -277,7 +277,7 @@ effect_nothing held pending a = record {
 }
 
 -- a walk from one of the pending moves
-pub effect_root : {A : Type 0} (held : Loc → A) (place : Loc) (pending rest : Moves) (root : Move) (w : Made) → Split place pending rest root → Ready place pending → Effect held (root ∷ []) rest w → Effect held [] pending w
+pub effect_root : {A : Type 0} (held : Loc → A) (place : Loc) (pending rest : Moves) (root : Move) (w : MovesMade) → Split place pending rest root → Ready place pending → Effect held (root ∷ []) rest w → Effect held [] pending w
 effect_root held place pending rest root w s r e = record {
   walk_done = λ m h. absurd h;
   done = λ m h. elim (s.cases m h) [
@@ -293,14 +293,14 @@ effect_root held place pending rest root w s r e = record {
   left_apart = e.left_apart;
 }
 
-after-append : {A : Type 0} (xs ys : Moves) (held : Loc → A) → after (xs ++ ys) held ≡ after ys (after xs held)
+after-append : {A : Type 0} (xs ys : Moves) (held : Loc → A) → after_moves (xs ++ ys) held ≡ after_moves ys (after_moves xs held)
 after-append [] ys held = refl
 after-append (x ∷ xs) ys held = after-append xs ys (moved x held)
 
 -- first the one, then the other from what it left
-pub effect_then : {A : Type 0} (held : Loc → A) (pending : Moves) (v w : Made) → ((m : Move) → In m pending → m.to ≢ spare) → Effect held [] pending v → Effect (after v.made held) [] v.left w → Effect held [] pending (then_made v.made w)
+pub effect_then : {A : Type 0} (held : Loc → A) (pending : Moves) (v w : MovesMade) → ((m : Move) → In m pending → m.to ≢ spare) → Effect held [] pending v → Effect (after_moves v.made held) [] v.left w → Effect held [] pending (then_made v.made w)
 effect_then {A} held pending v w targets e f =
-    let same : (place : Loc) → after (v.made ++ w.made) held place ≡ after w.made (after v.made held) place = λ place. ap (λ (g : Loc → A). g place) (after-append v.made w.made held) in
+    let same : (place : Loc) → after_moves (v.made ++ w.made) held place ≡ after_moves w.made (after_moves v.made held) place = λ place. ap (λ (g : Loc → A). g place) (after-append v.made w.made held) in
     record {
       walk_done = λ m h. absurd h;
       done = λ m h. elim (e.done m h) [

@@ -4,7 +4,7 @@ use Rattle.std.proofs.lemmas.List.Elements.{Contains-append_right}
 use Rattle.bs_words.specs.declared.types.Loc.{Loc}
 use Rattle.par_moves.specs.declared.moves.Move.{Move}
 use Rattle.par_moves.specs.Moves.{Moves, same_place, spare, saved, from_spare, ReadsKnown, ReadsSources}
-use Rattle.par_moves.specs.Resolved.{Made, added, gathered, first_reader, others, top_target, turned, walked, walk_from, drained_by, drained_within, drained_at, drained, resolved_moves}
+use Rattle.par_moves.specs.Resolved.{MovesMade, added, gathered, first_reader, others, top_target, turned, walked, walk_from, drained_by, drained_within, drained_at, drained, resolved_moves}
 use Rattle.par_moves.proofs.Members.{In, split_first}
 
 -- ---- places that are known
@@ -43,10 +43,10 @@ others-in place (x ∷ ms) m h = by (others-in place ms m) (same_place x.from pl
   by later false (inl is) = inl is
   by later false (inr h) = inr (later h)
 
-abbrev LeavesPending : (Move → Moves → Moves → Made) → Type 0
+abbrev LeavesPending : (Move → Moves → Moves → MovesMade) → Type 0
 LeavesPending go = (root : Move) (path pending : Moves) (m : Move) → In m (go root path pending).left → In m pending
 
-left-turned : (go : Move → Moves → Moves → Made) → LeavesPending go → (root : Move) (path pending : Moves) (found : Option Move) (m : Move) → In m (turned go root path pending found).left → In m pending
+left-turned : (go : Move → Moves → Moves → MovesMade) → LeavesPending go → (root : Move) (path pending : Moves) (found : Option Move) (m : Move) → In m (turned go root path pending found).left → In m pending
 left-turned go later root path pending (Some c) m h = others-in (top_target root path) pending m (later root (c ∷ path) (others (top_target root path) pending) m h)
 left-turned go later root [] pending None m h = h
 left-turned go later root (x ∷ path) pending None m h = later (cond (same_place x.to root.from) (from_spare root) root) path pending m h
@@ -58,10 +58,10 @@ left-pending (suc n) root path pending m h = left-turned (walked n) (left-pendin
 
 -- ---- walks
 
-abbrev ReadsOn : (Move → Moves → Moves → Made) → Type 0
+abbrev ReadsOn : (Move → Moves → Moves → MovesMade) → Type 0
 ReadsOn go = (known : List Loc) (root : Move) (path pending : Moves) → Contains known root.from → AllRead known path → AllRead known pending → ReadsKnown known (go root path pending).made
 
-reads-unwound : (go : Move → Moves → Moves → Made) → ReadsOn go → (known : List Loc) (root x : Move) (path pending : Moves) → Contains known root.from → Contains known x.from → AllRead known path → AllRead known pending
+reads-unwound : (go : Move → Moves → Moves → MovesMade) → ReadsOn go → (known : List Loc) (root x : Move) (path pending : Moves) → Contains known root.from → Contains known x.from → AllRead known path → AllRead known pending
     → (t : Bool) → ReadsKnown known (cond t (saved root ∷ x ∷ []) (x ∷ []) ++ (go (cond t (from_spare root) root) path pending).made)
 reads-unwound go later known root x path pending r h p q true =
     let up : (place : Loc) → Contains known place → Contains (x.to ∷ spare ∷ known) place = λ place k. known-more x.to place (spare ∷ known) (known-more spare place known k) in
@@ -74,7 +74,7 @@ read-first : (known : List Loc) (c : Move) (path : Moves) → Contains known c.f
 read-first known c path h p m (inl is) = let P : Move → Type 0 = λ x. Contains known x.from in subst P (sym is) h
 read-first known c path h p m (inr k) = p m k
 
-reads-turned : (go : Move → Moves → Moves → Made) → ReadsOn go → (known : List Loc) (root : Move) (path pending : Moves) (found : Option Move) → first_reader (top_target root path) pending ≡ found
+reads-turned : (go : Move → Moves → Moves → MovesMade) → ReadsOn go → (known : List Loc) (root : Move) (path pending : Moves) (found : Option Move) → first_reader (top_target root path) pending ≡ found
     → Contains known root.from → AllRead known path → AllRead known pending → ReadsKnown known (turned go root path pending found).made
 reads-turned go later known root path pending (Some c) is r p q =
     later known root (c ∷ path) (others (top_target root path) pending) r
@@ -92,16 +92,16 @@ reads-walk (suc n) known root path pending r p q = reads-turned (walked n) (read
 -- ---- all walks
 
 -- what is made reads what is known, and what is left was pending
-record Reads (known : List Loc) (pending : Moves) (w : Made) : Type 0 where
+record Reads (known : List Loc) (pending : Moves) (w : MovesMade) : Type 0 where
   made : ReadsKnown known w.made
   left : (m : Move) → In m w.left → In m pending
 
-reads-drained-by : (go : Moves → Made) (known : List Loc) → ((pending : Moves) → AllRead known pending → Reads known pending (go pending))
+reads-drained-by : (go : Moves → MovesMade) (known : List Loc) → ((pending : Moves) → AllRead known pending → Reads known pending (go pending))
     → (place : Loc) (pending : Moves) (found : Option Move) → first_reader place pending ≡ found → AllRead known pending → Reads known pending (drained_by go place pending found)
 reads-drained-by go known later place pending None is q = record { made = tt; left = λ m h. h }
 reads-drained-by go known later place pending (Some root) is q =
     let rest : Moves = others place pending in
-    let first : Made = walk_from root rest in
+    let first : MovesMade = walk_from root rest in
     let n : ℕ = suc (length rest + length rest) in
     let q' : AllRead known rest = λ m i. q m (others-in place pending m i) in
     let walk : ReadsKnown known first.made = reads-walk n known root [] rest (q root (split_first place pending root is).inside) (λ m h. absurd h) q' in
@@ -121,7 +121,7 @@ reads-within (suc n) known place pending q =
 reads-drained : (known : List Loc) (ms pending : Moves) → AllRead known pending → ReadsKnown known (drained ms pending).made
 reads-drained known [] pending q = tt
 reads-drained known (m ∷ ms) pending q =
-    let first : Made = drained_at m.from pending in
+    let first : MovesMade = drained_at m.from pending in
     let f : Reads known pending first = reads-within (suc (length pending)) known m.from pending q in
     reads-append known first.made (drained ms first.left).made f.made (reads-drained known ms first.left (λ x i. q x (f.left x i)))
 
@@ -153,6 +153,6 @@ reads_sources moves =
     let known : List Loc = map (λ x. x.from) moves in
     let all : Moves = gathered moves [] in
     let q : AllRead known all = λ m h. elim (gathered-in moves [] m h) [ inl k ↦ source-known moves m k | inr k ↦ absurd k ] in
-    let first : Made = drained_at spare all in
+    let first : MovesMade = drained_at spare all in
     let f : Reads known all first = reads-within (suc (length all)) known spare all q in
     reads-append known first.made (drained moves first.left).made f.made (reads-drained known moves first.left (λ m i. q m (f.left m i)))

@@ -14,7 +14,7 @@ use Rattle.std.proofs.lemmas.Bool.Decides.{nat_tests}
 use Rattle.std.proofs.lemmas.List.{reverse-append, append-nil, nil_from_length}
 use Rattle.bs_words.specs.declared.types.Loc.{Loc}
 use Rattle.par_moves.specs.declared.moves.Move.{Move}
-use Rattle.par_moves.specs.Index.{key_of, readers_of, row_of, Holds, entries_held, held}
+use Rattle.par_moves.specs.Index.{key_of, readers_of, moves_of_row, HoldsPending, entries_held, moves_held}
 use Rattle.par_moves.specs.Moves.{Moves, same_place}
 use Rattle.par_moves.specs.Resolved.{first_reader, others}
 use Rattle.par_moves.proofs.Places.{same_place-key}
@@ -72,26 +72,26 @@ pub record Popped (row row' : Vec Move) (found : Option Move) : Type 0 where
 
 pub record Taken (place : Loc) (moves : Moves) (found : Option Move) (new : BTreeMap ℕ (Vec Move)) : Type 0 where
   pub first : found ≡ first_reader place moves
-  pub left : Holds new (others place moves)
+  pub left : HoldsPending new (others place moves)
 
 -- the rows of the others are what the rows leave
-left_by_rows : (place : Loc) (moves : Moves) (old new : BTreeMap ℕ (Vec Move)) → Holds old moves → row_of (tree.get nat_cmp new (key_of place)) ≡ rest_of (row_of (tree.get nat_cmp old (key_of place))) → ((q : ℕ) → (key_of place ≡ q → ⊥) → tree.get nat_cmp new q ≡ tree.get nat_cmp old q) → Holds new (others place moves)
+left_by_rows : (place : Loc) (moves : Moves) (old new : BTreeMap ℕ (Vec Move)) → HoldsPending old moves → moves_of_row (tree.get nat_cmp new (key_of place)) ≡ rest_of (moves_of_row (tree.get nat_cmp old (key_of place))) → ((q : ℕ) → (key_of place ≡ q → ⊥) → tree.get nat_cmp new q ≡ tree.get nat_cmp old q) → HoldsPending new (others place moves)
 left_by_rows place moves old new h here there = record { rows = λ q. by q (is_at (nat_cmp (key_of place)) q) refl } where
-  by : (q : ℕ) (t : Bool) → is_at (nat_cmp (key_of place)) q ≡ t → row_of (tree.get nat_cmp new q) ≡ readers_of q (others place moves)
+  by : (q : ℕ) (t : Bool) → is_at (nat_cmp (key_of place)) q ≡ t → moves_of_row (tree.get nat_cmp new q) ≡ readers_of q (others place moves)
   by q true e =
-      let P : ℕ → Type 0 = λ q. row_of (tree.get nat_cmp new q) ≡ readers_of q (others place moves) in
+      let P : ℕ → Type 0 = λ q. moves_of_row (tree.get nat_cmp new q) ≡ readers_of q (others place moves) in
       subst P (is_at-true (key_of place) q e) (here ∙ ap rest_of (h.rows (key_of place)) ∙ sym (others-rows place moves))
   by q false e =
-      ap row_of (there q (is_at-false (key_of place) q e)) ∙ h.rows q ∙ sym (others-other_rows place q moves (is_at-false (key_of place) q e))
+      ap moves_of_row (there q (is_at-false (key_of place) q e)) ∙ h.rows q ∙ sym (others-other_rows place q moves (is_at-false (key_of place) q e))
 
-pub taken_none : (place : Loc) (key : ℕ) (moves : Moves) (old new : BTreeMap ℕ (Vec Move)) → key ≡ key_of place → Holds old moves → tree.get nat_cmp old key ≡ None → new.entries ≡ old.entries → Taken place moves None new
+pub taken_none : (place : Loc) (key : ℕ) (moves : Moves) (old new : BTreeMap ℕ (Vec Move)) → key ≡ key_of place → HoldsPending old moves → tree.get nat_cmp old key ≡ None → new.entries ≡ old.entries → Taken place moves None new
 taken_none place key moves old new k h none_at_key e =
     let none : tree.get nat_cmp old (key_of place) ≡ None = subst (λ (x : ℕ). tree.get nat_cmp old x ≡ None) k none_at_key in
     let same : (q : ℕ) → tree.get nat_cmp new q ≡ tree.get nat_cmp old q = λ q. ap (λ (es : List (ℕ × Vec Move)). lookup (is_at (nat_cmp q)) es) e in
-    let row : row_of (tree.get nat_cmp old (key_of place)) ≡ [] = ap row_of none in
+    let row : moves_of_row (tree.get nat_cmp old (key_of place)) ≡ [] = ap moves_of_row none in
     record {
       first = sym (first_reader-rows place moves ∙ ap first_of (sym (h.rows (key_of place)) ∙ row));
-      left = left_by_rows place moves old new h (ap row_of (same (key_of place)) ∙ row ∙ sym (ap rest_of row)) (λ q _. same q);
+      left = left_by_rows place moves old new h (ap moves_of_row (same (key_of place)) ∙ row ∙ sym (ap rest_of row)) (λ q _. same q);
     }
 
 popped_row : (row row' : Vec Move) (found : Option Move) → Popped row row' found → (first_of (reverse row.items) ≡ found) × (rest_of (reverse row.items) ≡ reverse row'.items)
@@ -107,13 +107,13 @@ pub popped : (row row' : Vec Move) (found : Option Move) → row.items ≡ row'.
 popped row row' None items cases = record { items = items; none = λ _. sym row.ok.0 ∙ cases.0 }
 popped row row' (Some m) items cases = record { items = items; none = λ e. cc }
 
-pub taken_some : (place : Loc) (key : ℕ) (moves : Moves) (old mid new : BTreeMap ℕ (Vec Move)) (row row' : Vec Move) (found : Option Move) → key ≡ key_of place → Holds old moves → tree.get nat_cmp old key ≡ Some row → Popped row row' found → UpdatesBy nat_cmp (nat_cmp key) old mid None → Updates nat_cmp mid new key (Some row') → Taken place moves found new
+pub taken_some : (place : Loc) (key : ℕ) (moves : Moves) (old mid new : BTreeMap ℕ (Vec Move)) (row row' : Vec Move) (found : Option Move) → key ≡ key_of place → HoldsPending old moves → tree.get nat_cmp old key ≡ Some row → Popped row row' found → UpdatesBy nat_cmp (nat_cmp key) old mid None → Updates nat_cmp mid new key (Some row') → Taken place moves found new
 taken_some place key moves old mid new row row' found k h at_key p removed inserted =
     let e : tree.get nat_cmp old (key_of place) ≡ Some row = subst (λ (x : ℕ). tree.get nat_cmp old x ≡ Some row) k at_key in
     let u : UpdatesBy nat_cmp (nat_cmp (key_of place)) old mid None = subst (λ (x : ℕ). UpdatesBy nat_cmp (nat_cmp x) old mid None) k removed in
     let v : Updates nat_cmp mid new (key_of place) (Some row') = subst (λ (x : ℕ). Updates nat_cmp mid new x (Some row')) k inserted in
-    let was : row_of (tree.get nat_cmp old (key_of place)) ≡ reverse row.items = ap row_of e in
-    let is : row_of (tree.get nat_cmp new (key_of place)) ≡ reverse row'.items = ap row_of v.1 in
+    let was : moves_of_row (tree.get nat_cmp old (key_of place)) ≡ reverse row.items = ap moves_of_row e in
+    let is : moves_of_row (tree.get nat_cmp new (key_of place)) ≡ reverse row'.items = ap moves_of_row v.1 in
     let parts = popped_row row row' found p in
     let apart : (q : ℕ) → (key_of place ≡ q → ⊥) → is_at (nat_cmp (key_of place)) q ≡ false = λ q ne. is_at-apart (key_of place) q ne in
     record {
@@ -142,7 +142,7 @@ held-insert key row (e ∷ es) none = by (held-insert key row es) (nat_cmp key e
   by later Equal none = cc
   by later Greater none = let h : entries_held (insert_entry nat_cmp es key row) ≡ vec_len row + entries_held es = later none in omega arith
 
-pub fewer_by_one : (key : ℕ) (old mid new : BTreeMap ℕ (Vec Move)) (row row' : Vec Move) (found : Option Move) → tree.get nat_cmp old key ≡ Some row → mid.entries ≡ remove_entry (is_at (nat_cmp key)) old.entries → tree.get nat_cmp mid key ≡ None → new.entries ≡ insert_entry nat_cmp mid.entries key row' → MatchOption found ((vec_len row ≡ 0) × (vec_len row' ≡ 0)) (λ _. vec_len row' + 1 ≡ vec_len row) → MatchOption found (held new ≡ held old) (λ _. held new + 1 ≡ held old)
+pub fewer_by_one : (key : ℕ) (old mid new : BTreeMap ℕ (Vec Move)) (row row' : Vec Move) (found : Option Move) → tree.get nat_cmp old key ≡ Some row → mid.entries ≡ remove_entry (is_at (nat_cmp key)) old.entries → tree.get nat_cmp mid key ≡ None → new.entries ≡ insert_entry nat_cmp mid.entries key row' → MatchOption found ((vec_len row ≡ 0) × (vec_len row' ≡ 0)) (λ _. vec_len row' + 1 ≡ vec_len row) → MatchOption found (moves_held new ≡ moves_held old) (λ _. moves_held new + 1 ≡ moves_held old)
 fewer_by_one key old mid new row row' found e removed none inserted popped = by found popped where
   total : vec_len row + entries_held mid.entries ≡ entries_held old.entries
   total = ap (λ (o : Option (Vec Move)). row_held o + entries_held mid.entries) (sym e) ∙ ap (λ (es : List (ℕ × Vec Move)). row_held (tree.get nat_cmp old key) + entries_held es) removed ∙ held-remove (is_at (nat_cmp key)) old.entries
@@ -150,6 +150,6 @@ fewer_by_one key old mid new row row' found e removed none inserted popped = by 
   total' : entries_held new.entries ≡ vec_len row' + entries_held mid.entries
   total' = ap entries_held inserted ∙ held-insert key row' mid.entries none
 
-  by : (found : Option Move) → MatchOption found ((vec_len row ≡ 0) × (vec_len row' ≡ 0)) (λ _. vec_len row' + 1 ≡ vec_len row) → MatchOption found (held new ≡ held old) (λ _. held new + 1 ≡ held old)
+  by : (found : Option Move) → MatchOption found ((vec_len row ≡ 0) × (vec_len row' ≡ 0)) (λ _. vec_len row' + 1 ≡ vec_len row) → MatchOption found (moves_held new ≡ moves_held old) (λ _. moves_held new + 1 ≡ moves_held old)
   by None popped = let t = total in let t' = total' in omega arith
   by (Some m) popped = let t = total in let t' = total' in omega arith

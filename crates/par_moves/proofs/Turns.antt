@@ -6,9 +6,9 @@ use Rattle.std.specs.Global.{Vec}
 use Rattle.std.proofs.lemmas.List.{reverse-append, append-nil}
 use Rattle.bs_words.specs.declared.types.Loc.{Loc}
 use Rattle.par_moves.specs.declared.moves.Move.{Move}
-use Rattle.par_moves.specs.Index.{Holds}
+use Rattle.par_moves.specs.Index.{HoldsPending}
 use Rattle.par_moves.specs.Moves.{Moves, same_place, spare}
-use Rattle.par_moves.specs.Resolved.{Made, then_made, first_reader, others, added, gathered, top_target, unwound, unwound_moves, unwound_root, turned, walked, walk_from, drained_by, drained_within, drained_at, drained, resolved_moves}
+use Rattle.par_moves.specs.Resolved.{MovesMade, then_made, first_reader, others, added, gathered, top_target, unwound, unwound_moves, unwound_root, turned, walked, walk_from, drained_by, drained_within, drained_at, drained, resolved_moves}
 
 -- ---- lists
 
@@ -44,28 +44,28 @@ unfolding walked
 walked-none n root path pending e = ap (turned (walked n) root path pending) e
 
 -- where a walk is: the definition from here gives what the whole gives
-pub record Standing (root : Move) (path : Moves) (index : BTreeMap ℕ (Vec Move)) (made before : Moves) (whole : Made) : Type 0 where
+pub record Standing (root : Move) (path : Moves) (index : BTreeMap ℕ (Vec Move)) (made before : Moves) (whole : MovesMade) : Type 0 where
   pub pending : Moves
   pub turns : ℕ
-  pub holds : Holds index pending
+  pub holds : HoldsPending index pending
   pub enough : length pending + length pending + length path < suc turns
   pub moves : made ++ (walked (suc turns) root (reverse path) pending).made ≡ before ++ whole.made
   pub left : (walked (suc turns) root (reverse path) pending).left ≡ whole.left
 
-pub standing_at_first : (root : Move) (index : BTreeMap ℕ (Vec Move)) (before pending : Moves) → Holds index pending → Standing root [] index before before (walk_from root pending)
+pub standing_at_first : (root : Move) (index : BTreeMap ℕ (Vec Move)) (before pending : Moves) → HoldsPending index pending → Standing root [] index before before (walk_from root pending)
 standing_at_first root index before pending h =
     record { pending = pending; turns = length pending + length pending; holds = h; enough = omega arith; moves = refl; left = refl }
 
 -- what a call of `take` reports
 abbrev pub Takes : BTreeMap ℕ (Vec Move) → BTreeMap ℕ (Vec Move) → Loc → Option Move → Type 0
-Takes index index' here found = (moves : Moves) → Holds index moves → (found ≡ first_reader here moves) × Holds index' (others here moves)
+Takes index index' here found = (moves : Moves) → HoldsPending index moves → (found ≡ first_reader here moves) × HoldsPending index' (others here moves)
 
 reverse-push : (path : Moves) (m : Move) → reverse (path ++ m ∷ []) ≡ m ∷ reverse path
 reverse-push path m = reverse-append path (m ∷ [])
 
-pub pushed : (root : Move) (path : Moves) (index index' : BTreeMap ℕ (Vec Move)) (made before : Moves) (whole : Made) (here : Loc) (m : Move) → here ≡ top_target root (reverse path) → Takes index index' here (Some m) → Standing root path index made before whole → Standing root (path ++ m ∷ []) index' made before whole
+pub pushed : (root : Move) (path : Moves) (index index' : BTreeMap ℕ (Vec Move)) (made before : Moves) (whole : MovesMade) (here : Loc) (m : Move) → here ≡ top_target root (reverse path) → Takes index index' here (Some m) → Standing root path index made before whole → Standing root (path ++ m ∷ []) index' made before whole
 pushed root path index index' made before whole here m at t s = by s.turns s.enough s.moves s.left where
-  got : (Some m ≡ first_reader here s.pending) × Holds index' (others here s.pending)
+  got : (Some m ≡ first_reader here s.pending) × HoldsPending index' (others here s.pending)
   got = t s.pending s.holds
 
   found : first_reader (top_target root (reverse path)) s.pending ≡ Some m
@@ -84,13 +84,13 @@ pushed root path index index' made before whole here m at t s = by s.turns s.eno
         let fewer : suc (length (others here s.pending)) ≡ length s.pending = length-others here s.pending m (sym got.0) in
         let longer : length (path ++ m ∷ []) ≡ length path + 1 = length-append path (m ∷ []) in
         omega arith;
-    moves = ap (λ (w : Made). made ++ w.made) (sym (step (suc n))) ∙ moves;
-    left = ap (λ (w : Made). w.left) (sym (step (suc n))) ∙ left;
+    moves = ap (λ (w : MovesMade). made ++ w.made) (sym (step (suc n))) ∙ moves;
+    left = ap (λ (w : MovesMade). w.left) (sym (step (suc n))) ∙ left;
   }
 
-pub popped : (root root' : Move) (path path' : Moves) (index index' : BTreeMap ℕ (Vec Move)) (made made' before : Moves) (whole : Made) (here : Loc) (last : Move) → here ≡ top_target root (reverse path) → Takes index index' here None → path ≡ path' ++ last ∷ [] → made' ≡ made ++ unwound_moves root last → root' ≡ unwound_root root last → Standing root path index made before whole → Standing root' path' index' made' before whole
+pub popped : (root root' : Move) (path path' : Moves) (index index' : BTreeMap ℕ (Vec Move)) (made made' before : Moves) (whole : MovesMade) (here : Loc) (last : Move) → here ≡ top_target root (reverse path) → Takes index index' here None → path ≡ path' ++ last ∷ [] → made' ≡ made ++ unwound_moves root last → root' ≡ unwound_root root last → Standing root path index made before whole → Standing root' path' index' made' before whole
 popped root root' path path' index index' made made' before whole here last at t split more again s = by s.turns s.enough s.moves s.left where
-  got : (None ≡ first_reader here s.pending) × Holds index' (others here s.pending)
+  got : (None ≡ first_reader here s.pending) × HoldsPending index' (others here s.pending)
   got = t s.pending s.holds
 
   found : first_reader (top_target root (reverse path)) s.pending ≡ None
@@ -109,27 +109,27 @@ popped root root' path path' index index' made made' before whole here last at t
   by (suc n) enough moves left = record {
     pending = s.pending;
     turns = n;
-    holds = subst (Holds index') (others-none here s.pending (sym got.0)) got.1;
+    holds = subst (HoldsPending index') (others-none here s.pending (sym got.0)) got.1;
     enough =
         let longer : length path ≡ length path' + 1 = ap length split ∙ length-append path' (last ∷ []) in
         omega arith;
     moves =
         ap (λ (ms : Moves). ms ++ (walked (suc n) root' (reverse path') s.pending).made) more
         ∙ (append_assoc made (unwound_moves root last) (walked (suc n) root' (reverse path') s.pending).made
-        ∙ (ap (λ (w : Made). made ++ w.made) (sym (step (suc n))) ∙ moves));
-    left = ap (λ (w : Made). w.left) (sym (step (suc n))) ∙ left;
+        ∙ (ap (λ (w : MovesMade). made ++ w.made) (sym (step (suc n))) ∙ moves));
+    left = ap (λ (w : MovesMade). w.left) (sym (step (suc n))) ∙ left;
   }
 
-pub record Finished (index : BTreeMap ℕ (Vec Move)) (made before : Moves) (whole : Made) : Type 0 where
+pub record Finished (index : BTreeMap ℕ (Vec Move)) (made before : Moves) (whole : MovesMade) : Type 0 where
   pub moves : made ≡ before ++ whole.made
-  pub left : Holds index whole.left
+  pub left : HoldsPending index whole.left
 
-pub finished : (root : Move) (path : Moves) (index index' : BTreeMap ℕ (Vec Move)) (made made' before : Moves) (whole : Made) (here : Loc) → here ≡ top_target root (reverse path) → Takes index index' here None → path ≡ [] → made' ≡ made ++ root ∷ [] → Standing root path index made before whole → Finished index' made' before whole
+pub finished : (root : Move) (path : Moves) (index index' : BTreeMap ℕ (Vec Move)) (made made' before : Moves) (whole : MovesMade) (here : Loc) → here ≡ top_target root (reverse path) → Takes index index' here None → path ≡ [] → made' ≡ made ++ root ∷ [] → Standing root path index made before whole → Finished index' made' before whole
 finished root path index index' made made' before whole here at t none more s = record {
-  moves = more ∙ (ap (λ (w : Made). made ++ w.made) (sym step) ∙ s.moves);
-  left = subst (Holds index') (others-none here s.pending (sym got.0) ∙ (ap (λ (w : Made). w.left) (sym step) ∙ s.left)) got.1;
+  moves = more ∙ (ap (λ (w : MovesMade). made ++ w.made) (sym step) ∙ s.moves);
+  left = subst (HoldsPending index') (others-none here s.pending (sym got.0) ∙ (ap (λ (w : MovesMade). w.left) (sym step) ∙ s.left)) got.1;
 } where
-  got : (None ≡ first_reader here s.pending) × Holds index' (others here s.pending)
+  got : (None ≡ first_reader here s.pending) × HoldsPending index' (others here s.pending)
   got = t s.pending s.holds
 
   step : walked (suc s.turns) root (reverse path) s.pending ≡ record { made = root ∷ []; left = s.pending }
@@ -164,25 +164,25 @@ drained-none : (n : ℕ) (place : Loc) (pending : Moves) → first_reader place 
 unfolding drained_within
 drained-none n place pending e = ap (drained_by (drained_within n place) place pending) e
 
-pub record Draining (place : Loc) (index : BTreeMap ℕ (Vec Move)) (made before : Moves) (whole : Made) : Type 0 where
+pub record Draining (place : Loc) (index : BTreeMap ℕ (Vec Move)) (made before : Moves) (whole : MovesMade) : Type 0 where
   pub pending : Moves
   pub turns : ℕ
-  pub holds : Holds index pending
+  pub holds : HoldsPending index pending
   pub enough : length pending < suc turns
   pub moves : made ++ (drained_within (suc turns) place pending).made ≡ before ++ whole.made
   pub left : (drained_within (suc turns) place pending).left ≡ whole.left
 
-pub draining_at_first : (place : Loc) (index : BTreeMap ℕ (Vec Move)) (before pending : Moves) → Holds index pending → Draining place index before before (drained_at place pending)
+pub draining_at_first : (place : Loc) (index : BTreeMap ℕ (Vec Move)) (before pending : Moves) → HoldsPending index pending → Draining place index before before (drained_at place pending)
 draining_at_first place index before pending h =
     record { pending = pending; turns = length pending; holds = h; enough = omega arith; moves = refl; left = refl }
 
 -- what a call of `walk` reports
 abbrev pub Walks : BTreeMap ℕ (Vec Move) → BTreeMap ℕ (Vec Move) → Move → Moves → Moves → Type 0
-Walks index index' root made made' = (moves : Moves) → Holds index moves → Finished index' made' made (walk_from root moves)
+Walks index index' root made made' = (moves : Moves) → HoldsPending index moves → Finished index' made' made (walk_from root moves)
 
-pub walked_once : (place : Loc) (index mid index' : BTreeMap ℕ (Vec Move)) (made made' before : Moves) (whole : Made) (root : Move) → Takes index mid place (Some root) → Walks mid index' root made made' → Draining place index made before whole → Draining place index' made' before whole
+pub walked_once : (place : Loc) (index mid index' : BTreeMap ℕ (Vec Move)) (made made' before : Moves) (whole : MovesMade) (root : Move) → Takes index mid place (Some root) → Walks mid index' root made made' → Draining place index made before whole → Draining place index' made' before whole
 walked_once place index mid index' made made' before whole root t w s = by s.turns s.enough s.moves s.left where
-  got : (Some root ≡ first_reader place s.pending) × Holds mid (others place s.pending)
+  got : (Some root ≡ first_reader place s.pending) × HoldsPending mid (others place s.pending)
   got = t s.pending s.holds
 
   after : Finished index' made' made (walk_from root (others place s.pending))
@@ -210,16 +210,16 @@ walked_once place index mid index' made made' before whole root t w s = by s.tur
         moves =
             ap (λ (ms : Moves). ms ++ (drained_within (suc n) place (walk_from root (others place s.pending)).left).made) after.moves
             ∙ (append_assoc made (walk_from root (others place s.pending)).made (drained_within (suc n) place (walk_from root (others place s.pending)).left).made
-            ∙ (ap (λ (x : Made). made ++ x.made) (sym (step (suc n))) ∙ moves));
-        left = ap (λ (x : Made). x.left) (sym (step (suc n))) ∙ left;
+            ∙ (ap (λ (x : MovesMade). made ++ x.made) (sym (step (suc n))) ∙ moves));
+        left = ap (λ (x : MovesMade). x.left) (sym (step (suc n))) ∙ left;
       }
 
-pub drained_all : (place : Loc) (index index' : BTreeMap ℕ (Vec Move)) (made before : Moves) (whole : Made) → Takes index index' place None → Draining place index made before whole → Finished index' made before whole
+pub drained_all : (place : Loc) (index index' : BTreeMap ℕ (Vec Move)) (made before : Moves) (whole : MovesMade) → Takes index index' place None → Draining place index made before whole → Finished index' made before whole
 drained_all place index index' made before whole t s = record {
-  moves = sym (append-nil made) ∙ (ap (λ (x : Made). made ++ x.made) (sym step) ∙ s.moves);
-  left = subst (Holds index') (others-none place s.pending (sym got.0) ∙ (ap (λ (x : Made). x.left) (sym step) ∙ s.left)) got.1;
+  moves = sym (append-nil made) ∙ (ap (λ (x : MovesMade). made ++ x.made) (sym step) ∙ s.moves);
+  left = subst (HoldsPending index') (others-none place s.pending (sym got.0) ∙ (ap (λ (x : MovesMade). x.left) (sym step) ∙ s.left)) got.1;
 } where
-  got : (None ≡ first_reader place s.pending) × Holds index' (others place s.pending)
+  got : (None ≡ first_reader place s.pending) × HoldsPending index' (others place s.pending)
   got = t s.pending s.holds
 
   step : drained_within (suc s.turns) place s.pending ≡ record { made = []; left = s.pending }
@@ -230,25 +230,25 @@ drained_all place index index' made before whole t s = record {
 -- the moves from the index on are still to be added
 pub record Gathering (index : BTreeMap ℕ (Vec Move)) (rest all : Moves) : Type 0 where
   pub pending : Moves
-  pub holds : Holds index pending
+  pub holds : HoldsPending index pending
   pub same : gathered rest pending ≡ gathered all []
 
-pub gathering_one : (index index' : BTreeMap ℕ (Vec Move)) (m : Move) (rest rest' all : Moves) → rest ≡ m ∷ rest' → ((moves : Moves) → Holds index moves → Holds index' (added m moves)) → Gathering index rest all → Gathering index' rest' all
+pub gathering_one : (index index' : BTreeMap ℕ (Vec Move)) (m : Move) (rest rest' all : Moves) → rest ≡ m ∷ rest' → ((moves : Moves) → HoldsPending index moves → HoldsPending index' (added m moves)) → Gathering index rest all → Gathering index' rest' all
 gathering_one index index' m rest rest' all e add s =
     record { pending = added m s.pending; holds = add s.pending s.holds; same = ap (λ (ms : Moves). gathered ms s.pending) (sym e) ∙ s.same }
 
 -- the walks from the sources of the moves from the index on are still to be made
 pub record Emptying (index : BTreeMap ℕ (Vec Move)) (made rest all : Moves) : Type 0 where
   pub pending : Moves
-  pub holds : Holds index pending
+  pub holds : HoldsPending index pending
   pub same : made ++ (drained rest pending).made ≡ resolved_moves all
 
 abbrev pub Drains : BTreeMap ℕ (Vec Move) → BTreeMap ℕ (Vec Move) → Loc → Moves → Moves → Type 0
-Drains index index' place made made' = (moves : Moves) → Holds index moves → Finished index' made' made (drained_at place moves)
+Drains index index' place made made' = (moves : Moves) → HoldsPending index moves → Finished index' made' made (drained_at place moves)
 
 pub emptying_at_first : (index index' : BTreeMap ℕ (Vec Move)) (made made' rest all : Moves) → rest ≡ [] → made ≡ [] → Drains index index' spare made made' → Gathering index rest all → Emptying index' made' all all
 emptying_at_first index index' made made' rest all none new d s =
-    let h : Holds index (gathered all []) = subst (Holds index) (ap (λ (ms : Moves). gathered ms s.pending) (sym none) ∙ s.same) s.holds in
+    let h : HoldsPending index (gathered all []) = subst (HoldsPending index) (ap (λ (ms : Moves). gathered ms s.pending) (sym none) ∙ s.same) s.holds in
     let f = d (gathered all []) h in
     record {
       pending = (drained_at spare (gathered all [])).left;

@@ -4,7 +4,7 @@ use Rattle.std.proofs.lemmas.List.Elements.{All-nil, All-cons, All-contains}
 use Rattle.std.proofs.lemmas.List.Kept.{AllPairs-cons}
 use Rattle.bs_words.specs.declared.types.Loc.{Loc}
 use Rattle.par_moves.specs.declared.moves.Move.{Move}
-use Rattle.par_moves.specs.Moves.{Moves, spare, needed, same_place, moved, after, origin, LeavesSources, IsMadeFor, OneMoreForEachCycle, IsCycle, joined}
+use Rattle.par_moves.specs.Moves.{Moves, spare, needed, same_place, moved, after_moves, origin, LeavesSources, IsMadeFor, OneMoreForEachCycle, IsCycle, joined_moves}
 use Rattle.par_moves.specs.Resolved.{resolved_moves}
 use Rattle.par_moves.proofs.Members.{In, Apart}
 use Rattle.par_moves.proofs.Draining.{Leaves, leaves}
@@ -68,8 +68,8 @@ one_more_for_each_cycle moves a t =
     record {
       cycles = s.cycles;
       each = all_cycles s.cycles s.each;
-      among = all_from_In (Contains (needed moves)) (joined s.cycles) (λ m h. Contains-from_In (needed moves) m (s.inside m h));
-      apart = pairs_from_apart (joined s.cycles) s.apart;
+      among = all_from_In (Contains (needed moves)) (joined_moves s.cycles) (λ m h. Contains-from_In (needed moves) m (s.inside m h));
+      apart = pairs_from_apart (joined_moves s.cycles) s.apart;
       few = s.few;
     }
 
@@ -83,26 +83,26 @@ cond_same : {A : Type 0} (t : Bool) (a b x y : A) → a ≡ x → b ≡ y → co
 cond_same true a b x y p q = p
 cond_same false a b x y p q = q
 
-after-same : {A : Type 0} (done : Moves) (f g : Loc → A) → ((place : Loc) → f place ≡ g place) → (place : Loc) → after done f place ≡ after done g place
+after-same : {A : Type 0} (done : Moves) (f g : Loc → A) → ((place : Loc) → f place ≡ g place) → (place : Loc) → after_moves done f place ≡ after_moves done g place
 after-same [] f g same place = same place
 after-same (m ∷ ms) f g same place =
     after-same ms (moved m f) (moved m g) (λ p. cond_same (same_place p m.to) (f m.from) (f p) (g m.from) (g p) (same m.from) (same p)) place
 
-after-through : {A : Type 0} (done : Moves) (held : Loc → A) (at : Loc → Loc) (place : Loc) → after done (λ p. held (at p)) place ≡ held (after done at place)
+after-through : {A : Type 0} (done : Moves) (held : Loc → A) (at : Loc → Loc) (place : Loc) → after_moves done (λ p. held (at p)) place ≡ held (after_moves done at place)
 after-through [] held at place = refl
 after-through (m ∷ ms) held at place =
     after-same ms (moved m (λ p. held (at p))) (λ p. held (moved m at p)) (λ p. both held (same_place p m.to) (at m.from) (at p)) place
     ∙ after-through ms held (moved m at) place
 
 -- what a place holds after moves is what its origin held before
-pub after-origin : {A : Type 0} (done : Moves) (held : Loc → A) (place : Loc) → after done held place ≡ held (origin done place)
+pub after-origin : {A : Type 0} (done : Moves) (held : Loc → A) (place : Loc) → after_moves done held place ≡ held (origin done place)
 after-origin done held place = after-through done held (λ p. p) place
 
 -- each target holds what its source held, whatever the values are
-pub value_at_target : {A : Type 0} (moves done : Moves) → LeavesSources moves done → (held : Loc → A) → All (λ m. after done held m.to ≡ held m.from) moves
+pub value_at_target : {A : Type 0} (moves done : Moves) → LeavesSources moves done → (held : Loc → A) → All (λ m. after_moves done held m.to ≡ held m.from) moves
 value_at_target moves done l held =
-    all_from_In (λ (m : Move). after done held m.to ≡ held m.from) moves
+    all_from_In (λ (m : Move). after_moves done held m.to ≡ held m.from) moves
     (λ m h. after-origin done held m.to ∙ ap held (In-from_all (λ (m : Move). origin done m.to ≡ m.from) moves l.targets m h))
 
-pub value_elsewhere : {A : Type 0} (moves done : Moves) → LeavesSources moves done → (held : Loc → A) (place : Loc) → place ≢ spare → All (λ m. m.to ≢ place) moves → after done held place ≡ held place
+pub value_elsewhere : {A : Type 0} (moves done : Moves) → LeavesSources moves done → (held : Loc → A) (place : Loc) → place ≢ spare → All (λ m. m.to ≢ place) moves → after_moves done held place ≡ held place
 value_elsewhere moves done l held place free no_target = after-origin done held place ∙ ap held (l.others place free no_target)

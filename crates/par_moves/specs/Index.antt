@@ -19,18 +19,18 @@ abbrev pub readers_of : ℕ → List Move → List Move
 readers_of key moves = filter (λ m. key_of m.from == key) moves
 
 -- a row of the map, the next move first
-abbrev pub row_of : Option (Vec Move) → List Move
-row_of None = []
-row_of (Some row) = reverse row.items
+abbrev pub moves_of_row : Option (Vec Move) → List Move
+moves_of_row None = []
+moves_of_row (Some row) = reverse row.items
 
 -- each row has the pending moves that read its place
-pub record Holds (index : BTreeMap ℕ (Vec Move)) (pending : List Move) : Type 0 where
-  pub rows : (key : ℕ) → row_of (tree.get nat_cmp index key) ≡ readers_of key pending
+pub record HoldsPending (index : BTreeMap ℕ (Vec Move)) (pending : List Move) : Type 0 where
+  pub rows : (key : ℕ) → moves_of_row (tree.get nat_cmp index key) ≡ readers_of key pending
 
 abbrev pub entries_held : List (ℕ × Vec Move) → ℕ
 entries_held [] = 0
 entries_held (e ∷ es) = vec_len e.1 + entries_held es
 
 -- how many moves all rows have
-abbrev pub held : BTreeMap ℕ (Vec Move) → ℕ
-held index = entries_held index.entries
+abbrev pub moves_held : BTreeMap ℕ (Vec Move) → ℕ
+moves_held index = entries_held index.entries

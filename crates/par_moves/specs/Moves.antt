@@ -24,14 +24,14 @@ abbrev pub moved : {A : Type 0} → Move → (Loc → A) → Loc → A
 moved m held place = cond (same_place place m.to) (held m.from) (held place)
 
 -- what the places hold after all of them, the first one first
-abbrev pub after : {A : Type 0} → Moves → (Loc → A) → Loc → A
-after [] held = held
-after (m ∷ ms) held = after ms (moved m held)
+abbrev pub after_moves : {A : Type 0} → Moves → (Loc → A) → Loc → A
+after_moves [] held = held
+after_moves (m ∷ ms) held = after_moves ms (moved m held)
 
 -- Where a value that a place holds after the moves was before them: the moves are done where each
 -- place holds its own name. Any other values go the same way.
 abbrev pub origin : Moves → Loc → Loc
-origin done = after done (λ place. place)
+origin done = after_moves done (λ place. place)
 
 -- Each target holds what its source held, and no other place but t0 holds another value than before.
 pub record LeavesSources (moves done : Moves) : Type 0 where
@@ -76,17 +76,17 @@ abbrev pub IsCycle : Moves → Type 0
 IsCycle [] = ⊥
 IsCycle (m ∷ ms) = ReadsOn (m ∷ ms) m.to
 
-abbrev pub joined : List Moves → Moves
-joined [] = []
-joined (c ∷ cs) = c ++ joined cs
+abbrev pub joined_moves : List Moves → Moves
+joined_moves [] = []
+joined_moves (c ∷ cs) = c ++ joined_moves cs
 
 -- There are cycles of needed moves, no two of which share a target, and at most so many moves more
 -- are made than are needed.
 pub record OneMoreForEachCycle (moves done : Moves) : Type 0 where
   pub cycles : List Moves
   pub each : All IsCycle cycles
-  pub among : All (Contains (needed moves)) (joined cycles)
-  pub apart : AllPairs (λ a b. a.to ≢ b.to) (joined cycles)
+  pub among : All (Contains (needed moves)) (joined_moves cycles)
+  pub apart : AllPairs (λ a b. a.to ≢ b.to) (joined_moves cycles)
   pub few : length done ≤ length (needed moves) + length cycles
 
 -- ---- what they read

@@ -30,11 +30,11 @@ others place (m ∷ ms) = cond (same_place m.from place) ms (m ∷ others place 
 -- ---- one walk
 
 -- the moves that were made, and those still pending
-pub record Made : Type 0 where
+pub record MovesMade : Type 0 where
   pub made : List Move
   pub left : List Move
 
-abbrev pub then_made : List Move → Made → Made
+abbrev pub then_made : List Move → MovesMade → MovesMade
 then_made first rest = record { made = first ++ rest.made; left = rest.left }
 
 -- the target of the last move of a walk from a root along a path, whose last move is first
@@ -50,41 +50,41 @@ unwound_moves root m = cond (same_place m.to root.from) (saved root ∷ m ∷ []
 abbrev pub unwound_root : Move → Move → Move
 unwound_root root m = cond (same_place m.to root.from) (from_spare root) root
 
-abbrev pub unwound : (Move → List Move → List Move → Made) → Move → List Move → List Move → Made
+abbrev pub unwound : (Move → List Move → List Move → MovesMade) → Move → List Move → List Move → MovesMade
 unwound go root [] pending = record { made = root ∷ []; left = pending }
 unwound go root (m ∷ path) pending = then_made (unwound_moves root m) (go (unwound_root root m) path pending)
 
-abbrev pub turned : (Move → List Move → List Move → Made) → Move → List Move → List Move → Option Move → Made
+abbrev pub turned : (Move → List Move → List Move → MovesMade) → Move → List Move → List Move → Option Move → MovesMade
 turned go root path pending None = unwound go root path pending
 turned go root path pending (Some m) = go root (m ∷ path) (others (top_target root path) pending)
 
 -- a walk of at most so many turns, from a root, a path and what is pending
-unfoldable pub walked : ℕ → Move → List Move → List Move → Made
+unfoldable pub walked : ℕ → Move → List Move → List Move → MovesMade
 walked zero root path pending = record { made = []; left = pending }
 walked (suc n) root path pending = turned (walked n) root path pending (first_reader (top_target root path) pending)
 
 -- each pending move is met and made at most once, and the root is made
-abbrev pub walk_from : Move → List Move → Made
+abbrev pub walk_from : Move → List Move → MovesMade
 walk_from root pending = walked (suc (length pending + length pending)) root [] pending
 
 -- ---- all walks
 
-abbrev pub drained_by : (List Move → Made) → Loc → List Move → Option Move → Made
+abbrev pub drained_by : (List Move → MovesMade) → Loc → List Move → Option Move → MovesMade
 drained_by go place pending None = record { made = []; left = pending }
 drained_by go place pending (Some root) =
     then_made (walk_from root (others place pending)).made (go (walk_from root (others place pending)).left)
 
 -- at most so many walks from the pending moves that read a place
-unfoldable pub drained_within : ℕ → Loc → List Move → Made
+unfoldable pub drained_within : ℕ → Loc → List Move → MovesMade
 drained_within zero place pending = record { made = []; left = pending }
 drained_within (suc n) place pending = drained_by (drained_within n place) place pending (first_reader place pending)
 
 -- all walks from the pending moves that read a place
-abbrev pub drained_at : Loc → List Move → Made
+abbrev pub drained_at : Loc → List Move → MovesMade
 drained_at place pending = drained_within (suc (length pending)) place pending
 
 -- the walks from the sources of the moves, one after the other
-abbrev pub drained : List Move → List Move → Made
+abbrev pub drained : List Move → List Move → MovesMade
 drained [] pending = record { made = []; left = pending }
 drained (m ∷ ms) pending = then_made (drained_at m.from pending).made (drained ms (drained_at m.from pending).left)
 

@@ -1,6 +1,6 @@
 //! The moves that are still to be made, by their sources.
 ghost use Rattle.std.specs.Prelude.{◌≡◌, ◌+◌, [], IfOk, OnOk, MatchOption};
-ghost use Rattle.par_moves.specs.Index.{Holds, key_of, held};
+ghost use Rattle.par_moves.specs.Index.{HoldsPending, key_of, moves_held};
 ghost use Rattle.par_moves.specs.Moves.{Moves};
 ghost use Rattle.par_moves.specs.Resolved.{added, first_reader, others};
 
@@ -30,7 +30,7 @@ fn key(place: Loc) -> u64
 impl Pending {
     /// No move. It takes no memory.
     pub fn new(alloc: Global) -> Self
-        ensures { Holds result.readers [] }
+        ensures { HoldsPending result.readers [] }
     {
         Pending {
             readers: BTreeMap::new(alloc),
@@ -40,8 +40,8 @@ impl Pending {
     /// Adds a move, unless its source is its target. It is the next among those with its source.
     /// The only error is want of memory.
     pub fn add(&mut self, alloc: Global, planned: Move) -> Result<(), AllocError>
-        ensures { (moves : Moves) → Holds self.old.readers moves →
-            OnOk result (Holds self.new.readers (added planned moves)) }
+        ensures { (moves : Moves) → HoldsPending self.old.readers moves →
+            OnOk result (HoldsPending self.new.readers (added planned moves)) }
     {
         if is_same(planned.from, planned.to) {
             return Ok(());
@@ -55,11 +55,11 @@ impl Pending {
 
     /// Takes the next move that reads `source`, if there is one. The only error is want of memory.
     pub fn take(&mut self, source: Loc) -> Result<Option<Move>, AllocError>
-        ensures taken { (moves : Moves) → Holds self.old.readers moves → IfOk result (λ found.
-            (found ≡ first_reader source moves) × Holds self.new.readers (others source moves)) }
+        ensures taken { (moves : Moves) → HoldsPending self.old.readers moves → IfOk result (λ found.
+            (found ≡ first_reader source moves) × HoldsPending self.new.readers (others source moves)) }
         ensures fewer { IfOk result (λ found.
-            MatchOption found (held self.new.readers ≡ held self.old.readers)
-            (λ _. held self.new.readers + 1 ≡ held self.old.readers)) }
+            MatchOption found (moves_held self.new.readers ≡ moves_held self.old.readers)
+            (λ _. moves_held self.new.readers + 1 ≡ moves_held self.old.readers)) }
     {
         let key = key(source);
         let Some(mut row) = self.readers.remove(&key) else {

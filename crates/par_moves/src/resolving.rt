@@ -1,7 +1,7 @@
 //! The order of the walks.
 ghost use Rattle.std.specs.Prelude.{◌≡◌, ◌≢◌, ◌++◌, All, AllPairs, OnOk, IfOk};
 ghost use Rattle.bs_words.specs.Contents.{contents};
-ghost use Rattle.par_moves.specs.Index.{Holds};
+ghost use Rattle.par_moves.specs.Index.{HoldsPending};
 ghost use Rattle.par_moves.specs.Moves.{Moves, LeavesSources, IsMadeFor, ReadsSources, OneMoreForEachCycle};
 ghost use Rattle.par_moves.specs.Resolved.{drained_at, resolved_moves};
 
@@ -18,10 +18,10 @@ fn drain(
     pending: &mut Pending,
     made: &mut Vec<Move>,
 ) -> Result<(), AllocError>
-    ensures moves { (moves : Moves) → Holds pending.old.readers moves →
+    ensures moves { (moves : Moves) → HoldsPending pending.old.readers moves →
         OnOk result (made.new.items ≡ made.old.items ++ (drained_at source moves).made) }
-    ensures left { (moves : Moves) → Holds pending.old.readers moves →
-        OnOk result (Holds pending.new.readers (drained_at source moves).left) }
+    ensures left { (moves : Moves) → HoldsPending pending.old.readers moves →
+        OnOk result (HoldsPending pending.new.readers (drained_at source moves).left) }
 {
     while let Some(root) = pending.take(source)? {
         walk(alloc, root, pending, made)?;

@@ -1,6 +1,6 @@
 //! The walk from one move to the moves that read its target.
 ghost use Rattle.std.specs.Prelude.{◌≡◌, ◌≤◌, ◌++◌, OnOk, IfOk, reverse};
-ghost use Rattle.par_moves.specs.Index.{Holds, held};
+ghost use Rattle.par_moves.specs.Index.{HoldsPending, moves_held};
 ghost use Rattle.par_moves.specs.Moves.{Moves};
 ghost use Rattle.par_moves.specs.Resolved.{top_target, unwound_root, unwound_moves, walk_from};
 
@@ -42,11 +42,11 @@ pub fn walk(
     pending: &mut Pending,
     made: &mut Vec<Move>,
 ) -> Result<(), AllocError>
-    ensures moves { (moves : Moves) → Holds pending.old.readers moves →
+    ensures moves { (moves : Moves) → HoldsPending pending.old.readers moves →
         OnOk result (made.new.items ≡ made.old.items ++ (walk_from root moves).made) }
-    ensures left { (moves : Moves) → Holds pending.old.readers moves →
-        OnOk result (Holds pending.new.readers (walk_from root moves).left) }
-    ensures fewer { OnOk result (held pending.new.readers ≤ held pending.old.readers) }
+    ensures left { (moves : Moves) → HoldsPending pending.old.readers moves →
+        OnOk result (HoldsPending pending.new.readers (walk_from root moves).left) }
+    ensures fewer { OnOk result (moves_held pending.new.readers ≤ moves_held pending.old.readers) }
 {
     let mut root = root;
     let mut path: Vec<Move> = Vec::new(alloc);

@@ -7,12 +7,12 @@ use Rattle.std.specs.List.{All, AllPairs, Contains}
 use Rattle.std.specs.Prelude.{slice_index_or}
 use Rattle.bs_words.specs.declared.types.Loc.TheVariants as loc
 use Rattle.mach_ir.specs.Acts.{Target, On, At}
-use Rattle.mach_ir.specs.Formed.{IsFormed, AreDistinct, labels_in, HasPlace, HasHandler, LeadsTo, is_exit, LabelsStand, tries_left, leaves, IsNested, CasesAgree, WellFormed}
+use Rattle.mach_ir.specs.Formed.{IsFormedInstruction, AreDistinct, labels_in, LabelOccursIn, HasHandler, TargetsLabel, is_exit, LabelsStand, tries_left, leaves, IsNested, CasesAgree, WellFormed}
 use Rattle.mach_ir.specs.Keeps.{IsNamedIn}
 use Rattle.mach_ir.specs.Meaning.{after_label, from_handler, code_at, tries_at, tries_past}
 use Rattle.mach_ir.specs.Placed.{is_straight, WellPlaced}
 use Rattle.mach_ir.specs.Seats.{Seated}
-use Rattle.mach_ir.specs.Walks.{OneOf, this, other, may_raise, IsRegister, Joined, Stands}
+use Rattle.mach_ir.specs.Walks.{OneOf, this, other, may_raise, IsRegister, Joined, StandsAsInstr}
 use Rattle.mach_ir.specs.declared.op.Op.TheVariants as op
 use Rattle.mach_ir.specs.declared.mach.Mark.{Mark}
 use Rattle.mach_ir.specs.declared.mach.Mark.TheVariants as mark
@@ -32,7 +32,7 @@ only_on this = refl
 only_on (other o) = elim o [ ]
 
 -- it leads to no label, raises nothing and leaves nothing
-no_leading : (g : MachOp) → is_straight g ≡ true → (l : ℕ) → LeadsTo g l → ⊥
+no_leading : (g : MachOp) → is_straight g ≡ true → (l : ℕ) → TargetsLabel g l → ⊥
 no_leading (mach.Op (op.Pure f)) s l o = no_label (only_on o)
   where
     no_label : At l ≡ On → ⊥
@@ -73,14 +73,14 @@ module _ (m : Mach) (code : List Instr) where
   -- that were.
   pub data ComesFrom (i : Instr) (zs : List Instr) : Type 0 where
     is_new : is_straight i.op ≡ true → ComesFrom i zs
-    stood : {next : List Instr} → Stands i next m.code → tries_at zs ≡ tries_at next →
-        ((l : ℕ) → HasPlace l next → HasPlace l zs) → ((l : ℕ) → HasHandler l next → HasHandler l zs) → ComesFrom i zs
+    stood : {next : List Instr} → StandsAsInstr i next m.code → tries_at zs ≡ tries_at next →
+        ((l : ℕ) → LabelOccursIn l next → LabelOccursIn l zs) → ((l : ℕ) → HasHandler l next → HasHandler l zs) → ComesFrom i zs
 
   pub record KeepsPlaces : Type 0 where
-    pub whence : (i : Instr) (zs : List Instr) → Stands i zs code → ComesFrom i zs
+    pub whence : (i : Instr) (zs : List Instr) → StandsAsInstr i zs code → ComesFrom i zs
     pub among : (i : Instr) → Contains code i → (is_straight i.op ≡ true) ⊎ Contains m.code i
     pub marks : (i : Instr) (g : Mark) → i.op ≡ mach.Mark g → Contains m.code i → Contains code i
-    pub places : (l : ℕ) → HasPlace l m.code → HasPlace l code
+    pub places : (l : ℕ) → LabelOccursIn l m.code → LabelOccursIn l code
     pub labels : labels_in code ≡ labels_in m.code
     pub tries : tries_at code ≡ tries_at m.code
     pub label_tries : (l : ℕ) → tries_at (after_label l code) ≡ tries_at (after_label l m.code)
@@ -96,11 +96,11 @@ module _ (m : Mach) (code : List Instr) where
           handlers = λ i zs s l end e. handlers i l end e (keeps.whence i zs s);
         }
       where
-        named : (i : Instr) {zs : List Instr} (l : ℕ) → LeadsTo i.op l → ComesFrom i zs → HasPlace l code
+        named : (i : Instr) {zs : List Instr} (l : ℕ) → TargetsLabel i.op l → ComesFrom i zs → LabelOccursIn l code
         named i l o (is_new p) = absurd (no_leading i.op p l o)
         named i l o (stood {next = next} s t h g) = keeps.places l ((formed.labels).named i next s l o)
 
-        forward : (i : Instr) {zs : List Instr} (l : ℕ) → LeadsTo i.op l → is_exit i.op ≡ false → ComesFrom i zs → HasPlace l zs
+        forward : (i : Instr) {zs : List Instr} (l : ℕ) → TargetsLabel i.op l → is_exit i.op ≡ false → ComesFrom i zs → LabelOccursIn l zs
         forward i l o e (is_new p) = absurd (no_leading i.op p l o)
         forward i l o e (stood {next = next} s t h g) = h l ((formed.labels).forward i next s l o e)
 
@@ -120,7 +120,7 @@ module _ (m : Mach) (code : List Instr) where
           at_end = λ i zs s e. at_end i e (keeps.whence i zs s);
         }
       where
-        at_label : (i : Instr) {zs : List Instr} (l : ℕ) → LeadsTo i.op l → ComesFrom i zs →
+        at_label : (i : Instr) {zs : List Instr} (l : ℕ) → TargetsLabel i.op l → ComesFrom i zs →
             tries_at (code_at code zs (At l)) ≡ tries_left i.op (tries_at (i ∷ zs))
         at_label i l o (is_new p) = absurd (no_leading i.op p l o)
         at_label i l o (stood {next = next} s t h g) =
@@ -168,7 +168,7 @@ module _ (m : Mach) (code : List Instr) where
               (λ i c labels o k. h i (keeps.marks i (mark.Switch labels) o c) labels o k);
         }
 
-    pub still_formed : All IsFormed code → All (λ (i : Instr). AreDistinct i.results) code → WellFormed q
+    pub still_formed : All IsFormedInstruction code → All (λ (i : Instr). AreDistinct i.results) code → WellFormed q
     still_formed instrs distinct =
         record {
           numbers = λ r k i j e. formed.numbers r k (keeps.registers r i) (keeps.registers k j) e;

@@ -1,7 +1,7 @@
 -- What passes over Mach carry besides what a function does: how large its code is, and how it ends.
 use Rattle.std.specs.Prelude.{ℕ, ◌+◌, ◌^◌, ◌<◌, ◌≤◌, List, [], ◌∷◌, length, All}
 use Rattle.mach_ir.specs.Meaning.{tries_at}
-use Rattle.mach_ir.specs.Walks.{Stands}
+use Rattle.mach_ir.specs.Walks.{StandsAsInstr}
 use Rattle.mach_ir.specs.declared.mach.Instr.{Instr}
 use Rattle.mach_ir.specs.declared.mach.Mach.{Mach}
 use Rattle.mach_ir.specs.declared.mach.MachOp.{MachOp}
@@ -10,13 +10,13 @@ use Rattle.mach_ir.specs.declared.op.Access.TheVariants as access
 use Rattle.mach_ir.specs.declared.op.Leaving.TheVariants as leaving
 use Rattle.mach_ir.specs.declared.op.Op.TheVariants as op
 use Rattle.mach_ir.specs.declared.reg.Reg.{Reg}
-use Rattle.pass_rules.specs.Measures.{code_words, code_points, exits, other_operands}
+use Rattle.pass_rules.specs.Measures.{code_words, code_points, exit_count, other_operands}
 use Rattle.places_rules.specs.Places.{ColoursLow}
 
 -- no more than so many tries are round each place of the code
 abbrev pub TriesAtMost : Mach → ℕ → Type 0
 TriesAtMost m most =
-    (i : Instr) (next : List Instr) → Stands i next m.code → length (tries_at (i ∷ next)) ≤ most
+    (i : Instr) (next : List Instr) → StandsAsInstr i next m.code → length (tries_at (i ∷ next)) ≤ most
 
 -- the offset of a load or of a store is a word
 abbrev pub OffsetFits : MachOp → Type 0
@@ -37,7 +37,7 @@ pub record IsCarried (more : ℕ) (p q : Mach) : Type 0 where
   pub points : code_points q.code ≤ code_points p.code
   -- operands and results of other instructions than copies
   pub operands : other_operands q.code ≤ other_operands p.code
-  pub exits : exits q.code ≤ exits p.code
+  pub exits : exit_count q.code ≤ exit_count p.code
   pub tries : (most : ℕ) → TriesAtMost p most → TriesAtMost q most
   pub offsets : All (λ (i : Instr). OffsetFits i.op) p.code →
       All (λ (i : Instr). OffsetFits i.op) q.code

@@ -26,15 +26,15 @@ abbrev pub copy_words : ℕ
 copy_words = 6
 
 -- A copy from a place to itself has no line.
-abbrev pub words_with : MachOp → List Reg → List Reg → ℕ
-words_with (mach.Op (op.Pure (pure.Copy kind))) args results =
+abbrev pub words_for_instr : MachOp → List Reg → List Reg → ℕ
+words_for_instr (mach.Op (op.Pure (pure.Copy kind))) args results =
     cond (same_spot args results) 0 copy_words
-words_with (mach.Op f) args results = 32 + 16 * length results
-words_with (mach.Mark f) args results = mark_words f + 16 * length results
+words_for_instr (mach.Op f) args results = 32 + 16 * length results
+words_for_instr (mach.Mark f) args results = mark_words f + 16 * length results
 
 -- the words of an instruction
 abbrev pub instr_words : Instr → ℕ
-instr_words i = words_with i.op i.args i.results
+instr_words i = words_for_instr i.op i.args i.results
 
 abbrev pub code_words : List Instr → ℕ
 code_words [] = 0
@@ -42,19 +42,19 @@ code_words (i ∷ is) = instr_words i + code_words is
 
 -- ---- frame points and exits
 
-abbrev pub one_if : Bool → ℕ
-one_if true = 1
-one_if false = 0
+abbrev pub one_if_true : Bool → ℕ
+one_if_true true = 1
+one_if_true false = 0
 
 -- how many instructions are frame points that are no tail calls
 abbrev pub code_points : List Instr → ℕ
 code_points [] = 0
-code_points (i ∷ is) = one_if (passes_frame i.op) + code_points is
+code_points (i ∷ is) = one_if_true (passes_frame i.op) + code_points is
 
 -- how many instructions are exits: an exit ends up to all tries round it
-abbrev pub exits : List Instr → ℕ
-exits [] = 0
-exits (i ∷ is) = cond (is_exit i.op) (suc (exits is)) (exits is)
+abbrev pub exit_count : List Instr → ℕ
+exit_count [] = 0
+exit_count (i ∷ is) = cond (is_exit i.op) (suc (exit_count is)) (exit_count is)
 
 -- ---- operands
 

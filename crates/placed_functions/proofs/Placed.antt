@@ -12,13 +12,13 @@ use Rattle.mach_ir.specs.Sizes.{operand_count, HasRoom}
 use Rattle.mach_ir.specs.declared.mach.Mach.{Mach}
 use Rattle.mach_ir.specs.declared.reg.Reg.{Reg}
 use Rattle.mach_ir.proofs.Keeping.{keeps_then}
-use Rattle.mach_passes.specs.Prepared.{IsPreparable, IsPrepared, prepared_size}
+use Rattle.mach_passes.specs.Prepared.{IsPreparable, IsPreparedMach, prepared_size}
 use Rattle.mach_passes.specs.Prepared as prepared
 use Rattle.mach_passes.proofs.Whole.{prepared_kept}
 use Rattle.pass_rules.specs.Carried.{IsCarried}
 use Rattle.pass_rules.proofs.Operands.{others_few}
 use Rattle.pass_rules.specs.Measures.{copy_words}
-use Rattle.rounds_rules.specs.Rounds.{IsAllocated, allocated_size}
+use Rattle.rounds_rules.specs.Rounds.{IsRegisterAllocated, allocated_size}
 use Rattle.rounds_rules.specs.Rounds as rounds
 use Rattle.rounds_rules.proofs.Kept.{allocated_kept}
 use Rattle.selection_places.proofs.Placed.{selected_low}
@@ -72,16 +72,16 @@ module _ {defined : List ℕ → Option DefinedSymbol} {tree : FunctionTree} (ac
       }
 
   -- and what they make is ready for allocation
-  pub ready : {p : Mach} → IsPrepared (selected tree) p → prepared.IsKept (selected tree) p
+  pub ready : {p : Mach} → IsPreparedMach (selected tree) p → prepared.IsPreparedKept (selected tree) p
   ready {p} is = prepared_kept (selected tree) p selected_preparable is
 
   -- what it carries, by the open registers of the text
-  pub carried : {p : Mach} → prepared.IsKept (selected tree) p →
+  pub carried : {p : Mach} → prepared.IsPreparedKept (selected tree) p →
       IsCarried (copy_words * (operand_count (selected tree).code + 3 * (2 * (tree.tokens - all_tries tree.body)))) (selected tree) p
   carried made = made.carried (2 * (tree.tokens - all_tries tree.body)) promise.open_registers
 
   -- which has numbers too
-  pub prepared_room : {p : Mach} → IsPrepared (selected tree) p → HasRoom allocated_size p
+  pub prepared_room : {p : Mach} → IsPreparedMach (selected tree) p → HasRoom allocated_size p
   prepared_room {p} is =
       record {
         size = prepared_size (length (selected tree).params) (size_by tree.tokens);
@@ -94,8 +94,8 @@ module _ {defined : List ℕ → Option DefinedSymbol} {tree : FunctionTree} (ac
         };
       }
 
-  module _ {alloc : Alloc} {p q : Mach} (is : IsPrepared (selected tree) p) (allocated : IsAllocated alloc p q) where
-    kept : rounds.IsKept p q
+  module _ {alloc : Alloc} {p q : Mach} (is : IsPreparedMach (selected tree) p) (allocated : IsRegisterAllocated alloc p q) where
+    kept : rounds.IsAllocationKept p q
     kept =
         let made = ready is in
         allocated_kept p q made.formed made.placed ((carried made).colours_low (selected_low tree)) allocated

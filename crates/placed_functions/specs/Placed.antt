@@ -13,7 +13,7 @@ use Rattle.mach_ir.specs.Walks.{NoAddrLive}
 use Rattle.mach_ir.specs.declared.mach.Instr.{Instr}
 use Rattle.mach_ir.specs.declared.mach.Mach.{Mach}
 use Rattle.pass_rules.specs.Carried.{TriesAtMost, OffsetFits, EndsInReturn}
-use Rattle.pass_rules.specs.Measures.{code_words, code_points, exits}
+use Rattle.pass_rules.specs.Measures.{code_words, code_points, exit_count}
 use Rattle.places_rules.specs.Places.{SlotsGrow}
 use Rattle.selection_rules.specs.Select.{selected}
 
@@ -34,7 +34,7 @@ pub record IsPlacedFor (tree : FunctionTree) (q : Mach) : Type 0 where
   pub words : code_words q.code ≤
       code_words (selected tree).code + 12 * operand_count (selected tree).code + 36 * tree.tokens
   pub points : code_points q.code ≤ code_points (selected tree).code
-  pub exits : exits q.code ≤ exits (selected tree).code
+  pub exits : exit_count q.code ≤ exit_count (selected tree).code
   pub instrs : length q.code ≤ 9640 * tree.tokens
   pub labels : q.labels ≤ 23 * tree.tokens
   -- a slot for each of these registers at the most

@@ -8,9 +8,9 @@ ghost use Rattle.choices.specs.declared.choices.Alloc.{Alloc};
 ghost use Rattle.cmm_tree.specs.Symbols.{DefinedSymbol};
 ghost use Rattle.cmm_tree.specs.Tree.{FunctionTree};
 ghost use Rattle.mach_ir.specs.declared.mach.Mach.{Mach};
-ghost use Rattle.mach_passes.specs.Prepared.{IsPreparable, IsPrepared};
+ghost use Rattle.mach_passes.specs.Prepared.{IsPreparable, IsPreparedMach};
 ghost use Rattle.placed_functions.specs.Placed.{IsPlacedFor};
-ghost use Rattle.rounds_rules.specs.Rounds.{IsAllocated};
+ghost use Rattle.rounds_rules.specs.Rounds.{IsRegisterAllocated};
 ghost use Rattle.selection_promise.specs.Selects.{IsAccepted};
 ghost use Rattle.selection_rules.specs.Select.{selected};
 
@@ -24,6 +24,6 @@ pub fn selected_functions_are_preparable()
 /// Law: what the passes and register allocation make of a function that the front accepts is known.
 pub fn prepared_functions_are_placed()
     ensures { (alloc : Alloc) (defined : List ℕ → Option DefinedSymbol) (tree : FunctionTree)
-        (p q : Mach) → IsAccepted defined tree → IsPrepared (selected tree) p →
-        IsAllocated alloc p q → IsPlacedFor tree q }
+        (p q : Mach) → IsAccepted defined tree → IsPreparedMach (selected tree) p →
+        IsRegisterAllocated alloc p q → IsPlacedFor tree q }
 {}

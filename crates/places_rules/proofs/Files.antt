@@ -5,14 +5,14 @@ use Rattle.std.specs.Prelude.{nat_eq}
 use Rattle.std.proofs.lemmas.Option.{none-some, same_Some}
 use Rattle.bs_words.specs.Fits.{fits, type_of_comp}
 use Rattle.bs_words.specs.declared.values.Value.{Value}
-use Rattle.mach_ir.specs.Meaning.{Held, File, put, put_if, put_all, clear, with_held, values, past_frame, unless_addr}
-use Rattle.mach_ir.specs.Walks.{Among, first, later}
+use Rattle.mach_ir.specs.Meaning.{Held, File, assign_register, put_if, put_all, clear_registers, with_held, values, past_frame, unless_addr}
+use Rattle.mach_ir.specs.Walks.{AmongRegisters, first, later}
 use Rattle.mach_ir.specs.declared.reg.Reg.{Reg}
 use Rattle.mach_laws.proofs.Files.{put_other}
 
 -- ---- what is read
 
-pub values_same : (a b : File) (rs : List Reg) → ((n : ℕ) → Among n rs → a n ≡ b n) → values a rs ≡ values b rs
+pub values_same : (a b : File) (rs : List Reg) → ((n : ℕ) → AmongRegisters n rs → a n ≡ b n) → values a rs ≡ values b rs
 values_same a b [] h = refl
 values_same a b (r ∷ rs) h =
     ap (λ o. with_held o (values a rs)) (h r.number (first refl))
@@ -27,26 +27,26 @@ past_same true a b n x e = ap unless_addr e
 abbrev IsNone : Option Held → Type 0
 IsNone o = o ≡ None
 
-pub cleared : (ks : List Reg) (f : File) (n : ℕ) → Among n ks → IsNone (clear ks f n)
-cleared (k ∷ ks) f n (first e) = ap (λ b. cond b None (clear ks f n)) (eq-eqb k.number n e)
+pub cleared : (ks : List Reg) (f : File) (n : ℕ) → AmongRegisters n ks → IsNone (clear_registers ks f n)
+cleared (k ∷ ks) f n (first e) = ap (λ b. cond b None (clear_registers ks f n)) (eq-eqb k.number n e)
 cleared (k ∷ ks) f n (later a) = by (nat_eq k.number n) (cleared ks f n a)
   where
-    by : (b : Bool) → IsNone (clear ks f n) → IsNone (cond b None (clear ks f n))
+    by : (b : Bool) → IsNone (clear_registers ks f n) → IsNone (cond b None (clear_registers ks f n))
     by true e = refl
     by false e = e
 cleared [] f n a = elim a [ ]
 
-pub not_cleared : (ks : List Reg) (f : File) (n : ℕ) → (Among n ks → ⊥) → clear ks f n ≡ f n
+pub not_cleared : (ks : List Reg) (f : File) (n : ℕ) → (AmongRegisters n ks → ⊥) → clear_registers ks f n ≡ f n
 not_cleared [] f n h = refl
 not_cleared (k ∷ ks) f n h = by (nat_eq k.number n) refl (not_cleared ks f n (λ a. h (later a)))
   where
-    by : (b : Bool) → nat_eq k.number n ≡ b → clear ks f n ≡ f n → cond b None (clear ks f n) ≡ f n
+    by : (b : Bool) → nat_eq k.number n ≡ b → clear_registers ks f n ≡ f n → cond b None (clear_registers ks f n) ≡ f n
     by true s e = absurd (h (first (eqb-true k.number n s)))
     by false s e = e
 
 -- ---- what is written
 
-pub put_here : (r : Reg) (v : Value) (f : File) (n : ℕ) → r.number ≡ n → put r v f n ≡ Some (record { comp = r.comp; value = v })
+pub put_here : (r : Reg) (v : Value) (f : File) (n : ℕ) → r.number ≡ n → assign_register r v f n ≡ Some (record { comp = r.comp; value = v })
 put_here r v f n e = ap (λ b. cond b (Some (record { comp = r.comp; value = v })) (f n)) (eq-eqb r.number n e)
 
 -- the registers by other numbers
@@ -57,12 +57,12 @@ renumbered f' rs = map (λ (r : Reg). record r { number = f' r.number }) rs
 pub record PutsToo (f' back : ℕ → ℕ) (end : ℕ) (rs : List Reg) (vs : List Value) (f g d : File) : Type 0 where
   pub file : File
   pub puts : put_all end (renumbered f' rs) vs g ≡ Some file
-  pub same : (n : ℕ) → Among n rs → d n ≡ file (f' n)
-  pub others : (n : ℕ) → (Among n rs → ⊥) → d n ≡ f n
-  pub others_new : (x : ℕ) → (Among x (renumbered f' rs) → ⊥) → file x ≡ g x
+  pub same : (n : ℕ) → AmongRegisters n rs → d n ≡ file (f' n)
+  pub others : (n : ℕ) → (AmongRegisters n rs → ⊥) → d n ≡ f n
+  pub others_new : (x : ℕ) → (AmongRegisters x (renumbered f' rs) → ⊥) → file x ≡ g x
 
 pub put_twice : (f' back : ℕ → ℕ) (end : ℕ) (rs : List Reg) (vs : List Value) (f g d : File) →
-    ((n : ℕ) → Among n rs → back (f' n) ≡ n) → put_all end rs vs f ≡ Some d → PutsToo f' back end rs vs f g d
+    ((n : ℕ) → AmongRegisters n rs → back (f' n) ≡ n) → put_all end rs vs f ≡ Some d → PutsToo f' back end rs vs f g d
 put_twice f' back end [] [] f g d known e =
     record {
       file = g;
@@ -80,28 +80,28 @@ put_twice f' back end (r ∷ rs) (v ∷ vs) f g d known e =
     as_new : Reg
     as_new = record r { number = f' r.number }
 
-    one : (c : File) → PutsToo f' back end rs vs f g c → put r v c ≡ d → fits end (type_of_comp r.comp) v ≡ true →
+    one : (c : File) → PutsToo f' back end rs vs f g c → assign_register r v c ≡ d → fits end (type_of_comp r.comp) v ≡ true →
         PutsToo f' back end (r ∷ rs) (v ∷ vs) f g d
     one c p e t =
         record {
-          file = put as_new v p.file;
+          file = assign_register as_new v p.file;
           puts = ap (λ b. put_if b as_new v (put_all end (renumbered f' rs) vs g)) t ∙ ap (put_if true as_new v) p.puts;
           same = λ n a. ap (λ (x : File). x n) (sym e) ∙ at_one n a (nat_eq r.number n) refl;
           others = λ n h. ap (λ (x : File). x n) (sym e) ∙ put_other r v c n (λ s. h (first s)) ∙ p.others n (λ a. h (later a));
           others_new = λ x h. put_other as_new v p.file x (λ s. h (first s)) ∙ p.others_new x (λ a. h (later a));
         }
       where
-        rest_of : (n : ℕ) → nat_eq r.number n ≡ false → Among n (r ∷ rs) → Among n rs
+        rest_of : (n : ℕ) → nat_eq r.number n ≡ false → AmongRegisters n (r ∷ rs) → AmongRegisters n rs
         rest_of n s (first k) = absurd (both_ways (nat_eq r.number n) s (eq-eqb r.number n k))
         rest_of n s (later a) = a
 
         -- two of them have one new number only if they have one old
-        apart : (n : ℕ) → Among n (r ∷ rs) → nat_eq r.number n ≡ false → f' r.number ≡ f' n → ⊥
+        apart : (n : ℕ) → AmongRegisters n (r ∷ rs) → nat_eq r.number n ≡ false → f' r.number ≡ f' n → ⊥
         apart n a s h =
             both_ways (nat_eq r.number n) s (eq-eqb r.number n (sym (known r.number (first refl)) ∙ ap back h ∙ known n a))
 
-        at_one : (n : ℕ) → Among n (r ∷ rs) → (b : Bool) → nat_eq r.number n ≡ b →
-            cond b (Some (record { comp = r.comp; value = v })) (c n) ≡ put as_new v p.file (f' n)
+        at_one : (n : ℕ) → AmongRegisters n (r ∷ rs) → (b : Bool) → nat_eq r.number n ≡ b →
+            cond b (Some (record { comp = r.comp; value = v })) (c n) ≡ assign_register as_new v p.file (f' n)
         at_one n a true s = sym (put_here as_new v p.file (f' n) (ap f' (eqb-true r.number n s)))
         at_one n a false s = p.same n (rest_of n s a) ∙ sym (put_other as_new v p.file (f' n) (apart n a s))
 
@@ -116,9 +116,9 @@ put_twice f' back end (r ∷ rs) (v ∷ vs) f g d known e =
 pub record PutsBoth (end : ℕ) (rs : List Reg) (vs : List Value) (f g d : File) : Type 0 where
   pub file : File
   pub puts : put_all end rs vs g ≡ Some file
-  pub same : (n : ℕ) → Among n rs → d n ≡ file n
-  pub others : (n : ℕ) → (Among n rs → ⊥) → d n ≡ f n
-  pub others_new : (n : ℕ) → (Among n rs → ⊥) → file n ≡ g n
+  pub same : (n : ℕ) → AmongRegisters n rs → d n ≡ file n
+  pub others : (n : ℕ) → (AmongRegisters n rs → ⊥) → d n ≡ f n
+  pub others_new : (n : ℕ) → (AmongRegisters n rs → ⊥) → file n ≡ g n
 
 same_numbers : (rs : List Reg) → renumbered (λ n. n) rs ≡ rs
 same_numbers [] = refl
@@ -132,5 +132,5 @@ put_both end rs vs f g d e =
       puts = ap (λ qs. put_all end qs vs g) (sym (same_numbers rs)) ∙ p.puts;
       same = p.same;
       others = p.others;
-      others_new = λ n h. p.others_new n (λ z. h (subst (Among n) (same_numbers rs) z));
+      others_new = λ n h. p.others_new n (λ z. h (subst (AmongRegisters n) (same_numbers rs) z));
     }

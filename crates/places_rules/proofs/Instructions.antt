@@ -3,21 +3,21 @@ use Rattle.std.proofs.Common.{◌≡◌, ℕ, Bool, true, false, List, [], ◌�
 use Rattle.bs_words.specs.Fits.{fits, type_of_comp}
 use Rattle.bs_words.specs.declared.values.Value.{Value}
 use Rattle.mach_ir.specs.Meaning.{File, put_if, put_all, with_held, values}
-use Rattle.mach_ir.specs.Walks.{Among, first, later}
+use Rattle.mach_ir.specs.Walks.{AmongRegisters, first, later}
 use Rattle.mach_ir.specs.declared.reg.Reg.{Reg}
 use Rattle.mach_ir.specs.declared.mach.Instr.{Instr}
 use Rattle.mach_laws.specs.Expand.{KeepsMarks, expand}
 use Rattle.mach_laws.proofs.InPlace as text
 use Rattle.mach_laws.proofs.InPlace.{AreAlike, same_op}
-use Rattle.places_rules.specs.Places.{Placing, placed, all_placed, placed_instr, placed_code}
+use Rattle.places_rules.specs.Places.{LocationAssignment, located_register, all_placed, placed_instr, placed_code}
 
-module _ (place : Placing) where
-  pub among_there : {n : ℕ} (rs : List Reg) → Among n rs → Among n (all_placed place rs)
+module _ (place : LocationAssignment) where
+  pub among_there : {n : ℕ} (rs : List Reg) → AmongRegisters n rs → AmongRegisters n (all_placed place rs)
   among_there [] a = a
   among_there (r ∷ rs) (first e) = first e
   among_there (r ∷ rs) (later a) = later (among_there rs a)
 
-  pub among_back : {n : ℕ} (rs : List Reg) → Among n (all_placed place rs) → Among n rs
+  pub among_back : {n : ℕ} (rs : List Reg) → AmongRegisters n (all_placed place rs) → AmongRegisters n rs
   among_back [] a = a
   among_back (r ∷ rs) (first e) = first e
   among_back (r ∷ rs) (later a) = later (among_back rs a)
@@ -28,7 +28,7 @@ module _ (place : Placing) where
   same_values f [] = refl
   same_values f (r ∷ rs) = ap (with_held (f r.number)) (same_values f rs)
 
-  same_put_if : (b : Bool) (r : Reg) (v : Value) (o : Option File) → put_if b (placed place r) v o ≡ put_if b r v o
+  same_put_if : (b : Bool) (r : Reg) (v : Value) (o : Option File) → put_if b (located_register place r) v o ≡ put_if b r v o
   same_put_if true r v (Some f) = refl
   same_put_if true r v None = refl
   same_put_if false r v o = refl

@@ -7,11 +7,11 @@ use Rattle.bs_words.proofs.Lists.{head_same, tail_same}
 use Rattle.cmm_meaning.specs.State.{Doing}
 use Rattle.mach_ir.specs.Acts.{Around, Target, On, At, Landing, AtLabel, AtHandler, Replaces}
 use Rattle.mach_ir.specs.Formed.{WellFormed}
-use Rattle.mach_ir.specs.Runs.{Place, entered}
-use Rattle.mach_ir.specs.Meaning.{Held, State, File, clear, killed, written, values, past_frame, passes_frame, after_label, at_handler, code_at, tries_at, landing_code, start}
+use Rattle.mach_ir.specs.Runs.{ActivationSetting, entry_around}
+use Rattle.mach_ir.specs.Meaning.{Held, State, File, clear_registers, killed, registers_written, values, past_frame, passes_frame, after_label, at_handler, code_at, tries_at, landing_code, mach_start}
 use Rattle.mach_ir.specs.Placed.{WellPlaced}
-use Rattle.mach_ir.specs.Walks.{Among, OneOf, targets, may_raise, goes, raises, Live, read, on, aside, after_step, LiveAcross}
-use Rattle.mach_ir.specs.Keeps.{ValsWritten, wrote_unless, Begins, Does}
+use Rattle.mach_ir.specs.Walks.{AmongRegisters, OneOf, targets, may_raise, goes, raises, Live, read, on, aside, after_step, LiveAcross}
+use Rattle.mach_ir.specs.Keeps.{ValsWritten, wrote_unless, Begins, MachSimulation}
 use Rattle.mach_ir.specs.declared.reg.Reg.{Reg}
 use Rattle.mach_ir.specs.declared.mach.Instr.{Instr}
 use Rattle.mach_ir.specs.declared.mach.Mach.{Mach}
@@ -25,13 +25,13 @@ use Rattle.mach_laws.proofs.Simulate.{Agrees}
 use Rattle.mach_laws.proofs.Among.{left_among, right_among, split_among, among_or_not}
 use Rattle.mach_laws.proofs.Raised.{IsRaised, IsSilent, label_silent, try_silent, told}
 use Rattle.mach_laws.proofs.Walking.{across_live}
-use Rattle.places_rules.specs.Places.{Placing, IsPlacing, placed, all_placed, placed_instr, placed_code, with_places}
+use Rattle.places_rules.specs.Places.{LocationAssignment, IsProperAssignment, located_register, all_placed, placed_instr, placed_code, with_places}
 use Rattle.places_rules.proofs.Files.{values_same, past_same, cleared, not_cleared, PutsBoth, put_both}
 use Rattle.places_rules.proofs.Walked.{fewer_killed, fewer_written, still_written, live_before, across_back}
 use Rattle.places_rules.proofs.Instructions.{among_back, same_values, same_put, alone, as_expanded, keeps_marks}
 use Rattle.places_rules.proofs.Text.{same_label, same_tries, was_register}
 
-module _ (m : Mach) (place : Placing) (formed : WellFormed m) (well : WellPlaced m) (is : IsPlacing m place) where
+module _ (m : Mach) (place : LocationAssignment) (formed : WellFormed m) (well : WellPlaced m) (is : IsProperAssignment m place) where
   abbrev q : Mach
   q = with_places place m
 
@@ -44,7 +44,7 @@ module _ (m : Mach) (place : Placing) (formed : WellFormed m) (well : WellPlaced
   -- what the second has just written, and holds a value, the first has written with that value
   abbrev WroteSame : Option Value → List Reg → List Reg → File → File → Type 0
   WroteSame raised ws us a b =
-      (n : ℕ) (u : Held) → Among n (wrote_unless raised us) → b n ≡ Some u → Among n (wrote_unless raised ws) × (a n ≡ b n)
+      (n : ℕ) (u : Held) → AmongRegisters n (wrote_unless raised us) → b n ≡ Some u → AmongRegisters n (wrote_unless raised ws) × (a n ≡ b n)
 
   agrees_by : (rest : List Instr) → Ending rest m.code → (a b : File) (x : Around) (ws us : List Reg) → Same rest a b →
       WroteSame x.raised ws us a b → Agrees m ws (at rest a x) → Agrees q us (at (placed_code place rest) b x)
@@ -60,17 +60,17 @@ module _ (m : Mach) (place : Placing) (formed : WellFormed m) (well : WellPlaced
             one.0 two.0 h g (one.1 ∙ s) (two.1 ∙ t);
       }
     where
-      was_there : (w r : Reg) → placed place w ≡ r → (u : Held) →
-          Live q r.number (placed_code place rest) ⊎ Among r.number (wrote_unless x.raised us) → b r.number ≡ Some u →
-          (Live m w.number rest ⊎ Among w.number (wrote_unless x.raised ws)) × (a w.number ≡ b r.number)
+      was_there : (w r : Reg) → located_register place w ≡ r → (u : Held) →
+          Live q r.number (placed_code place rest) ⊎ AmongRegisters r.number (wrote_unless x.raised us) → b r.number ≡ Some u →
+          (Live m w.number rest ⊎ AmongRegisters w.number (wrote_unless x.raised ws)) × (a w.number ≡ b r.number)
       was_there w r e u l s =
-          subst (λ n. (Live m n rest ⊎ Among n (wrote_unless x.raised ws)) × (a n ≡ b r.number))
+          subst (λ n. (Live m n rest ⊎ AmongRegisters n (wrote_unless x.raised ws)) × (a n ≡ b r.number))
           (sym (ap (λ (r : Reg). r.number) e))
           (⊎_elim (λ v. let v = live_before m place well is ending v in (inl v, same r.number v))
           (λ z. let h = wrote r.number u z s in (inr h.0, h.1)) l)
 
   silent_wrote : {i : Instr} {next : List Instr} → Ending (i ∷ next) m.code → (o : Option Value) (a b : File) →
-      IsSilent m i ⊎ IsRaised o → WroteSame o (written m i) (written q (placed_instr place i)) a b
+      IsSilent m i ⊎ IsRaised o → WroteSame o (registers_written m i) (registers_written q (placed_instr place i)) a b
   silent_wrote {i} e None a b (inl s) n u z h = absurd (s n (fewer_written m place well is (stands_of e) z))
   silent_wrote e None a b (inr r) n u z h = elim r [ ]
   silent_wrote e (Some v) a b s n u z h = elim z [ ]
@@ -119,7 +119,7 @@ module _ (m : Mach) (place : Placing) (formed : WellFormed m) (well : WellPlaced
 
   -- ---- each instruction
 
-  module _ (c : Place) (Suit : Around → Around → Type 0) (i : Instr) (next : List Instr) (a b : File)
+  module _ (c : ActivationSetting) (Suit : Around → Around → Type 0) (i : Instr) (next : List Instr) (a b : File)
       (ending : Ending (i ∷ next) m.code) (same : Same (i ∷ next) a b) where
     abbrev Round : List Instr → Around → Around → File → File → Type 0
     Round = level.Level c m q (alone place) (keeps_marks place) is_code Same
@@ -137,8 +137,8 @@ module _ (m : Mach) (place : Placing) (formed : WellFormed m) (well : WellPlaced
     still n v = past_same (passes_frame i.op) a b n n (same n v)
 
     -- what is live where it goes, and is no result
-    base : (t : Target) → OneOf t (targets i.op) → (n : ℕ) → Live m n (code_at m.code next t) → (Among n i.results → ⊥) →
-        clear (killed m i) a' n ≡ clear (killed q main) b' n
+    base : (t : Target) → OneOf t (targets i.op) → (n : ℕ) → Live m n (code_at m.code next t) → (AmongRegisters n i.results → ⊥) →
+        clear_registers (killed m i) a' n ≡ clear_registers (killed q main) b' n
     base t o n v free =
         ⊎_elim
         (λ k.
@@ -153,7 +153,7 @@ module _ (m : Mach) (place : Placing) (formed : WellFormed m) (well : WellPlaced
         (among_or_not n (killed m i))
 
     abbrev Puts : List Value → File → Type 0
-    Puts vs d = PutsBoth c.setting.end i.results vs (clear (killed m i) a') (clear (killed q main) b') d
+    Puts vs d = PutsBoth c.setting.end i.results vs (clear_registers (killed m i) a') (clear_registers (killed q main) b') d
 
     after_same : (vs : List Value) (d : File) (p : Puts vs d) (t : Target) → OneOf t (targets i.op) →
         Same (code_at m.code next t) d p.file
@@ -163,7 +163,7 @@ module _ (m : Mach) (place : Placing) (formed : WellFormed m) (well : WellPlaced
         (among_or_not n i.results)
 
     put_wrote : (vs : List Value) (d : File) (p : Puts vs d) (o : Option Value) →
-        WroteSame o (written m i) (written q main) d p.file
+        WroteSame o (registers_written m i) (registers_written q main) d p.file
     put_wrote vs d p None n u z h =
         ⊎_elim (λ r. (left_among i.results (killed m i) r, p.same n r))
         (λ free.
@@ -181,16 +181,16 @@ module _ (m : Mach) (place : Placing) (formed : WellFormed m) (well : WellPlaced
     past vs d p x On o =
         general.on
         (λ w.
-        moved (λ code. Agrees q (written q main) (at code p.file x)) next
-        (agrees_by next (ending_next ending) d p.file x (written m i) (written q main) (after_same vs d p On o)
+        moved (λ code. Agrees q (registers_written q main) (at code p.file x)) next
+        (agrees_by next (ending_next ending) d p.file x (registers_written m i) (registers_written q main) (after_same vs d p On o)
         (put_wrote vs d p x.raised) w))
         general.passed (λ w. (refl, after_same vs d p On o))
     past vs d p x (At l) o =
         general.elsewhere refl
         (λ w. (
           (refl, after_same vs d p (At l) o),
-          subst (λ code. Agrees q (written q main) (at code p.file x)) (sym (same_label place l m.code))
-              (agrees_by (after_label l m.code) (ending_label l m.code) d p.file x (written m i) (written q main)
+          subst (λ code. Agrees q (registers_written q main) (at code p.file x)) (sym (same_label place l m.code))
+              (agrees_by (after_label l m.code) (ending_label l m.code) d p.file x (registers_written m i) (registers_written q main)
               (after_same vs d p (At l) o) (put_wrote vs d p x.raised) w),
         ))
 
@@ -203,10 +203,10 @@ module _ (m : Mach) (place : Placing) (formed : WellFormed m) (well : WellPlaced
         general.Lands c m q (alone place) (keeps_marks place) is_code Suit Round i main next [] to x x a' b'
     lands to may x s w = (
       (refl, landed to may),
-      subst (λ code. Agrees q (written q main) (at code b' x))
+      subst (λ code. Agrees q (registers_written q main) (at code b' x))
           (sym (lands_same (i ∷ next) (main ∷ expand (alone place) next) to (tries_same i next)))
-          (agrees_by (landing_code m.code (i ∷ next) to) (ending_land to (i ∷ next) m.code) a' b' x (written m i)
-          (written q main) (landed to may) (silent_wrote ending x.raised a' b' s) w),
+          (agrees_by (landing_code m.code (i ∷ next) to) (ending_land to (i ∷ next) m.code) a' b' x (registers_written m i)
+          (registers_written q main) (landed to may) (silent_wrote ending x.raised a' b' s) w),
     )
 
     pushed : IsTry i.op → Same next a' b'
@@ -216,9 +216,9 @@ module _ (m : Mach) (place : Placing) (formed : WellFormed m) (well : WellPlaced
     same_operation =
         record {
           goes = λ vs d e.
-              let p = put_both c.setting.end i.results vs (clear (killed m i) a') (clear (killed q main) b') d e in (
+              let p = put_both c.setting.end i.results vs (clear_registers (killed m i) a') (clear_registers (killed q main) b') d e in (
                 p.file,
-                same_put place c.setting.end i.results vs (clear (killed q main) b') ∙ p.puts,
+                same_put place c.setting.end i.results vs (clear_registers (killed q main) b') ∙ p.puts,
                 λ x to o. past vs d p x to o,
               );
           lands = λ x to l s. lands to l x s;
@@ -227,8 +227,8 @@ module _ (m : Mach) (place : Placing) (formed : WellFormed m) (well : WellPlaced
             refl,
             λ x w. (
               (refl, pushed t),
-              moved (λ code. Agrees q (written q main) (at code b' x)) next
-                  (agrees_by next (ending_next ending) a' b' x (written m i) (written q main) (pushed t)
+              moved (λ code. Agrees q (registers_written q main) (at code b' x)) next
+                  (agrees_by next (ending_next ending) a' b' x (registers_written m i) (registers_written q main) (pushed t)
                   (silent_wrote ending x.raised a' b' (inl (try_silent m (form_of formed ending) t))) w),
             ),
           );
@@ -252,7 +252,7 @@ module _ (m : Mach) (place : Placing) (formed : WellFormed m) (well : WellPlaced
           same = same_operation;
         })
 
-  module _ (c : Place) where
+  module _ (c : ActivationSetting) where
     serves : (Suit : Around → Around → Type 0) → ((x y : Around) → x ≡ y → Suit x y) →
         level.Serves c m q (alone place) (keeps_marks place) is_code Same Suit
     serves Suit suits =
@@ -266,12 +266,12 @@ module _ (m : Mach) (place : Placing) (formed : WellFormed m) (well : WellPlaced
         }
 
     begins_placed : (arguments : List Value) (memory : Memory) (doings : List Doing) (s : State) →
-        start c m arguments memory ≡ Some s → Begins c m q arguments memory doings s
+        mach_start c m arguments memory ≡ Some s → Begins c m q arguments memory doings s
     begins_placed =
         level.begins_by c m q (λ vs. same_put place c.setting.end m.params vs (λ n. None))
         (λ arguments memory a t n e proper.
-        level.follows_from c m q (alone place) (keeps_marks place) is_code Same serves a a (entered memory) (λ k v. refl) n t proper)
+        level.follows_from c m q (alone place) (keeps_marks place) is_code Same serves a a (entry_around memory) (λ k v. refl) n t proper)
 
   -- The function with its open registers placed does what it did.
-  pub does_placed : Does m (with_places place m)
+  pub does_placed : MachSimulation m (with_places place m)
   does_placed = λ c arguments memory doings s e. begins_placed c arguments memory doings s e

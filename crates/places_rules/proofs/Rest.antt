@@ -4,13 +4,13 @@ use Rattle.bs_words.specs.declared.types.Loc.{Loc}
 use Rattle.bs_words.specs.declared.types.Loc.TheVariants as loc
 use Rattle.mach_ir.specs.Formed.{WellFormed}
 use Rattle.mach_ir.specs.Keeps.{Keeps}
-use Rattle.mach_ir.specs.Placed.{IsPlaced, in_colour, in_slot, MayShare, WellPlaced, FullyPlaced}
+use Rattle.mach_ir.specs.Placed.{HasColourOrSlot, in_colour, in_slot, MayShare, WellPlaced, FullyPlaced}
 use Rattle.mach_ir.specs.Seats.{Seated}
 use Rattle.mach_ir.specs.Sizes.{Size, HasSize, OpenAtMost}
 use Rattle.mach_ir.specs.Walks.{IsRegister, NoAddrLive, Joined}
 use Rattle.mach_ir.specs.declared.reg.Reg.{Reg}
 use Rattle.mach_ir.specs.declared.mach.Mach.{Mach}
-use Rattle.places_rules.specs.Places.{IsPlacing, placed, or_slot, last_resort, rest_in_slots, SlotsGrow}
+use Rattle.places_rules.specs.Places.{IsProperAssignment, located_register, or_slot, last_resort, rest_in_slots, SlotsGrow}
 use Rattle.places_rules.proofs.Text.{placed_formed}
 use Rattle.places_rules.proofs.Open.{machine_open, slot_open, machine_slot}
 use Rattle.places_rules.proofs.Walked.{colour_place, no_addr_before}
@@ -35,11 +35,11 @@ rested r = by r.loc refl
 -- ---- it is a placing
 
 module _ (m : Mach) (well : WellPlaced m) where
-  is_at : (w : Reg) → IsRegister m w → Rested w → IsPlaced (placed last_resort w)
+  is_at : (w : Reg) → IsRegister m w → Rested w → HasColourOrSlot (located_register last_resort w)
   is_at w i (was_open o h) = in_slot h
   is_at w i (was_fixed o h) = ⊎_elim (λ e. absurd (o e)) (λ p. by p) ((well.agree).places w i)
     where
-      by : IsPlaced w → IsPlaced (placed last_resort w)
+      by : HasColourOrSlot w → HasColourOrSlot (located_register last_resort w)
       by (in_colour n c e) = in_colour n c (h ∙ e)
       by (in_slot e) = in_slot (h ∙ e)
 
@@ -53,11 +53,11 @@ module _ (m : Mach) (well : WellPlaced m) where
 
   -- two registers in one slot are of one origin
   rest_apart : (r k : Reg) → IsRegister m r → IsRegister m k → Joined m r.number k.number → last_resort r ≡ last_resort k →
-      MayShare (placed last_resort r) (placed last_resort k)
+      MayShare (located_register last_resort r) (located_register last_resort k)
   rest_apart r k i j joined e = by (is_at r i (rested r)) (is_at k j (rested k))
     where
-      by : IsPlaced (placed last_resort r) → IsPlaced (placed last_resort k) →
-          MayShare (placed last_resort r) (placed last_resort k)
+      by : HasColourOrSlot (located_register last_resort r) → HasColourOrSlot (located_register last_resort k) →
+          MayShare (located_register last_resort r) (located_register last_resort k)
       by (in_slot s) (in_slot t) = (same_slot s (e ∙ t), s)
       by (in_slot s) (in_colour n c t) = absurd (machine_slot t (sym e ∙ s))
       by (in_colour n c s) t =
@@ -66,7 +66,7 @@ module _ (m : Mach) (well : WellPlaced m) where
           let share = (well.agree).apart r k i j joined (λ u. machine_open one u) (one ∙ sym other) in
           absurd (machine_slot one share.1)
 
-  pub rest_placing : IsPlacing m last_resort
+  pub rest_placing : IsProperAssignment m last_resort
   rest_placing =
       record {
         fixed = λ r i. by r (rested r);

@@ -3,8 +3,8 @@
 use Rattle.std.proofs.Common.{◌≡◌, ◌≢◌, ℕ, ◌<◌, List, [], ◌∷◌, refl, sym, ap, ◌∙◌, subst}
 use Rattle.std.specs.List.{All, AllPairs}
 use Rattle.std.proofs.lemmas.List.Elements.{All-map}
-use Rattle.mach_ir.specs.Forms.{HasForm, results_of}
-use Rattle.mach_ir.specs.Formed.{comps, MarkHasForm, IsFormed, formed_op, formed_mark, AreDistinct, labels_in, WellFormed}
+use Rattle.mach_ir.specs.Forms.{HasForm, results_of_type}
+use Rattle.mach_ir.specs.Formed.{comps, MarkHasForm, IsFormedInstruction, formed_op, formed_mark, AreDistinct, labels_in, WellFormed}
 use Rattle.mach_ir.specs.Meaning.{after_label, tries_at}
 use Rattle.mach_ir.specs.Walks.{InCode, in_args, in_results, further, IsRegister, is_param, is_colour, is_in_code}
 use Rattle.mach_ir.specs.declared.reg.Reg.{Reg}
@@ -14,11 +14,11 @@ use Rattle.mach_ir.specs.declared.mach.Mach.{Mach}
 use Rattle.mach_laws.proofs.InPlace as text
 use Rattle.mach_laws.proofs.Places.{label_expand, tries_expand}
 use Rattle.bs_words.proofs.Lists.{mapped}
-use Rattle.places_rules.specs.Places.{Placing, placed, all_placed, placed_instr, placed_code, with_places}
+use Rattle.places_rules.specs.Places.{LocationAssignment, located_register, all_placed, placed_instr, placed_code, with_places}
 use Rattle.places_rules.proofs.Lists.{was, pairs_mapped}
 use Rattle.places_rules.proofs.Instructions.{again, same_ops, alone, as_expanded, keeps_marks}
 
-module _ (place : Placing) where
+module _ (place : LocationAssignment) where
   -- ---- labels and tries
 
   pub same_label : (l : ℕ) (code : List Instr) →
@@ -43,15 +43,15 @@ module _ (place : Placing) where
   pub record WasIn (code : List Instr) (r : Reg) : Type 0 where
     pub register : Reg
     pub among : InCode register code
-    pub same : placed place register ≡ r
+    pub same : located_register place register ≡ r
 
   was_in : (code : List Instr) (r : Reg) → InCode r (placed_code place code) → WasIn code r
   was_in [] r c = elim c [ ]
   was_in (i ∷ is) r (in_args c) =
-      let w = was (placed place) i.args r c in
+      let w = was (located_register place) i.args r c in
       record { register = w.what; among = in_args w.among; same = w.same }
   was_in (i ∷ is) r (in_results c) =
-      let w = was (placed place) i.results r c in
+      let w = was (located_register place) i.results r c in
       record { register = w.what; among = in_results w.among; same = w.same }
   was_in (i ∷ is) r (further c) =
       let w = was_in is r c in record { register = w.register; among = further w.among; same = w.same }
@@ -61,32 +61,32 @@ module _ (place : Placing) where
     pub record WasRegister (r : Reg) : Type 0 where
       pub register : Reg
       pub among : IsRegister m register
-      pub same : placed place register ≡ r
+      pub same : located_register place register ≡ r
 
     pub was_register : (r : Reg) → IsRegister (with_places place m) r → WasRegister r
     was_register r (is_param c) =
-        let w = was (placed place) m.params r c in
+        let w = was (located_register place) m.params r c in
         record { register = w.what; among = is_param w.among; same = w.same }
     was_register r (is_colour c) =
-        let w = was (placed place) m.colours r c in
+        let w = was (located_register place) m.colours r c in
         record { register = w.what; among = is_colour w.among; same = w.same }
     was_register r (is_in_code c) =
         let w = was_in m.code r c in
         record { register = w.register; among = is_in_code w.among; same = w.same }
 
-    in_placed : {r : Reg} {code : List Instr} → InCode r code → InCode (placed place r) (placed_code place code)
-    in_placed {r} (in_args {i = i} c) = in_args (mapped (placed place) i.args r c)
-    in_placed {r} (in_results {i = i} c) = in_results (mapped (placed place) i.results r c)
+    in_placed : {r : Reg} {code : List Instr} → InCode r code → InCode (located_register place r) (placed_code place code)
+    in_placed {r} (in_args {i = i} c) = in_args (mapped (located_register place) i.args r c)
+    in_placed {r} (in_results {i = i} c) = in_results (mapped (located_register place) i.results r c)
     in_placed (further c) = further (in_placed c)
 
-    pub is_placed : {r : Reg} → IsRegister m r → IsRegister (with_places place m) (placed place r)
-    is_placed {r} (is_param c) = is_param (mapped (placed place) m.params r c)
-    is_placed {r} (is_colour c) = is_colour (mapped (placed place) m.colours r c)
+    pub is_placed : {r : Reg} → IsRegister m r → IsRegister (with_places place m) (located_register place r)
+    is_placed {r} (is_param c) = is_param (mapped (located_register place) m.params r c)
+    is_placed {r} (is_colour c) = is_colour (mapped (located_register place) m.colours r c)
     is_placed (is_in_code c) = is_in_code (in_placed c)
 
   -- ---- well-formed functions
 
-  formed : {i : Instr} → IsFormed i → IsFormed (placed_instr place i)
+  formed : {i : Instr} → IsFormedInstruction i → IsFormedInstruction (placed_instr place i)
   formed (formed_op {f = f} {args = args} {results = results} h) =
       formed_op
       (subst (λ cs. HasForm f cs (comps (all_placed place results))) (sym (same_comps args))
@@ -111,18 +111,18 @@ module _ (place : Placing) where
               let w = was_register m r i in
               let v = was_register m k j in
               sym w.same
-              ∙ ap (placed place)
+              ∙ ap (located_register place)
               (well.numbers w.register v.register w.among v.among
               (ap (λ (r : Reg). r.number) w.same ∙ e ∙ sym (ap (λ (r : Reg). r.number) v.same)))
               ∙ v.same;
-          params = All-map (λ (r : Reg). r.origin ≡ r.number) (placed place) m.params well.params;
-          params_distinct = pairs_mapped (placed place) (λ (r q : Reg). r.number ≢ q.number) m.params well.params_distinct;
-          instrs = All-map IsFormed (placed_instr place) m.code (λ k d lt. formed (well.instrs k d lt));
+          params = All-map (λ (r : Reg). r.origin ≡ r.number) (located_register place) m.params well.params;
+          params_distinct = pairs_mapped (located_register place) (λ (r q : Reg). r.number ≢ q.number) m.params well.params_distinct;
+          instrs = All-map IsFormedInstruction (placed_instr place) m.code (λ k d lt. formed (well.instrs k d lt));
           distinct = All-map (λ (i : Instr). AreDistinct i.results) (placed_instr place) m.code
-              (λ k d lt. pairs_mapped (placed place) (λ (r q : Reg). r.number ≢ q.number) _ (well.distinct k d lt));
+              (λ k d lt. pairs_mapped (located_register place) (λ (r q : Reg). r.number ≢ q.number) _ (well.distinct k d lt));
           returns = λ i c e.
               let w = was (placed_instr place) m.code i c in
-              subst (λ (i : Instr). comps i.args ≡ results_of m.result) w.same
+              subst (λ (i : Instr). comps i.args ≡ results_of_type m.result) w.same
               (same_comps (w.what).args ∙ well.returns w.what w.among (op_of w.what w.same e));
           labels_once = subst (λ ls. AllPairs (λ k l. k ≢ l) ls) (sym (same_labels m.code)) well.labels_once;
           labels_below = subst (λ ls. All (λ l. l < m.labels) ls) (sym (same_labels m.code)) well.labels_below;

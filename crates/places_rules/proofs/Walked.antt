@@ -8,8 +8,8 @@ use Rattle.bs_words.specs.declared.types.Loc.{Loc}
 use Rattle.bs_words.specs.declared.types.Loc.TheVariants as loc
 use Rattle.bs_words.proofs.Lists.{none_in, first_in, later_in, in_cons, mapped}
 use Rattle.mach_ir.specs.Meaning.{Destroyed, Nothing, Temporaries, Everything, destroyed_by, is_destroyed, same_colour, is_at_one_of, killed_among, killed_by, killed}
-use Rattle.mach_ir.specs.Placed.{colours, WellPlaced}
-use Rattle.mach_ir.specs.Walks.{Among, first, later, goes, Writes, Live, read, on, aside, LiveAfter, after_step, LiveAcross, across_step, across_raise, IsRegister, is_colour, is_in_code, Stands, NoAddrLive, IsMove, is_move, Meets, at_write, at_params, Joined, one_way, other_way}
+use Rattle.mach_ir.specs.Placed.{colour_numbers, WellPlaced}
+use Rattle.mach_ir.specs.Walks.{AmongRegisters, first, later, goes, Writes, Live, read, on, aside, LiveAfter, after_step, LiveAcross, across_step, across_raise, IsRegister, is_colour, is_in_code, StandsAsInstr, NoAddrLive, IsMove, is_move, Meets, at_write, at_params, Joined, one_way, other_way}
 use Rattle.mach_ir.specs.declared.reg.Reg.{Reg}
 use Rattle.mach_ir.specs.declared.mach.Instr.{Instr}
 use Rattle.mach_ir.specs.declared.mach.Mach.{Mach}
@@ -18,7 +18,7 @@ use Rattle.mach_laws.proofs.InPlace as text
 use Rattle.mach_laws.proofs.InPlace.{was_main}
 use Rattle.mach_laws.proofs.Places.{stands_of, ending_of, results_in}
 use Rattle.mach_laws.proofs.Among.{left_among, right_among, split_among, among_of}
-use Rattle.places_rules.specs.Places.{Placing, IsPlacing, placed, all_placed, placed_instr, placed_code, with_places}
+use Rattle.places_rules.specs.Places.{LocationAssignment, IsProperAssignment, located_register, all_placed, placed_instr, placed_code, with_places}
 use Rattle.places_rules.proofs.Open.{machine_open, machine_slot}
 use Rattle.places_rules.proofs.Lists.{was}
 use Rattle.places_rules.proofs.Text.{was_register}
@@ -97,8 +97,8 @@ both_so true false e h = refl
 both_so false b e h = absurd (both_ways false refl e)
 
 if_killed : (n : ℕ) (r : Reg) (rs : List Reg) (d : Destroyed) (results others : List Reg) (b : Bool) →
-    is_destroyed d r.loc && not (is_at_one_of r.loc results) ≡ b → Among n (cond b (r ∷ others) others) →
-    (Among n others → IsKilled n rs d results) → IsKilled n (r ∷ rs) d results
+    is_destroyed d r.loc && not (is_at_one_of r.loc results) ≡ b → AmongRegisters n (cond b (r ∷ others) others) →
+    (AmongRegisters n others → IsKilled n rs d results) → IsKilled n (r ∷ rs) d results
 if_killed n r rs d results others true e (first h) old =
     record {
       reg = r;
@@ -114,30 +114,30 @@ if_killed n r rs d results others false e a old =
     let k = old a in
     record { reg = k.reg; among = later_in r k.reg rs k.among; number = k.number; gone = k.gone; free = k.free }
 
-killed_is : (n : ℕ) (rs : List Reg) (d : Destroyed) (results : List Reg) → Among n (killed_among rs d results) →
+killed_is : (n : ℕ) (rs : List Reg) (d : Destroyed) (results : List Reg) → AmongRegisters n (killed_among rs d results) →
     IsKilled n rs d results
 killed_is n [] d results a = elim a [ ]
 killed_is n (r ∷ rs) d results a =
     if_killed n r rs d results (killed_among rs d results) (is_destroyed d r.loc && not (is_at_one_of r.loc results)) refl a
     (killed_is n rs d results)
 
-killed_by_is : (n : ℕ) (rs : List Reg) (d : Destroyed) (results : List Reg) → Among n (killed_by rs d results) →
+killed_by_is : (n : ℕ) (rs : List Reg) (d : Destroyed) (results : List Reg) → AmongRegisters n (killed_by rs d results) →
     IsKilled n rs d results
 killed_by_is n rs Nothing results a = elim a [ ]
 killed_by_is n rs Temporaries results a = killed_is n rs Temporaries results a
 killed_by_is n rs Everything results a = killed_is n rs Everything results a
 
-later_cond : (n : ℕ) (r : Reg) (rs : List Reg) (b : Bool) → Among n rs → Among n (cond b (r ∷ rs) rs)
+later_cond : (n : ℕ) (r : Reg) (rs : List Reg) (b : Bool) → AmongRegisters n rs → AmongRegisters n (cond b (r ∷ rs) rs)
 later_cond n r rs true a = later a
 later_cond n r rs false a = a
 
 killed_has : (r : Reg) (rs : List Reg) (d : Destroyed) (results : List Reg) → Contains rs r → is_destroyed d r.loc ≡ true →
-    is_at_one_of r.loc results ≡ false → Among r.number (killed_among rs d results)
+    is_at_one_of r.loc results ≡ false → AmongRegisters r.number (killed_among rs d results)
 killed_has r [] d results c e h = absurd (none_in r c)
 killed_has r (k ∷ rs) d results c e h =
     ⊎_elim
     (λ s.
-    subst (λ b. Among r.number (cond b (k ∷ killed_among rs d results) (killed_among rs d results)))
+    subst (λ b. AmongRegisters r.number (cond b (k ∷ killed_among rs d results) (killed_among rs d results)))
     (sym
     (both_so (is_destroyed d k.loc) (is_at_one_of k.loc results)
     (ap (λ (x : Reg). is_destroyed d x.loc) s ∙ e)
@@ -149,7 +149,7 @@ killed_has r (k ∷ rs) d results c e h =
     (in_cons k r rs c)
 
 killed_by_has : (r : Reg) (rs : List Reg) (d : Destroyed) (results : List Reg) → Contains rs r → is_destroyed d r.loc ≡ true →
-    is_at_one_of r.loc results ≡ false → Among r.number (killed_by rs d results)
+    is_at_one_of r.loc results ≡ false → AmongRegisters r.number (killed_by rs d results)
 killed_by_has r rs Nothing results c e h = absurd (both_ways false refl e)
 killed_by_has r rs Temporaries results c e h = killed_has r rs Temporaries results c e h
 killed_by_has r rs Everything results c e h = killed_has r rs Everything results c e h
@@ -160,9 +160,9 @@ killed_by_has r rs Everything results c e h = killed_has r rs Everything results
 pub colour_place : {m : Mach} → WellPlaced m → (r : Reg) → Contains m.colours r → (n : ℕ) × (r.loc ≡ loc.Machine n)
 colour_place {m} well r c =
     let l = mapped (λ (r : Reg). r.loc) m.colours r c in
-    let w = was loc.Machine colours r.loc (subst (λ ls. Contains ls r.loc) ((well.colours).each) l) in (w.what, sym w.same)
+    let w = was loc.Machine colour_numbers r.loc (subst (λ ls. Contains ls r.loc) ((well.colours).each) l) in (w.what, sym w.same)
 
-module _ (m : Mach) (place : Placing) (well : WellPlaced m) (is : IsPlacing m place) where
+module _ (m : Mach) (place : LocationAssignment) (well : WellPlaced m) (is : IsProperAssignment m place) where
   abbrev q : Mach
   q = with_places place m
 
@@ -176,13 +176,13 @@ module _ (m : Mach) (place : Placing) (well : WellPlaced m) (is : IsPlacing m pl
 
   -- ---- an operation destroys no more than it did
 
-  pub fewer_killed : {n : ℕ} {i : Instr} {next : List Instr} → Stands i next m.code → Among n (killed q (placed_instr place i)) →
-      Among n (killed m i)
+  pub fewer_killed : {n : ℕ} {i : Instr} {next : List Instr} → StandsAsInstr i next m.code → AmongRegisters n (killed q (placed_instr place i)) →
+      AmongRegisters n (killed m i)
   fewer_killed {n} {i} s a =
       let k = killed_by_is n (all_placed place m.colours) (destroyed_by i.op) (all_placed place i.results) a in
-      let w = was (placed place) m.colours k.reg k.among in
+      let w = was (located_register place) m.colours k.reg k.among in
       let same : (k.reg).loc ≡ (w.what).loc = sym (ap (λ (r : Reg). r.loc) w.same) ∙ colour_stays w.what w.among in
-      subst (λ n. Among n (killed m i)) (ap (λ (r : Reg). r.number) w.same ∙ k.number)
+      subst (λ n. AmongRegisters n (killed m i)) (ap (λ (r : Reg). r.number) w.same ∙ k.number)
       (killed_by_has w.what m.colours (destroyed_by i.op) i.results w.among
       (ap (is_destroyed (destroyed_by i.op)) (sym same) ∙ k.gone)
       (⊎_elim
@@ -191,24 +191,24 @@ module _ (m : Mach) (place : Placing) (well : WellPlaced m) (is : IsPlacing m pl
     where
       there : {w : Loc} (l : Loc) → l ≡ w → StandsAt w i.results → is_at_one_of l (all_placed place i.results) ≡ true
       there l same t =
-          in_one l (all_placed place i.results) (placed place t.reg) t.colour (mapped (placed place) i.results t.reg t.among)
+          in_one l (all_placed place i.results) (located_register place t.reg) t.colour (mapped (located_register place) i.results t.reg t.among)
           (same ∙ t.place)
           (machine_stays t.reg (is_in_code (results_in s t.among)) t.colour t.there)
 
   -- what is no longer destroyed is not live then
-  still_killed : {n : ℕ} {i : Instr} {next : List Instr} → Stands i next m.code → LiveAfter m n i next →
-      Among n (killed m i) → Writes q (placed_instr place i) n
+  still_killed : {n : ℕ} {i : Instr} {next : List Instr} → StandsAsInstr i next m.code → LiveAfter m n i next →
+      AmongRegisters n (killed m i) → Writes q (placed_instr place i) n
   still_killed {n} {i} {next} s v a = by (killed_by_is n m.colours (destroyed_by i.op) i.results a)
     where
       by_result : (k : IsKilled n m.colours (destroyed_by i.op) i.results) → StandsAt (place k.reg) (all_placed place i.results) →
           Writes q (placed_instr place i) n
       by_result k t =
-          let w = was (placed place) i.results t.reg t.among in
+          let w = was (located_register place) i.results t.reg t.among in
           let register = is_in_code (results_in s w.among) in
           ⊎_elim
           (λ e.
           left_among (all_placed place i.results) (killed q (placed_instr place i))
-          (subst (λ n. Among n (all_placed place i.results)) (eqb-true (w.what).number n e)
+          (subst (λ n. AmongRegisters n (all_placed place i.results)) (eqb-true (w.what).number n e)
           (among_there place i.results (among_of w.what i.results w.among))))
           (λ e.
           let joined : Joined m (w.what).number (k.reg).number =
@@ -231,20 +231,20 @@ module _ (m : Mach) (place : Placing) (well : WellPlaced m) (is : IsPlacing m pl
           ⊎_elim (λ e. by_result k (at_one (place k.reg) (all_placed place i.results) e))
           (λ e.
           right_among (all_placed place i.results) (killed q (placed_instr place i))
-          (subst (λ n. Among n (killed q (placed_instr place i))) k.number
-          (killed_by_has (placed place k.reg) (all_placed place m.colours) (destroyed_by i.op) (all_placed place i.results)
-          (mapped (placed place) m.colours k.reg k.among)
+          (subst (λ n. AmongRegisters n (killed q (placed_instr place i))) k.number
+          (killed_by_has (located_register place k.reg) (all_placed place m.colours) (destroyed_by i.op) (all_placed place i.results)
+          (mapped (located_register place) m.colours k.reg k.among)
           (ap (is_destroyed (destroyed_by i.op)) (colour_stays k.reg k.among) ∙ k.gone) e)))
           (cases_Bool (is_at_one_of (place k.reg) (all_placed place i.results)))
 
-  pub fewer_written : {n : ℕ} {i : Instr} {next : List Instr} → Stands i next m.code → Writes q (placed_instr place i) n →
+  pub fewer_written : {n : ℕ} {i : Instr} {next : List Instr} → StandsAsInstr i next m.code → Writes q (placed_instr place i) n →
       Writes m i n
   fewer_written {n} {i} s w =
       ⊎_elim (λ a. left_among i.results (killed m i) (among_back place i.results a))
       (λ a. right_among i.results (killed m i) (fewer_killed s a))
       (split_among n (all_placed place i.results) (killed q (placed_instr place i)) w)
 
-  pub still_written : {n : ℕ} {i : Instr} {next : List Instr} → Stands i next m.code → LiveAfter m n i next → Writes m i n →
+  pub still_written : {n : ℕ} {i : Instr} {next : List Instr} → StandsAsInstr i next m.code → LiveAfter m n i next → Writes m i n →
       Writes q (placed_instr place i) n
   still_written {n} {i} s v w =
       ⊎_elim
@@ -301,7 +301,7 @@ module _ (m : Mach) (place : Placing) (well : WellPlaced m) (is : IsPlacing m pl
 
   meets_back : {n k : ℕ} → Meets q n k → Meets m n k
   meets_back {n} {k} (at_write j ys s w v apart) =
-      let o = was_main (again place) m.code j ys (subst (Stands j ys) code_is s) in
+      let o = was_main (again place) m.code j ys (subst (StandsAsInstr j ys) code_is s) in
       at_write o.instr o.next o.stands (fewer_written o.stands (subst (λ (j : Instr). Writes q j n) (sym o.same) w))
       (after_back o.instr o.next (ending_of o.stands) o.same (as_expanded place o.next ∙ sym o.same_next) v)
       (λ move. apart (subst (IsMove k n) o.same (move_there move)))

@@ -9,8 +9,8 @@ use Rattle.bs_words.specs.declared.types.Loc.TheVariants as loc
 use Rattle.bs_words.proofs.Lists.{none_in, first_in, later_in, in_cons, mapped}
 use Rattle.mach_ir.specs.Formed.{WellFormed}
 use Rattle.mach_ir.specs.Keeps.{Keeps, IsLoose, is_open, is_slot, NamesSymbol, NamesExternal, IsNamedIn}
-use Rattle.mach_ir.specs.Placed.{IsPlaced, in_colour, in_slot, MayShare, WellPlaced, FullyPlaced}
-use Rattle.mach_ir.specs.Seats.{argument_places, result_places, Seats, Anywhere, InOrder, AfterFirst, AreSeated, anywhere, in_order, after_first, places_of, mach_operand_seats, mach_result_seats, Seated}
+use Rattle.mach_ir.specs.Placed.{HasColourOrSlot, in_colour, in_slot, MayShare, WellPlaced, FullyPlaced}
+use Rattle.mach_ir.specs.Seats.{argument_locations, result_locations, Seats, Anywhere, InOrder, AfterFirst, AreSeated, anywhere, in_order, after_first, places_of, mach_operand_seats, mach_result_seats, Seated}
 use Rattle.mach_ir.specs.Sizes.{operand_count, Size, HasSize, OpenAtMost}
 use Rattle.mach_ir.specs.Walks.{IsRegister, is_param, is_colour, is_in_code, InCode, in_args, in_results, further, Joined}
 use Rattle.mach_ir.specs.declared.op.Callee.TheVariants as callee
@@ -24,7 +24,7 @@ use Rattle.mach_ir.specs.declared.reg.Reg.{Reg}
 use Rattle.mach_ir.specs.declared.mach.Instr.{Instr}
 use Rattle.mach_ir.specs.declared.mach.Mach.{Mach}
 use Rattle.mach_laws.proofs.Places.{args_in_code, results_in_code}
-use Rattle.places_rules.specs.Places.{Placing, IsPlacing, placed, all_placed, placed_instr, placed_code, with_places, IsSlot, SlotsGrow}
+use Rattle.places_rules.specs.Places.{LocationAssignment, IsProperAssignment, located_register, all_placed, placed_instr, placed_code, with_places, IsSlot, SlotsGrow}
 use Rattle.places_rules.proofs.Kept.{does_placed}
 use Rattle.places_rules.proofs.Lists.{was}
 use Rattle.places_rules.proofs.Text.{was_register}
@@ -39,10 +39,10 @@ pub data AreRegisters : List Loc → Type 0 where
   none : AreRegisters []
   one : {n : ℕ} {ls : List Loc} → AreRegisters ls → AreRegisters (loc.Machine n ∷ ls)
 
-result_registers : AreRegisters result_places
+result_registers : AreRegisters result_locations
 result_registers = one none
 
-argument_registers : AreRegisters argument_places
+argument_registers : AreRegisters argument_locations
 argument_registers = one (one (one (one (one (one (one (one (one (one (one (one (one (one (one (one none)))))))))))))))
 
 pub data FixedSeats : Seats → Type 0 where
@@ -79,17 +79,17 @@ head_fixed (one {n = n} h) = (n, refl)
 
 -- ---- whole
 
-module _ (m : Mach) (place : Placing) where
+module _ (m : Mach) (place : LocationAssignment) where
   abbrev q : Mach
   q = with_places place m
 
-  number_same : (w : Reg) {r : Reg} → placed place w ≡ r → w.number ≡ r.number
+  number_same : (w : Reg) {r : Reg} → located_register place w ≡ r → w.number ≡ r.number
   number_same w e = ap (λ (r : Reg). r.number) e
 
-  origin_same : (w : Reg) {r : Reg} → placed place w ≡ r → w.origin ≡ r.origin
+  origin_same : (w : Reg) {r : Reg} → located_register place w ≡ r → w.origin ≡ r.origin
   origin_same w e = ap (λ (r : Reg). r.origin) e
 
-  loc_same : (w : Reg) {r : Reg} → placed place w ≡ r → place w ≡ r.loc
+  loc_same : (w : Reg) {r : Reg} → located_register place w ≡ r → place w ≡ r.loc
   loc_same w e = ap (λ (r : Reg). r.loc) e
 
   -- ---- measures
@@ -98,8 +98,8 @@ module _ (m : Mach) (place : Placing) where
   same_count [] = refl
   same_count (i ∷ is) =
       ap (λ n. n + length (all_placed place i.results) + operand_count (placed_code place is))
-      (length-map i.args (placed place))
-      ∙ ap (λ n. length i.args + n + operand_count (placed_code place is)) (length-map i.results (placed place))
+      (length-map i.args (located_register place))
+      ∙ ap (λ n. length i.args + n + operand_count (placed_code place is)) (length-map i.results (located_register place))
       ∙ ap (λ n. length i.args + length i.results + n) (same_count is)
 
   -- It is as large as it was, wherever its registers are.
@@ -117,10 +117,10 @@ module _ (m : Mach) (place : Placing) where
         labels = h.labels;
       }
 
-  module _ (formed : WellFormed m) (well : WellPlaced m) (is : IsPlacing m place) where
+  module _ (formed : WellFormed m) (well : WellPlaced m) (is : IsProperAssignment m place) where
     -- ---- it keeps
 
-    was_loose : (w r : Reg) → IsRegister m w → placed place w ≡ r → IsLoose r → IsLoose w
+    was_loose : (w r : Reg) → IsRegister m w → located_register place w ≡ r → IsLoose r → IsLoose w
     was_loose w r i e h = ⊎_elim is_open (λ s. by s h) (is.fixed w i)
       where
         by : place w ≡ w.loc → IsLoose r → IsLoose w
@@ -131,7 +131,7 @@ module _ (m : Mach) (place : Placing) where
     slot_of : (w : Reg) (k : ℕ) → IsRegister m w → place w ≡ loc.Slot k → k ≡ w.origin
     slot_of w k i e = ⊎_elim (λ o. absurd (slot_open e o)) by (is.places w i)
       where
-        by : IsPlaced (placed place w) → k ≡ w.origin
+        by : HasColourOrSlot (located_register place w) → k ≡ w.origin
         by (in_colour n c h) = absurd (machine_slot h e)
         by (in_slot h) = same_slot e h
 
@@ -169,10 +169,10 @@ module _ (m : Mach) (place : Placing) where
 
     -- ---- each has a place
 
-    open_or_placed : (r : Reg) → IsRegister q r → (r.loc ≡ loc.Unset) ⊎ IsPlaced r
+    open_or_placed : (r : Reg) → IsRegister q r → (r.loc ≡ loc.Unset) ⊎ HasColourOrSlot r
     open_or_placed r i =
         let w = was_register place m r i in
-        ⊎_elim (λ o. inl (sym (loc_same w.register w.same) ∙ o)) (λ p. inr (subst IsPlaced w.same p)) (is.places w.register w.among)
+        ⊎_elim (λ o. inl (sym (loc_same w.register w.same) ∙ o)) (λ p. inr (subst HasColourOrSlot w.same p)) (is.places w.register w.among)
 
     same_colours : (rs : List Reg) → ((r : Reg) → Contains rs r → place r ≡ r.loc) →
         map (λ (r : Reg). r.loc) (all_placed place rs) ≡ map (λ (r : Reg). r.loc) rs
@@ -190,7 +190,7 @@ module _ (m : Mach) (place : Placing) where
         subst (λ a. Joined m a (v.register).number) (sym (number_same w.register w.same))
         (subst (λ b. Joined m r.number b) (sym (number_same v.register v.same)) (joined_before m place well is joined)) in
         subst (λ r. MayShare r k) w.same
-        (subst (λ k. MayShare (placed place w.register) k) v.same
+        (subst (λ k. MayShare (located_register place w.register) k) v.same
         (is.apart w.register v.register w.among v.among before (λ o. fixed_one (sym (loc_same w.register w.same) ∙ o))
         (loc_same w.register w.same ∙ e ∙ sym (loc_same v.register v.same))))
 
@@ -203,7 +203,7 @@ module _ (m : Mach) (place : Placing) where
           colours = record {
             each = same_colours m.colours (colour_stays m place well is) ∙ (well.colours).each;
             least = λ r k c i e.
-                let w = was (placed place) m.colours r c in
+                let w = was (located_register place) m.colours r c in
                 let v = was_register place m k i in
                 subst (λ n. r.number ≤ n) (number_same v.register v.same)
                 (subst (λ n. n ≤ (v.register).number) (number_same w.what w.same)
@@ -214,13 +214,13 @@ module _ (m : Mach) (place : Placing) where
         }
 
     -- Then each register has a place, where none is left open.
-    pub placed_fully : ((r : Reg) → IsRegister m r → IsPlaced (placed place r)) →
+    pub placed_fully : ((r : Reg) → IsRegister m r → HasColourOrSlot (located_register place r)) →
         ((r k : Reg) → Contains m.colours r → IsRegister m k → place k ≡ r.loc → r.number ≤ k.number) →
         FullyPlaced (with_places place m)
     placed_fully all least =
         record {
           well = placed_well least;
-          places = λ r i. let w = was_register place m r i in subst IsPlaced w.same (all w.register w.among);
+          places = λ r i. let w = was_register place m r i in subst HasColourOrSlot w.same (all w.register w.among);
         }
 
     -- ---- seats
@@ -248,7 +248,7 @@ module _ (m : Mach) (place : Placing) where
     pub placed_seated : Seated m → Seated (with_places place m)
     placed_seated seated =
         record {
-          params = still_seated (InOrder argument_places) m.params (λ r c. is_param c) (fixed_in_order argument_registers) seated.params;
+          params = still_seated (InOrder argument_locations) m.params (λ r c. is_param c) (fixed_in_order argument_registers) seated.params;
           operands = λ i c.
               let w = was (placed_instr place) m.code i c in
               subst (λ (i : Instr). AreSeated (mach_operand_seats i.op) (places_of i.args)) w.same
@@ -335,7 +335,7 @@ module _ (m : Mach) (well : WellFormed m) where
           (found_in_code m.code r.number r.origin 0 (λ k c. one k (is_in_code c)) c refl))
 
   -- There are at most as many new slots as there were registers with open places.
-  pub placed_slots : (place : Placing) → IsPlacing m place → (k : ℕ) → OpenAtMost m k → SlotsGrow m (with_places place m) k
+  pub placed_slots : (place : LocationAssignment) → IsProperAssignment m place → (k : ℕ) → OpenAtMost m k → SlotsGrow m (with_places place m) k
   placed_slots place is k few =
       record {
         others = map (origin_of m) few.numbers;
@@ -346,12 +346,12 @@ module _ (m : Mach) (well : WellFormed m) where
             (is.places w.register w.among);
       }
     where
-      of_origin : (w : Reg) (slot : ℕ) → place w ≡ loc.Slot slot → IsPlaced (placed place w) → w.origin ≡ slot
+      of_origin : (w : Reg) (slot : ℕ) → place w ≡ loc.Slot slot → HasColourOrSlot (located_register place w) → w.origin ≡ slot
       of_origin w slot e (in_colour n c h) = absurd (machine_slot h e)
       of_origin w slot e (in_slot h) = same_slot h e
 
       by : (w : Reg) (slot : ℕ) → IsRegister m w → place w ≡ loc.Slot slot → (w.loc ≡ loc.Unset) ⊎ (place w ≡ w.loc) →
-          (place w ≡ loc.Unset) ⊎ IsPlaced (placed place w) → IsSlot m slot ⊎ Contains (map (origin_of m) few.numbers) slot
+          (place w ≡ loc.Unset) ⊎ HasColourOrSlot (located_register place w) → IsSlot m slot ⊎ Contains (map (origin_of m) few.numbers) slot
       by w slot i e (inl o) p =
           inr
           (subst (Contains (map (origin_of m) few.numbers))

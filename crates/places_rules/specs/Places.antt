@@ -2,7 +2,7 @@
 use Rattle.std.specs.Prelude.{◌≡◌, ◌≢◌, ◌⊎◌, ℕ, ◌<◌, ◌≤◌, List, length, map, Contains}
 use Rattle.bs_words.specs.declared.types.Loc.{Loc}
 use Rattle.bs_words.specs.declared.types.Loc.TheVariants as loc
-use Rattle.mach_ir.specs.Placed.{IsPlaced, MayShare, Colouring}
+use Rattle.mach_ir.specs.Placed.{HasColourOrSlot, MayShare, Colouring}
 use Rattle.mach_ir.specs.Walks.{IsRegister, Joined}
 use Rattle.mach_ir.specs.declared.reg.Reg.{Reg}
 use Rattle.mach_ir.specs.declared.mach.Instr.{Instr}
@@ -11,24 +11,24 @@ use Rattle.mach_ir.specs.declared.mach.Mach.{Mach}
 -- ---- registers at chosen places
 
 -- a place for each register
-abbrev pub Placing : Type 0
-Placing = Reg → Loc
+abbrev pub LocationAssignment : Type 0
+LocationAssignment = Reg → Loc
 
-abbrev pub placed : Placing → Reg → Reg
-placed place r = record r { loc = place r }
+abbrev pub located_register : LocationAssignment → Reg → Reg
+located_register place r = record r { loc = place r }
 
-abbrev pub all_placed : Placing → List Reg → List Reg
-all_placed place rs = map (placed place) rs
+abbrev pub all_placed : LocationAssignment → List Reg → List Reg
+all_placed place rs = map (located_register place) rs
 
-abbrev pub placed_instr : Placing → Instr → Instr
+abbrev pub placed_instr : LocationAssignment → Instr → Instr
 placed_instr place i =
     record i { args = all_placed place i.args; results = all_placed place i.results }
 
-abbrev pub placed_code : Placing → List Instr → List Instr
+abbrev pub placed_code : LocationAssignment → List Instr → List Instr
 placed_code place code = map (placed_instr place) code
 
 -- Each register is where it is placed. All else is as it was.
-abbrev pub with_places : Placing → Mach → Mach
+abbrev pub with_places : LocationAssignment → Mach → Mach
 with_places place m =
     record m {
       params = all_placed place m.params;
@@ -38,11 +38,11 @@ with_places place m =
 
 -- Fixed places stay, each place is a colour or the slot of the origin, or stays open, and joined
 -- registers that have places are apart.
-pub record IsPlacing (m : Mach) (place : Placing) : Type 0 where
+pub record IsProperAssignment (m : Mach) (place : LocationAssignment) : Type 0 where
   pub fixed : (r : Reg) → IsRegister m r → (r.loc ≡ loc.Unset) ⊎ (place r ≡ r.loc)
-  pub places : (r : Reg) → IsRegister m r → (place r ≡ loc.Unset) ⊎ IsPlaced (placed place r)
+  pub places : (r : Reg) → IsRegister m r → (place r ≡ loc.Unset) ⊎ HasColourOrSlot (located_register place r)
   pub apart : (r q : Reg) → IsRegister m r → IsRegister m q → Joined m r.number q.number →
-      place r ≢ loc.Unset → place r ≡ place q → MayShare (placed place r) (placed place q)
+      place r ≢ loc.Unset → place r ≡ place q → MayShare (located_register place r) (located_register place q)
 
 -- The registers of the colours have lower numbers than those whose places are open: so none of these
 -- becomes the register of least number at a colour.
@@ -53,8 +53,8 @@ ColoursLow m =
 -- ---- colourings
 
 -- each register at the place that the colouring has for its number
-abbrev pub recoloured : Colouring → Mach → Mach
-recoloured place m = with_places (λ r. place r.number) m
+abbrev pub with_colouring : Colouring → Mach → Mach
+with_colouring place m = with_places (λ r. place r.number) m
 
 -- ---- the last resort
 
@@ -65,7 +65,7 @@ or_slot slot (loc.Machine n) = loc.Machine n
 or_slot slot (loc.Slot k) = loc.Slot k
 
 -- the slot that has the number of the register's origin, where the place is open
-abbrev pub last_resort : Placing
+abbrev pub last_resort : LocationAssignment
 last_resort r = or_slot r.origin r.loc
 
 -- Each register whose place is open goes to the slot that has its origin's number.

@@ -9,7 +9,7 @@ use Rattle.mach_ir.specs.Walks.{NoAddrLive}
 use Rattle.mach_ir.specs.declared.mach.Mach.{Mach}
 use Rattle.places_rules.specs.Places.{SlotsGrow}
 
-pub record IsKept (p q : Mach) : Type 0 where
+pub record IsRestKept (p q : Mach) : Type 0 where
   -- it does what the first does
   pub keeps : Keeps p q
   pub formed : WellFormed q

@@ -10,19 +10,19 @@
 #![tactic(auto)]
 
 ghost use Rattle.mach_ir.specs.Formed.{WellFormed};
-ghost use Rattle.mach_ir.specs.Placed.{WellPlaced, Colouring, IsColouring};
+ghost use Rattle.mach_ir.specs.Placed.{WellPlaced, Colouring, IsProperColouring};
 ghost use Rattle.mach_ir.specs.Walks.{IsRegister, Joined};
 ghost use Rattle.mach_ir.specs.declared.mach.Mach.{Mach};
-ghost use Rattle.places_rules.specs.Places.{ColoursLow, recoloured, rest_in_slots};
-ghost use Rattle.places_rules.specs.Rest.{IsKept};
+ghost use Rattle.places_rules.specs.Places.{ColoursLow, with_colouring, rest_in_slots};
+ghost use Rattle.places_rules.specs.Rest.{IsRestKept};
 
 /// Law: a function whose open registers go to the slots of their origins is kept.
 pub fn the_rest_is_kept()
-    ensures { (m : Mach) → WellFormed m → WellPlaced m → IsKept m (rest_in_slots m) }
+    ensures { (m : Mach) → WellFormed m → WellPlaced m → IsRestKept m (rest_in_slots m) }
 {}
 
 /// Law: so is one whose registers are where a colouring has them.
 pub fn a_colouring_is_kept()
     ensures { (m : Mach) (place : Colouring) → WellFormed m → WellPlaced m → ColoursLow m →
-        IsColouring (IsRegister m) (Joined m) place → IsKept m (recoloured place m) }
+        IsProperColouring (IsRegister m) (Joined m) place → IsRestKept m (with_colouring place m) }
 {}

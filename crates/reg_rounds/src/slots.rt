@@ -1,6 +1,6 @@
 //! The last resort: registers whose places are open go to slots.
 ghost use Rattle.std.specs.Prelude.{◌≡◌, IfOk};
-ghost use Rattle.places_rules.specs.Places.{placed, all_placed, placed_instr, placed_code, last_resort, rest_in_slots};
+ghost use Rattle.places_rules.specs.Places.{located_register, all_placed, placed_instr, placed_code, last_resort, rest_in_slots};
 
 use bs_words::Loc;
 use mach_ir::{Instr, Mach, Reg, Seq};
@@ -8,7 +8,7 @@ use std::alloc::{AllocError, Global};
 
 /// The register in the slot that has its origin's number, where its place is open, and else as it is.
 fn rest_register(reg: Reg) -> Reg
-    ensures { result ≡ placed last_resort reg }
+    ensures { result ≡ located_register last_resort reg }
 {
     match reg.loc {
         Loc::Unset => Reg {

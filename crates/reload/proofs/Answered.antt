@@ -5,13 +5,13 @@ use Rattle.mach_ir.specs.Walks.{IsRegister}
 use Rattle.mach_ir.specs.declared.reg.Reg.{Reg}
 use Rattle.mach_ir.specs.declared.mach.Instr.{Instr}
 use Rattle.mach_ir.specs.declared.mach.Mach.{Mach}
-use Rattle.places_rules.specs.Places.{Placing, placed, all_placed, placed_instr, placed_code, with_places, recoloured}
+use Rattle.places_rules.specs.Places.{LocationAssignment, located_register, all_placed, placed_instr, placed_code, with_places, with_colouring}
 use Rattle.reload_rules.specs.Reloaded.{any_needs, reloaded_code, reloaded, to_slots, in_slots, IsReloadedBy, is_coloured, asks_again}
 
-module _ (place : Colouring) (first : Placing) where
+module _ (place : Colouring) (first : LocationAssignment) where
   regs_twice : (rs : List Reg) → all_placed (λ (r : Reg). place r.number) (all_placed first rs) ≡ all_placed (λ (r : Reg). place r.number) rs
   regs_twice [] = refl
-  regs_twice (r ∷ rs) = ap (λ xs. placed (λ (r : Reg). place r.number) r ∷ xs) (regs_twice rs)
+  regs_twice (r ∷ rs) = ap (λ xs. located_register (λ (r : Reg). place r.number) r ∷ xs) (regs_twice rs)
 
   code_twice : (code : List Instr) →
       placed_code (λ (r : Reg). place r.number) (placed_code first code) ≡ placed_code (λ (r : Reg). place r.number) code
@@ -27,7 +27,7 @@ module _ (place : Colouring) (first : Placing) where
       (regs_twice i.results)
       ∙ ap (λ xs. placed_instr (λ (r : Reg). place r.number) i ∷ xs) (code_twice is)
 
-  coloured_twice : (m : Mach) → recoloured place (with_places first m) ≡ recoloured place m
+  coloured_twice : (m : Mach) → with_colouring place (with_places first m) ≡ with_colouring place m
   coloured_twice m =
       ap
       (λ rs. record m {
@@ -52,10 +52,10 @@ module _ (place : Colouring) (first : Placing) where
       (code_twice m.code)
 
 pub answers_coloured : (m slotted coloured : Mach) (place : Colouring) (needs : Bool) → slotted ≡ in_slots place m →
-    needs ≡ any_needs slotted.code → needs ≡ false → coloured ≡ recoloured place slotted → IsReloadedBy m place coloured false
+    needs ≡ any_needs slotted.code → needs ≡ false → coloured ≡ with_colouring place slotted → IsReloadedBy m place coloured false
 answers_coloured m slotted coloured place needs is count none e =
     subst (λ q. IsReloadedBy m place q false)
-    (sym (e ∙ ap (recoloured place) is ∙ coloured_twice place (to_slots place) m))
+    (sym (e ∙ ap (with_colouring place) is ∙ coloured_twice place (to_slots place) m))
     (is_coloured (sym (ap (λ (x : Mach). any_needs x.code) is) ∙ sym count ∙ none))
 
 pub answers_reloaded : (m slotted : Mach) (place : Colouring) (needs : Bool) (free : ℕ) (code : List Instr) → slotted ≡ in_slots place m →

@@ -12,7 +12,7 @@ use Rattle.places_rules.specs.Places.{placed_code}
 use Rattle.reload_rules.proofs.Copies.{few_past, placed_others}
 use Rattle.reload_rules.proofs.Numbers.{after_true, past_rises}
 use Rattle.reload_rules.specs.Kept.{with_copies}
-use Rattle.reload_rules.specs.Reloaded.{writes_registers, reads_registers, is_renewed, number_after, number_past, results_from, past_instr, reloaded_instr, reloaded_code, to_slots, in_slots}
+use Rattle.reload_rules.specs.Reloaded.{writes_registers, reads_registers, is_renewed, next_reload_number, number_past, results_from, past_instr, reloaded_instr, reloaded_code, to_slots, in_slots}
 
 -- from the first on
 pub first_fits : (m slotted : Mach) (place : Colouring) (free : ℕ) → slotted ≡ in_slots place m → HasRoom (with_copies (other_operands m.code)) m →
@@ -54,7 +54,7 @@ next_fits b n from regs k d lt renew same most =
     let r : Reg = get_or regs k d in
     let here : number_past b n (drop k regs) ≡ number_past b n (r ∷ drop (k + 1) regs) = ap (number_past b n) (drop_more regs k d lt) in
     let after = after_true b n r renew in
-    let rises = past_rises b (number_after b n r) (drop (k + 1) regs) in
+    let rises = past_rises b (next_reload_number b n r) (drop (k + 1) regs) in
     omega (arith, here, after, rises, same, most)
 
 -- past the operands of an instruction

@@ -1,7 +1,7 @@
 //! Registers put where a colouring has them.
 ghost use Rattle.std.specs.Prelude.{◌≡◌, IfOk};
-ghost use Rattle.mach_ir.specs.Graph.{place_in};
-ghost use Rattle.places_rules.specs.Places.{placed, all_placed, placed_instr, placed_code, with_places};
+ghost use Rattle.mach_ir.specs.Graph.{coloured_location};
+ghost use Rattle.places_rules.specs.Places.{located_register, all_placed, placed_instr, placed_code, with_places};
 ghost use Rattle.reload_rules.specs.Reloaded.{slot_or};
 ghost use Rattle.reload.specs.Putting.{placing};
 
@@ -20,7 +20,7 @@ pub(crate) enum Putting {
 
 /// The place of the register with this number.
 fn place_of(colours: &Colours, number: u32) -> Loc
-    ensures { result ≡ place_in colours.now number }
+    ensures { result ≡ coloured_location colours.now number }
 {
     colours
         .places
@@ -42,7 +42,7 @@ fn slot_or(own: Loc, place: Loc) -> Loc
 
 /// The register at its place.
 fn put(putting: Putting, colours: &Colours, reg: Reg) -> Reg
-    ensures { result ≡ placed (placing putting (place_in colours.now)) reg }
+    ensures { result ≡ located_register (placing putting (coloured_location colours.now)) reg }
 {
     let place = place_of(colours, reg.number);
     let loc = match putting {
@@ -54,7 +54,7 @@ fn put(putting: Putting, colours: &Colours, reg: Reg) -> Reg
 
 /// The same of each of these registers.
 fn put_each(putting: Putting, colours: &Colours, regs: &mut [Reg])
-    ensures { regs.new ≡ all_placed (placing putting (place_in colours.now)) regs.old }
+    ensures { regs.new ≡ all_placed (placing putting (coloured_location colours.now)) regs.old }
 {
     for reg in regs.iter_mut() {
         *reg = put(putting, colours, *reg);
@@ -63,7 +63,7 @@ fn put_each(putting: Putting, colours: &Colours, regs: &mut [Reg])
 
 /// The same of registers, in their order. It takes no memory.
 fn put_registers(putting: Putting, colours: &Colours, regs: Seq<Reg>) -> Seq<Reg>
-    ensures { result ≡ all_placed (placing putting (place_in colours.now)) regs }
+    ensures { result ≡ all_placed (placing putting (coloured_location colours.now)) regs }
 {
     let mut items = regs.into_vec();
     put_each(putting, colours, items.as_mut_slice());
@@ -72,7 +72,7 @@ fn put_registers(putting: Putting, colours: &Colours, regs: Seq<Reg>) -> Seq<Reg
 
 /// The same of the operands and results of an instruction. It takes no memory.
 fn put_instr(putting: Putting, colours: &Colours, instr: Instr) -> Instr
-    ensures { result ≡ placed_instr (placing putting (place_in colours.now)) instr }
+    ensures { result ≡ placed_instr (placing putting (coloured_location colours.now)) instr }
 {
     let Instr { op, args, results } = instr;
     Instr {
@@ -90,7 +90,7 @@ fn put_code(
     code: Seq<Instr>,
 ) -> Result<Seq<Instr>, AllocError>
     ensures { IfOk result (λ done.
-        done ≡ placed_code (placing putting (place_in colours.now)) code) }
+        done ≡ placed_code (placing putting (coloured_location colours.now)) code) }
 {
     let mut done = Vec::with_capacity(alloc, code.len())?;
     for instr in code.into_vec() {
@@ -109,7 +109,7 @@ pub(crate) fn put_all(
     mach: Mach,
 ) -> Result<Mach, AllocError>
     ensures { IfOk result (λ done.
-        done ≡ with_places (placing putting (place_in colours.now)) mach) }
+        done ≡ with_places (placing putting (coloured_location colours.now)) mach) }
 {
     let Mach {
         name,

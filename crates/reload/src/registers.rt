@@ -2,7 +2,7 @@
 ghost use Rattle.std.specs.Prelude.{◌≡◌, ◌<◌, ◌++◌, IfOk};
 ghost use Rattle.mach_ir.specs.Sizes.{number_limit};
 ghost use Rattle.reload_rules.specs.Reloaded.{is_copy, reads_registers, writes_registers, is_in_slot, is_renewed};
-ghost use Rattle.reload_rules.specs.Reloaded.{fresh, number_past, renewed, reloads, spills, any_renewed};
+ghost use Rattle.reload_rules.specs.Reloaded.{fresh_stand_in, number_past, renewed, reloads, spills, any_renewed};
 
 use bs_words::Loc;
 use mach_ir::{CopyKind, Instr, MachOp, Mark, Op, Pure, Reg};
@@ -97,7 +97,7 @@ pub(crate) fn any_renewed(registers: bool, regs: &[Reg]) -> bool
 }
 
 fn fresh(number: u32, reg: Reg) -> Reg
-    ensures { result ≡ fresh number reg }
+    ensures { result ≡ fresh_stand_in number reg }
 {
     Reg {
         number,

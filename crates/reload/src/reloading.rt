@@ -1,8 +1,8 @@
 //! The function with its reloads and spills.
 ghost use Rattle.std.specs.Prelude.{◌≡◌, ◌+◌, ◌<◌, ◌++◌, IfOk};
 ghost use Rattle.mach_ir.specs.Formed.{WellFormed};
-ghost use Rattle.mach_ir.specs.Graph.{place_in};
-ghost use Rattle.mach_ir.specs.Placed.{IsColouring};
+ghost use Rattle.mach_ir.specs.Graph.{coloured_location};
+ghost use Rattle.mach_ir.specs.Placed.{IsProperColouring};
 ghost use Rattle.mach_ir.specs.Sizes.{HasRoom, number_limit};
 ghost use Rattle.mach_ir.specs.Walks.{IsRegister, Joined};
 ghost use Rattle.mach_ir.specs.declared.mach.Mach.{Mach};
@@ -84,9 +84,9 @@ fn reloaded_code(alloc: Global, free: u32, code: Seq<Instr>) -> Result<Seq<Instr
 /// The time is linear in the function. The only error is want of memory.
 pub fn reload(alloc: Global, mach: Mach, colours: &Colours) -> Result<(Mach, bool), AllocError>
     requires formed { WellFormed mach }
-    requires colouring { IsColouring (IsRegister mach) (Joined mach) (place_in colours.now) }
+    requires colouring { IsProperColouring (IsRegister mach) (Joined mach) (coloured_location colours.now) }
     requires room { HasRoom (with_copies (other_operands mach.code)) mach }
-    ensures { IfOk result (λ made. IsReloadedBy mach (place_in colours.now) made.0 made.1) }
+    ensures { IfOk result (λ made. IsReloadedBy mach (coloured_location colours.now) made.0 made.1) }
 {
     let free = first_free(&mach);
     let slotted = put_all(alloc, Putting::IntoSlots, colours, mach)?;

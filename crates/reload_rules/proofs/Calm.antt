@@ -15,7 +15,7 @@ use Rattle.cmm_meaning.specs.Evaluation.{bound_error}
 use Rattle.cmm_meaning.specs.State.{Doing, Gave, Threw, Callee, Inside}
 use Rattle.mach_ir.specs.Acts as acts
 use Rattle.cmm_meaning.specs.Setting.{Setting}
-use Rattle.mach_ir.specs.Acts.{Around, Target, On, At, AtLabel, AtHandler, Act, Goes, Pushes, Jumps, Unwinds, Asks, Replaces, Ends, EndsRaising, Stuck, only_if}
+use Rattle.mach_ir.specs.Acts.{Around, Target, On, At, AtLabel, AtHandler, Act, Goes, Pushes, Jumps, Unwinds, Asks, Replaces, Ends, EndsRaising, Stuck, stuck_unless}
 use Rattle.mach_ir.specs.Meaning.{mark_act, mach_act}
 use Rattle.mach_ir.specs.declared.op.Right.TheVariants as right
 use Rattle.mach_ir.specs.declared.op.Pure.{Pure}
@@ -53,7 +53,7 @@ pub data Calm : Act → Type 0 where
   calm_raise : {d : Doing} → Calm (EndsRaising d)
   calm_stuck : Calm Stuck
 
-only_calm : (b : Bool) (act : Act) → Calm act → Calm (only_if b act)
+only_calm : (b : Bool) (act : Act) → Calm act → Calm (stuck_unless b act)
 only_calm true act w = w
 only_calm false act w = calm_stuck
 
@@ -145,12 +145,12 @@ raised_calm v a [] = calm_raise
 raised_calm v a (l ∷ tries) = calm_handler
 
 answered_calm : (end : ℕ) (result : Ret) (v : Option Value) (go : Option Value → Act) →
-    ((v : Option Value) → Calm (go v)) → Calm (acts.answered end result v go)
+    ((v : Option Value) → Calm (go v)) → Calm (acts.call_answered end result v go)
 answered_calm end ret.Unit v go w = w None
 answered_calm end (ret.Comp t) (Some v) go w = only_calm _ _ (w (Some v))
 answered_calm end (ret.Comp t) None go w = calm_stuck
 
-call_calm : (c : Setting) (result : Ret) (a : Around) → IsCalm a → (d : Doing) → Calm (acts.after_call c result a d)
+call_calm : (c : Setting) (result : Ret) (a : Around) → IsCalm a → (d : Doing) → Calm (acts.act_after_call c result a d)
 call_calm c result a e (Gave v m) = answered_calm c.end result v _ (λ v. calm_go e)
 call_calm c result a e (Threw v m) = only_calm _ _ (thrown_calm v m a a.tries)
 
@@ -179,7 +179,7 @@ module _ (c : Setting) (a : Around) (call : Callee → List Value → Act)
 
 calling_calm : (c : Setting) (f : Calling) (vs : List Value) (a : Around) → IsCalm a → Calm (acts.calling_act c f vs a)
 calling_calm c (calling.Call whom result) vs a e =
-    callee_calm c a (λ f xs. Asks f xs (acts.after_call c result a)) (λ f xs. calm_ask (call_calm c result a e)) whom vs
+    callee_calm c a (λ f xs. Asks f xs (acts.act_after_call c result a)) (λ f xs. calm_ask (call_calm c result a e)) whom vs
 calling_calm c (calling.TailCall whom result) vs a e =
     callee_calm c a (λ f xs. Replaces f xs result) (λ f xs. calm_replace) whom vs
 calling_calm c (calling.External row frame) vs a e =
@@ -187,7 +187,7 @@ calling_calm c (calling.External row frame) vs a e =
 
 -- ---- leaving
 
-raises_calm : (c : Setting) (v : Value) (a : Around) → Calm (acts.raises c v a)
+raises_calm : (c : Setting) (v : Value) (a : Around) → Calm (acts.raise_act c v a)
 raises_calm c v a = only_calm _ _ (raised_calm v a a.tries)
 
 checked_calm : (c : Setting) (x y : Result ℕ Kind) (a : Around) → IsCalm a → Calm (acts.checked c x y a)
@@ -212,7 +212,7 @@ leaving_calm c leaving.Return (v ∷ w ∷ vs) a e = calm_stuck
 
 -- ---- marks
 
-branches_calm : (t : Test) (l : ℕ) (a : Around) (o : Option Bool) → IsCalm a → Calm (acts.branches a On (At l) o)
+branches_calm : (t : Test) (l : ℕ) (a : Around) (o : Option Bool) → IsCalm a → Calm (acts.goes_by_test a On (At l) o)
 branches_calm t l a (Some b) e = calm_go e
 branches_calm t l a None e = calm_stuck
 

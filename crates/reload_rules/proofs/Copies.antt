@@ -13,9 +13,9 @@ use Rattle.mach_ir.specs.declared.mach.Instr.{Instr}
 use Rattle.mach_laws.specs.Expand.{expand}
 use Rattle.mach_laws.proofs.Grows.{held, operands_append}
 use Rattle.pass_rules.specs.Measures.{operands_with, other_operands}
-use Rattle.places_rules.specs.Places.{Placing, placed, all_placed, placed_code}
-use Rattle.spill_rules.specs.Spilled.{copied}
-use Rattle.reload_rules.specs.Reloaded.{reads_registers, writes_registers, is_renewed, fresh, number_after, number_past, renewed, reloads, spills, results_from, past_instr, renewed_instr, reloaded_instr}
+use Rattle.places_rules.specs.Places.{LocationAssignment, located_register, all_placed, placed_code}
+use Rattle.spill_rules.specs.Spilled.{copy_instruction}
+use Rattle.reload_rules.specs.Reloaded.{reads_registers, writes_registers, is_renewed, fresh_stand_in, next_reload_number, number_past, renewed, reloads, spills, results_from, past_instr, renewed_instr, reloaded_instr}
 use Rattle.reload_rules.proofs.Numbers.{after_few}
 use Rattle.reload_rules.proofs.Text.{laid_instr}
 
@@ -31,21 +31,21 @@ most_then true r rs = omega arith
 most_then false r rs = omega arith
 
 -- a register that is not renewed leaves no trace
-after_most : (b : Bool) (n : ℕ) (r : Reg) → number_after b n r ≤ n + cond b 1 0
+after_most : (b : Bool) (n : ℕ) (r : Reg) → next_reload_number b n r ≤ n + cond b 1 0
 after_most true n r = let x = after_few true n r in omega (arith, x)
 after_most false n r = omega arith
 
 pub past_most : (b : Bool) (n : ℕ) (rs : List Reg) → number_past b n rs ≤ n + most b rs
 past_most b n [] = omega arith
 past_most b n (r ∷ rs) =
-    let x = past_most b (number_after b n r) rs in
+    let x = past_most b (next_reload_number b n r) rs in
     let y = after_most b n r in
     let z = most_then b r rs in
     omega (arith, x, y, z)
 
 pub same_length : (b : Bool) (n : ℕ) (rs : List Reg) → length (renewed b n rs) ≡ length rs
 same_length b n [] = refl
-same_length b n (r ∷ rs) = ap suc (same_length b (number_after b n r) rs)
+same_length b n (r ∷ rs) = ap suc (same_length b (next_reload_number b n r) rs)
 
 few_reloads : (b : Bool) (n : ℕ) (rs : List Reg) → (length (reloads b n rs) ≤ most b rs) × (operand_count (reloads b n rs) ≤ 2 * most b rs)
 few_reloads false n [] = (omega arith, omega arith)
@@ -55,8 +55,8 @@ few_reloads true n (r ∷ rs) = by (is_renewed true r) (few_reloads true (suc n)
   where
     by : (t : Bool) → (length (reloads true (suc n) rs) ≤ length rs) × (operand_count (reloads true (suc n) rs) ≤ 2 * length rs) →
         (length (reloads true n rs) ≤ length rs) × (operand_count (reloads true n rs) ≤ 2 * length rs) →
-        (length (cond t (copied copy.Reload r (fresh n r) ∷ reloads true (suc n) rs) (reloads true n rs)) ≤ length (r ∷ rs))
-        × (operand_count (cond t (copied copy.Reload r (fresh n r) ∷ reloads true (suc n) rs) (reloads true n rs)) ≤ 2 * length (r ∷ rs))
+        (length (cond t (copy_instruction copy.Reload r (fresh_stand_in n r) ∷ reloads true (suc n) rs) (reloads true n rs)) ≤ length (r ∷ rs))
+        × (operand_count (cond t (copy_instruction copy.Reload r (fresh_stand_in n r) ∷ reloads true (suc n) rs) (reloads true n rs)) ≤ 2 * length (r ∷ rs))
     by true h g = let x = h.0 in let y = h.1 in (omega (arith, x), omega (arith, y))
     by false h g = let x = g.0 in let y = g.1 in (omega (arith, x), omega (arith, y))
 
@@ -68,8 +68,8 @@ few_spills true n (r ∷ rs) = by (is_renewed true r) (few_spills true (suc n) r
   where
     by : (t : Bool) → (length (spills true (suc n) rs) ≤ length rs) × (operand_count (spills true (suc n) rs) ≤ 2 * length rs) →
         (length (spills true n rs) ≤ length rs) × (operand_count (spills true n rs) ≤ 2 * length rs) →
-        (length (cond t (copied copy.Spill (fresh n r) r ∷ spills true (suc n) rs) (spills true n rs)) ≤ length (r ∷ rs))
-        × (operand_count (cond t (copied copy.Spill (fresh n r) r ∷ spills true (suc n) rs) (spills true n rs)) ≤ 2 * length (r ∷ rs))
+        (length (cond t (copy_instruction copy.Spill (fresh_stand_in n r) r ∷ spills true (suc n) rs) (spills true n rs)) ≤ length (r ∷ rs))
+        × (operand_count (cond t (copy_instruction copy.Spill (fresh_stand_in n r) r ∷ spills true (suc n) rs) (spills true n rs)) ≤ 2 * length (r ∷ rs))
     by true h g = let x = h.0 in let y = h.1 in (omega (arith, x), omega (arith, y))
     by false h g = let x = g.0 in let y = g.1 in (omega (arith, x), omega (arith, y))
 
@@ -153,9 +153,9 @@ same_with (mach.Op (op.Calling f)) args results us rs a r = omega (arith, a, r)
 same_with (mach.Op (op.Leaving f)) args results us rs a r = omega (arith, a, r)
 same_with (mach.Mark f) args results us rs a r = omega (arith, a, r)
 
-pub placed_others : (place : Placing) (code : List Instr) → other_operands (placed_code place code) ≡ other_operands code
+pub placed_others : (place : LocationAssignment) (code : List Instr) → other_operands (placed_code place code) ≡ other_operands code
 placed_others place [] = refl
 placed_others place (i ∷ is) =
-    let here = same_with i.op i.args i.results (all_placed place i.args) (all_placed place i.results) (length-map i.args (placed place)) (length-map i.results (placed place)) in
+    let here = same_with i.op i.args i.results (all_placed place i.args) (all_placed place i.results) (length-map i.args (located_register place)) (length-map i.results (located_register place)) in
     let rest = placed_others place is in
     omega (arith, here, rest)

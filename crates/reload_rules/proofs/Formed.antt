@@ -6,10 +6,10 @@ use Rattle.std.proofs.lemmas.List.Elements.{Contains-get_or, All-contains}
 use Rattle.std.proofs.lemmas.Bool.{both_ways}
 use Rattle.mach_ir.specs.Acts.{On, At}
 use Rattle.mach_ir.specs.Forms as form
-use Rattle.mach_ir.specs.Formed.{comps, MarkHasForm, IsFormed, formed_op, formed_mark, AreDistinct, LeadsTo, LabelsStand, tries_left, leaves, is_exit, IsNested, CasesAgree, WellFormed}
+use Rattle.mach_ir.specs.Formed.{comps, MarkHasForm, IsFormedInstruction, formed_op, formed_mark, AreDistinct, TargetsLabel, LabelsStand, tries_left, leaves, is_exit, IsNested, CasesAgree, WellFormed}
 use Rattle.mach_ir.specs.Meaning.{after_label, from_handler, tries_at}
 use Rattle.mach_ir.specs.Placed.{WellPlaced}
-use Rattle.mach_ir.specs.Walks.{OneOf, other, may_raise, Stands, is_in_code}
+use Rattle.mach_ir.specs.Walks.{OneOf, other, may_raise, StandsAsInstr, is_in_code}
 use Rattle.mach_ir.specs.declared.op.CopyKind.{CopyKind}
 use Rattle.mach_ir.specs.declared.op.Leaving.TheVariants as leaving
 use Rattle.mach_ir.specs.declared.op.Op.TheVariants as op
@@ -19,11 +19,11 @@ use Rattle.mach_ir.specs.declared.mach.MachOp.TheVariants as mach
 use Rattle.mach_ir.specs.declared.mach.Instr.{Instr}
 use Rattle.mach_ir.specs.declared.mach.Mach.{Mach}
 use Rattle.mach_laws.proofs.Places.{label_expand, handler_expand, tries_expand, results_in, contains_of}
-use Rattle.spill_rules.specs.Spilled.{copied}
+use Rattle.spill_rules.specs.Spilled.{copy_instruction}
 use Rattle.spill_rules.proofs.Formed.{one_distinct}
 use Rattle.spill_rules.proofs.Text.{copy_formed, copy_no_mark}
 use Rattle.bs_words.proofs.Lists.{first_in, later_in}
-use Rattle.reload_rules.specs.Reloaded.{reads_registers, writes_registers, is_renewed, fresh, number_after, renewed}
+use Rattle.reload_rules.specs.Reloaded.{reads_registers, writes_registers, is_renewed, fresh_stand_in, next_reload_number, renewed}
 use Rattle.reload_rules.proofs.Files.{Apart, apart_more, apart_of}
 use Rattle.reload_rules.proofs.Live.{IsNumbering, reloaded_by}
 use Rattle.reload_rules.proofs.Numbers.{WasIn, was_own, was_fresh, after_true, after_rises, past_rises, for_from, was_in}
@@ -37,10 +37,10 @@ use Rattle.mach_laws.proofs.Among.{none_distinct}
 pub same_comps : (b : Bool) (n : ℕ) (rs : List Reg) → comps (renewed b n rs) ≡ comps rs
 same_comps b n [] = refl
 same_comps b n (r ∷ rs) =
-    ap (λ c. c ∷ comps (renewed b (number_after b n r) rs)) (by (is_renewed b r))
-    ∙ ap (λ cs. r.comp ∷ cs) (same_comps b (number_after b n r) rs)
+    ap (λ c. c ∷ comps (renewed b (next_reload_number b n r) rs)) (by (is_renewed b r))
+    ∙ ap (λ cs. r.comp ∷ cs) (same_comps b (next_reload_number b n r) rs)
   where
-    by : (t : Bool) → (cond t (fresh n r) r).comp ≡ r.comp
+    by : (t : Bool) → (cond t (fresh_stand_in n r) r).comp ≡ r.comp
     by true = refl
     by false = refl
 
@@ -57,15 +57,15 @@ pub renewed_distinct : (b : Bool) (n : ℕ) (rs : List Reg) → Apart rs → ((r
     AreDistinct (renewed b n rs)
 renewed_distinct b n [] apart low = none_distinct
 renewed_distinct b n (r ∷ rs) (apart_more once apart) low =
-    pairs_more (cond (is_renewed b r) (fresh n r) r) (renewed b (number_after b n r) rs)
-    (λ y c. of (is_renewed b r) refl y (was_in b (number_after b n r) rs y c))
-    (renewed_distinct b (number_after b n r) rs apart
+    pairs_more (cond (is_renewed b r) (fresh_stand_in n r) r) (renewed b (next_reload_number b n r) rs)
+    (λ y c. of (is_renewed b r) refl y (was_in b (next_reload_number b n r) rs y c))
+    (renewed_distinct b (next_reload_number b n r) rs apart
     (λ k c. let lt = low k (later r k c) in let le = after_rises b n r in omega (arith, lt, le)))
   where
     later : (r k : Reg) → Contains rs k → Contains (r ∷ rs) k
     later r k c = later_in r k rs c
 
-    of : (t : Bool) → is_renewed b r ≡ t → (y : Reg) → WasIn b (number_after b n r) rs y → (cond t (fresh n r) r).number ≢ y.number
+    of : (t : Bool) → is_renewed b r ≡ t → (y : Reg) → WasIn b (next_reload_number b n r) rs y → (cond t (fresh_stand_in n r) r).number ≢ y.number
     of true t y (was_own c u) e = let lt = low y (later r y c) in omega (arith, lt, e)
     of true t y (was_fresh x w h g) e =
         let le = for_from b h in
@@ -94,7 +94,7 @@ module _ (m : Mach) (s : ℕ → ℕ) (free top : ℕ) (formed : WellFormed m) (
   abbrev over : Instr → List Instr → Instr
   over i next = main_for m s free top formed placed is i next
 
-  main_of : {j : Instr} {ys : List Instr} → (Copy j → ⊥) → Stands j ys q.code → Main j ys
+  main_of : {j : Instr} {ys : List Instr} → (Copy j → ⊥) → StandsAsInstr j ys q.code → Main j ys
   main_of none z = main_where m s free top formed placed is none z
 
   op_of : {j : Instr} {ys : List Instr} (w : Main j ys) → (w.instr).op ≡ j.op
@@ -105,8 +105,8 @@ module _ (m : Mach) (s : ℕ → ℕ) (free top : ℕ) (formed : WellFormed m) (
 
   -- ---- no copy is a mark, leads to a label, raises or leaves
 
-  no_label : (l : ℕ) (j : Instr) → LeadsTo j.op l → Copy j → ⊥
-  no_label l j o (is_copy kind from to e) = by (subst (λ (j : Instr). LeadsTo j.op l) (sym e) o)
+  no_label : (l : ℕ) (j : Instr) → TargetsLabel j.op l → Copy j → ⊥
+  no_label l j o (is_copy kind from to e) = by (subst (λ (j : Instr). TargetsLabel j.op l) (sym e) o)
     where
       by : OneOf (At l) (On ∷ []) → ⊥
       by (other o) = elim o [ ]
@@ -120,7 +120,7 @@ module _ (m : Mach) (s : ℕ → ℕ) (free top : ℕ) (formed : WellFormed m) (
   no_leaving : (i : Instr) → leaves i.op ≡ true → Copy i → ⊥
   no_leaving i r (is_copy kind from to h) = both_ways false refl (ap (λ (i : Instr). leaves i.op) h ∙ r)
 
-  op_return : (kind : CopyKind) (from to : Reg) → (copied kind from to).op ≡ mach.Op (op.Leaving leaving.Return) → ⊥
+  op_return : (kind : CopyKind) (from to : Reg) → (copy_instruction kind from to).op ≡ mach.Op (op.Leaving leaving.Return) → ⊥
   op_return kind from to e = cc
 
   no_return : (i : Instr) → i.op ≡ mach.Op (op.Leaving leaving.Return) → Copy i → ⊥
@@ -128,8 +128,8 @@ module _ (m : Mach) (s : ℕ → ℕ) (free top : ℕ) (formed : WellFormed m) (
 
   -- ---- labels and tries
 
-  leads : {j : Instr} {ys : List Instr} {l : ℕ} (w : Main j ys) → LeadsTo j.op l → LeadsTo (w.instr).op l
-  leads {l = l} w o = subst (λ g. LeadsTo g l) (sym (op_of w)) o
+  leads : {j : Instr} {ys : List Instr} {l : ℕ} (w : Main j ys) → TargetsLabel j.op l → TargetsLabel (w.instr).op l
+  leads {l = l} w o = subst (λ g. TargetsLabel g l) (sym (op_of w)) o
 
   labels_stand : LabelsStand q
   labels_stand =
@@ -197,7 +197,7 @@ module _ (m : Mach) (s : ℕ → ℕ) (free top : ℕ) (formed : WellFormed m) (
 
   -- ---- each instruction
 
-  main_formed : (i : Instr) (next : List Instr) → IsFormed i → IsFormed (over i next)
+  main_formed : (i : Instr) (next : List Instr) → IsFormedInstruction i → IsFormedInstruction (over i next)
   main_formed i next (formed_op {f = g} {args = args} {results = results} h) =
       formed_op
       (subst (λ cs. form.HasForm g cs (comps (over i next).results)) (sym (same_comps (reads_registers i.op) (s (length next)) args))
@@ -209,7 +209,7 @@ module _ (m : Mach) (s : ℕ → ℕ) (free top : ℕ) (formed : WellFormed m) (
       (subst (λ cs. MarkHasForm g (comps args) cs)
       (sym (same_comps (writes_registers i.op) (first_result m s free top formed placed is i next) results)) h))
 
-  main_distinct : (i : Instr) (next : List Instr) → Stands i next m.code → AreDistinct (over i next).results
+  main_distinct : (i : Instr) (next : List Instr) → StandsAsInstr i next m.code → AreDistinct (over i next).results
   main_distinct i next t =
       renewed_distinct (writes_registers i.op) (first_result m s free top formed placed is i next) i.results
       (apart_of i.results (All-contains (λ (i : Instr). AreDistinct i.results) m.code i formed.distinct (contains_of t)))
@@ -225,8 +225,8 @@ module _ (m : Mach) (s : ℕ → ℕ) (free top : ℕ) (formed : WellFormed m) (
         numbers = number_is m s free top formed placed is;
         params = formed.params;
         params_distinct = formed.params_distinct;
-        instrs = each_in m s free top formed placed is IsFormed copy_formed
-            (λ i next t. main_formed i next (All-contains IsFormed m.code i formed.instrs (contains_of t)));
+        instrs = each_in m s free top formed placed is IsFormedInstruction copy_formed
+            (λ i next t. main_formed i next (All-contains IsFormedInstruction m.code i formed.instrs (contains_of t)));
         distinct = each_in m s free top formed placed is (λ (i : Instr). AreDistinct i.results) (λ kind from to. one_distinct to) main_distinct;
         returns = λ i c e.
             let w = (main_at i c (no_return i e)).1 in

@@ -13,10 +13,10 @@ use Rattle.bs_words.proofs.Lists.{none_in, in_cons, head_same, tail_same}
 use Rattle.mach_ir.specs.Acts.{Around, Target, On, At, Landing, AtLabel, AtHandler, Act, Goes, Pushes, Jumps, Unwinds, Asks, Replaces, Ends, EndsRaising, Stuck}
 use Rattle.mach_ir.specs.Formed.{WellFormed, AreDistinct}
 use Rattle.mach_ir.specs.Placed.{WellPlaced}
-use Rattle.mach_ir.specs.Runs.{Place, Tally, entered}
-use Rattle.mach_ir.specs.Meaning.{Held, File, put, put_all, clear, killed, written, values, past_frame, passes_frame, is_handler_of, mach_act, after_label, from_handler, at_handler, code_at, tries_at, landing_code, run}
-use Rattle.mach_ir.specs.Walks.{Among, first, later, OneOf, targets, may_raise, goes, raises, Live, read, on, aside, LiveAcross, IsRegister, is_colour, is_in_code, Stands}
-use Rattle.mach_ir.specs.Keeps.{ValsWritten, OriginsAgree, wrote_unless, Ahead, Trails, Proper, Comes, Does}
+use Rattle.mach_ir.specs.Runs.{ActivationSetting, Tally, entry_around}
+use Rattle.mach_ir.specs.Meaning.{Held, File, assign_register, put_all, clear_registers, killed, registers_written, values, past_frame, passes_frame, is_handler_of, mach_act, after_label, from_handler, at_handler, code_at, tries_at, landing_code, run_of_mach}
+use Rattle.mach_ir.specs.Walks.{AmongRegisters, first, later, OneOf, targets, may_raise, goes, raises, Live, read, on, aside, LiveAcross, IsRegister, is_colour, is_in_code, StandsAsInstr}
+use Rattle.mach_ir.specs.Keeps.{ValsWritten, OriginsAgree, wrote_unless, Ahead, Trails, Proper, Comes, MachSimulation}
 use Rattle.mach_ir.proofs.Keeping.{level, level_trail}
 use Rattle.mach_ir.specs.declared.op.CopyKind.TheVariants as copy
 use Rattle.mach_ir.specs.declared.mach.Mark.TheVariants as mark
@@ -38,9 +38,9 @@ use Rattle.mach_laws.proofs.Raised.{IsRaised, Told, told_jump, told_unwind, told
 use Rattle.mach_laws.proofs.Walking.{across_live}
 use Rattle.places_rules.proofs.Files.{past_same, cleared, not_cleared, put_here}
 use Rattle.liveness.proofs.Bounds.{killed_is_colour}
-use Rattle.spill_rules.specs.Spilled.{copied}
+use Rattle.spill_rules.specs.Spilled.{copy_instruction}
 use Rattle.spill_rules.proofs.Holding.{values_held, FitsIn, put_fits, put_holds, clear_fits, frame_fits, live_register, fit_at_entry, agree_at_entry, copy_step, vals_copy}
-use Rattle.reload_rules.specs.Reloaded.{reads_registers, writes_registers, is_renewed, fresh, number_after, reloads, spills}
+use Rattle.reload_rules.specs.Reloaded.{reads_registers, writes_registers, is_renewed, fresh_stand_in, next_reload_number, reloads, spills}
 use Rattle.reload_rules.proofs.Calm.{Calm, calm_go, calm_push, calm_label, calm_handler, calm_unwind, calm_ask, IsHandler, is_handler, calm, calm_at_handler}
 use Rattle.reload_rules.proofs.Files.{values_renewed, Apart, apart_of, PutsRenewed, put_renewed}
 use Rattle.reload_rules.proofs.Live.{IsNumbering, reloaded_by, operands_at, results_at, main_of, ForOperand, ForResult, Stage, Reading, Storing, Laid, main, LastOperands, LastResults, fewer_operands, fewer_results, all_operands, all_results, laid_results, laid_operands, laid_of, FreshOperand, is_operand, is_result, NotSpilled, Says, killed_same, laid_tries, live_back, live_before, across_back}
@@ -128,10 +128,10 @@ module _ (m : Mach) (s : ℕ → ℕ) (free top : ℕ) (formed : WellFormed m) (
   live_low : {n : ℕ} {rest : List Instr} → Live m n rest → Ending rest m.code → n < free
   live_low v e = let u = live_register m v e in subst (λ n. n < free) u.2 (is.above u.0 u.1)
 
-  wrote_all : (o : Option Value) → o ≡ None → (us : List Reg) (x : ℕ) → Among x us → Among x (wrote_unless o us)
-  wrote_all o e us x a = subst (λ o. Among x (wrote_unless o us)) (sym e) a
+  wrote_all : (o : Option Value) → o ≡ None → (us : List Reg) (x : ℕ) → AmongRegisters x us → AmongRegisters x (wrote_unless o us)
+  wrote_all o e us x a = subst (λ o. AmongRegisters x (wrote_unless o us)) (sym e) a
 
-  only_number : {x : ℕ} (r : Reg) → Among x (r ∷ []) → r.number ≡ x
+  only_number : {x : ℕ} (r : Reg) → AmongRegisters x (r ∷ []) → r.number ≡ x
   only_number r (first e) = e
   only_number r (later a) = elim a [ ]
 
@@ -143,7 +143,7 @@ module _ (m : Mach) (s : ℕ → ℕ) (free top : ℕ) (formed : WellFormed m) (
   caught_live r [] e v = elim v [ ]
   caught_live r (l ∷ tries) e v = aside (raises r e) v
 
-  module _ (c : Place) where
+  module _ (c : ActivationSetting) where
     abbrev limit : ℕ
     limit = c.setting.end
 
@@ -195,7 +195,7 @@ module _ (m : Mach) (s : ℕ → ℕ) (free top : ℕ) (formed : WellFormed m) (
         }
 
     agree_reading : (i : Instr) (next ys : List Instr) (n : ℕ) (rs us : List Reg) (a b : File) (y : Around) → Ending (i ∷ next) m.code →
-        Lay (Reading i next n rs) ys → HoldsReading i next n a b → ((x : ℕ) → Among x us → Told_at x (Reading i next n rs)) →
+        Lay (Reading i next n rs) ys → HoldsReading i next n a b → ((x : ℕ) → AmongRegisters x us → Told_at x (Reading i next n rs)) →
         OriginsAgree q us (at ys b y)
     agree_reading i next ys n rs us a b y ending laid h known =
         record {
@@ -206,7 +206,7 @@ module _ (m : Mach) (s : ℕ → ℕ) (free top : ℕ) (formed : WellFormed m) (
               (w.value ∙ s) (v.value ∙ t);
         }
       where
-        here : (r : Reg) → IsRegister q r → Live q r.number ys ⊎ Among r.number us → Reads i next a b r
+        here : (r : Reg) → IsRegister q r → Live q r.number ys ⊎ AmongRegisters r.number us → Reads i next a b r
         here r j l =
             reads_of i next n rs a b ending h r j
             (⊎_elim (λ v. live_back m s free top formed placed is v (Reading i next n rs) laid) (λ z. known r.number z) l)
@@ -221,7 +221,7 @@ module _ (m : Mach) (s : ℕ → ℕ) (free top : ℕ) (formed : WellFormed m) (
         holds : HoldsReading i next (first_result i next) a file
 
       before : (i : Instr) (next : List Instr) (a : File) (y : Around) → Ending (i ∷ next) m.code →
-          ((n : ℕ) → Among n i.args → (h : Held) × (a n ≡ Some h)) → (tail : List Instr) → Lay (Reading i next (first_result i next) []) tail →
+          ((n : ℕ) → AmongRegisters n i.args → (h : Held) × (a n ≡ Some h)) → (tail : List Instr) → Lay (Reading i next (first_result i next) []) tail →
           (n : ℕ) (rs : List Reg) → LastOperands m s free top formed placed is i next n rs → (b : File) → HoldsReading i next n a b →
           PassedBefore i next n rs tail a b y
       before i next a y ending held tail laid n [] known b holds =
@@ -231,7 +231,7 @@ module _ (m : Mach) (s : ℕ → ℕ) (free top : ℕ) (formed : WellFormed m) (
           (λ k e b' h. before i next a y ending held tail laid k rs (fewer_operands m s free top formed placed is i next n k r rs known e) b' h)
         where
           by : (t : Bool) → is_renewed (reads_registers i.op) r ≡ t →
-              ((k : ℕ) → number_after (reads_registers i.op) n r ≡ k → (b' : File) → HoldsReading i next k a b' → PassedBefore i next k rs tail a b' y) →
+              ((k : ℕ) → next_reload_number (reads_registers i.op) n r ≡ k → (b' : File) → HoldsReading i next k a b' → PassedBefore i next k rs tail a b' y) →
               PassedBefore i next n (r ∷ rs) tail a b y
           by false t again =
               let more = again n (after_false (reads_registers i.op) n r t) b holds in
@@ -239,7 +239,7 @@ module _ (m : Mach) (s : ℕ → ℕ) (free top : ℕ) (formed : WellFormed m) (
                 file = more.file;
                 passing = subst
                     (λ t. Passes (Unit {0}) y
-                    (cond t (copied copy.Reload r (fresh n r) ∷ reloads (reads_registers i.op) (suc n) rs) (reloads (reads_registers i.op) n rs)) tail b
+                    (cond t (copy_instruction copy.Reload r (fresh_stand_in n r) ∷ reloads (reads_registers i.op) (suc n) rs) (reloads (reads_registers i.op) n rs)) tail b
                     more.file)
                     (sym t) more.passing;
                 holds = more.holds;
@@ -249,23 +249,23 @@ module _ (m : Mach) (s : ℕ → ℕ) (free top : ℕ) (formed : WellFormed m) (
                 file = more.file;
                 passing = subst
                     (λ t. Passes (Unit {0}) y
-                    (cond t (copied copy.Reload r (fresh n r) ∷ reloads (reads_registers i.op) (suc n) rs) (reloads (reads_registers i.op) n rs)) tail b
+                    (cond t (copy_instruction copy.Reload r (fresh_stand_in n r) ∷ reloads (reads_registers i.op) (suc n) rs) (reloads (reads_registers i.op) n rs)) tail b
                     more.file)
                     (sym t)
                     (general.passes
-                    (copy_step c q copy.Reload r (fresh n r) (reloads (reads_registers i.op) (suc n) rs ++ tail) b y h
+                    (copy_step c q copy.Reload r (fresh_stand_in n r) (reloads (reads_registers i.op) (suc n) rs ++ tail) b y h
                     (sym ((holds.holds).itself r.number (read among)) ∙ (held r.number among).1)
                     (subst (λ t. fits limit (type_of_comp t) h.value ≡ true) fits_so.0 fits_so.1))
-                    (vals_copy c q copy.Reload r (fresh n r) (reloads (reads_registers i.op) (suc n) rs ++ tail) b y)
+                    (vals_copy c q copy.Reload r (fresh_stand_in n r) (reloads (reads_registers i.op) (suc n) rs ++ tail) b y)
                     (λ u.
-                    agree_reading i next (reloads (reads_registers i.op) (suc n) rs ++ tail) (suc n) rs (wrote_unless y.raised (fresh n r ∷ [])) a b1 y
+                    agree_reading i next (reloads (reads_registers i.op) (suc n) rs ++ tail) (suc n) rs (wrote_unless y.raised (fresh_stand_in n r ∷ [])) a b1 y
                     ending
                     (laid_operands m s free top formed placed is i next (suc n) rs tail ending
                     (fewer_operands m s free top formed placed is i next n (suc n) r rs known (after_true (reads_registers i.op) n r t)) laid)
                     holds_on
                     (λ x z.
                     inr
-                    (subst (FreshOperand m s free top formed placed is i next (suc n)) (only_number (fresh n r) (unless_among y.raised (fresh n r ∷ []) x z))
+                    (subst (FreshOperand m s free top formed placed is i next (suc n)) (only_number (fresh_stand_in n r) (unless_among y.raised (fresh_stand_in n r ∷ []) x z))
                     (is_operand r made_here (omega arith)))))
                     more.passing);
                 holds = more.holds;
@@ -274,7 +274,7 @@ module _ (m : Mach) (s : ℕ → ℕ) (free top : ℕ) (formed : WellFormed m) (
               made_here : Operand i next n r
               made_here = known.0 n r (for_this t)
 
-              among : Among r.number i.args
+              among : AmongRegisters r.number i.args
               among = among_of r i.args (for_in (reads_registers i.op) made_here)
 
               is_reg : IsRegister m r
@@ -290,7 +290,7 @@ module _ (m : Mach) (s : ℕ → ℕ) (free top : ℕ) (formed : WellFormed m) (
               as_put = (held r.number among).1 ∙ ap (λ t. Some (record { comp = t; value = h.value })) fits_so.0
 
               b1 : File
-              b1 = put (fresh n r) h.value b
+              b1 = assign_register (fresh_stand_in n r) h.value b
 
               high : free ≤ n
               high = made_free m s free top formed placed is (stands_of ending) (for_operand made_here)
@@ -302,7 +302,7 @@ module _ (m : Mach) (s : ℕ → ℕ) (free top : ℕ) (formed : WellFormed m) (
               holds_on =
                   record {
                     holds = record {
-                      itself = λ x v. (holds.holds).itself x v ∙ sym (put_other (fresh n r) h.value b x (not_live x v));
+                      itself = λ x v. (holds.holds).itself x v ∙ sym (put_other (fresh_stand_in n r) h.value b x (not_live x v));
                       fit = (holds.holds).fit;
                       agree = (holds.holds).agree;
                     };
@@ -311,10 +311,10 @@ module _ (m : Mach) (s : ℕ → ℕ) (free top : ℕ) (formed : WellFormed m) (
                         (λ e.
                         let same : n ≡ x = eqb-true n x e in
                         ap (λ (k : Reg). a k.number) (sym (for_same (reads_registers i.op) made_here g same)) ∙ as_put
-                        ∙ sym (put_here (fresh n r) h.value b x same))
+                        ∙ sym (put_here (fresh_stand_in n r) h.value b x same))
                         (λ e.
                         let ne = λ (z : n ≡ x). both_ways (nat_eq n x) e (eq-eqb n x z) in
-                        holds.made x w g (less n x lt ne) ∙ sym (put_other (fresh n r) h.value b x ne))
+                        holds.made x w g (less n x lt ne) ∙ sym (put_other (fresh_stand_in n r) h.value b x ne))
                         (cases_Bool (nat_eq n x));
                   }
                 where
@@ -336,7 +336,7 @@ module _ (m : Mach) (s : ℕ → ℕ) (free top : ℕ) (formed : WellFormed m) (
         register : Reg
         among : IsRegister m register
         origin : register.origin ≡ r.origin
-        live : Live m register.number next ⊎ Among register.number (wrote_unless y.raised (written m i))
+        live : Live m register.number next ⊎ AmongRegisters register.number (wrote_unless y.raised (registers_written m i))
         value : d register.number ≡ e r.number
 
       of_result : (i : Instr) (next : List Instr) (d e : File) (y : Around) → Ending (i ∷ next) m.code → y.raised ≡ None → (r : Reg) →
@@ -347,14 +347,14 @@ module _ (m : Mach) (s : ℕ → ℕ) (free top : ℕ) (formed : WellFormed m) (
             among = made_register m s free top formed placed is (stands_of ending) (for_result g);
             origin = made_origin m s free top formed placed is r j (stands_of ending) (for_result g);
             live = inr
-                (wrote_all y.raised quiet (written m i) w.number
+                (wrote_all y.raised quiet (registers_written m i) w.number
                 (left_among i.results (killed m i) (among_of w i.results (for_in (writes_registers i.op) g))));
             value = same;
           }
 
       agree_storing : (i : Instr) (next ys : List Instr) (n : ℕ) (rs us : List Reg) (d e : File) (y : Around) → Ending (i ∷ next) m.code →
-          Lay (Storing i next n rs) ys → HoldsAfter i next n rs d e → y.raised ≡ None → Agrees m (written m i) (at next d y) →
-          ((r : Reg) (u : Held) → IsRegister q r → Among r.number us → e r.number ≡ Some u → Stores i next d e y r) →
+          Lay (Storing i next n rs) ys → HoldsAfter i next n rs d e → y.raised ≡ None → Agrees m (registers_written m i) (at next d y) →
+          ((r : Reg) (u : Held) → IsRegister q r → AmongRegisters r.number us → e r.number ≡ Some u → Stores i next d e y r) →
           OriginsAgree q us (at ys e y)
       agree_storing i next ys n rs us d e y ending laid holds quiet agreed just =
           record {
@@ -377,17 +377,17 @@ module _ (m : Mach) (s : ℕ → ℕ) (free top : ℕ) (formed : WellFormed m) (
                 value = holds.itself r.number g.0 g.1;
               }
 
-          here : (r : Reg) → IsRegister q r → (u : Held) → Live q r.number ys ⊎ Among r.number us → e r.number ≡ Some u → Stores i next d e y r
+          here : (r : Reg) → IsRegister q r → (u : Held) → Live q r.number ys ⊎ AmongRegisters r.number us → e r.number ≡ Some u → Stores i next d e y r
           here r j u (inl v) g = of_live r j (live_back m s free top formed placed is v (Storing i next n rs) laid)
           here r j u (inr z) g = just r u j z g
 
       record PassedAfter (i : Instr) (next : List Instr) (n : ℕ) (rs : List Reg) (d e : File) (y : Around) : Type 0 where
         file : File
-        passing : Passes (Agrees m (written m i) (at next d y)) y (spills (writes_registers i.op) n rs) (expand f next) e file
+        passing : Passes (Agrees m (registers_written m i) (at next d y)) y (spills (writes_registers i.op) n rs) (expand f next) e file
         holds : (x : ℕ) → Live m x next → d x ≡ file x
 
       after : (i : Instr) (next : List Instr) (d : File) (y : Around) → Ending (i ∷ next) m.code → y.raised ≡ None →
-          ((n : ℕ) → Among n i.results → (h : Held) × (d n ≡ Some h)) → ((r : Reg) → IsRegister m r → FitsIn limit r (d r.number)) →
+          ((n : ℕ) → AmongRegisters n i.results → (h : Held) × (d n ≡ Some h)) → ((r : Reg) → IsRegister m r → FitsIn limit r (d r.number)) →
           (n : ℕ) (rs : List Reg) → LastResults m s free top formed placed is i next n rs → (e : File) → HoldsAfter i next n rs d e →
           PassedAfter i next n rs d e y
       after i next d y ending quiet held fit n [] known e holds =
@@ -398,7 +398,7 @@ module _ (m : Mach) (s : ℕ → ℕ) (free top : ℕ) (formed : WellFormed m) (
           after i next d y ending quiet held fit k rs (fewer_results m s free top formed placed is i next n k r rs known g) e' h)
         where
           by : (t : Bool) → is_renewed (writes_registers i.op) r ≡ t →
-              ((k : ℕ) → number_after (writes_registers i.op) n r ≡ k → (e' : File) → HoldsAfter i next k rs d e' → PassedAfter i next k rs d e' y) →
+              ((k : ℕ) → next_reload_number (writes_registers i.op) n r ≡ k → (e' : File) → HoldsAfter i next k rs d e' → PassedAfter i next k rs d e' y) →
               PassedAfter i next n (r ∷ rs) d e y
           by false t again =
               let more = again n (after_false (writes_registers i.op) n r t) e
@@ -413,8 +413,8 @@ module _ (m : Mach) (s : ℕ → ℕ) (free top : ℕ) (formed : WellFormed m) (
               record {
                 file = more.file;
                 passing = subst
-                    (λ t. Passes (Agrees m (written m i) (at next d y)) y
-                    (cond t (copied copy.Spill (fresh n r) r ∷ spills (writes_registers i.op) (suc n) rs) (spills (writes_registers i.op) n rs))
+                    (λ t. Passes (Agrees m (registers_written m i) (at next d y)) y
+                    (cond t (copy_instruction copy.Spill (fresh_stand_in n r) r ∷ spills (writes_registers i.op) (suc n) rs) (spills (writes_registers i.op) n rs))
                     (expand f next) e more.file)
                     (sym t) more.passing;
                 holds = more.holds;
@@ -423,15 +423,15 @@ module _ (m : Mach) (s : ℕ → ℕ) (free top : ℕ) (formed : WellFormed m) (
               record {
                 file = more.file;
                 passing = subst
-                    (λ t. Passes (Agrees m (written m i) (at next d y)) y
-                    (cond t (copied copy.Spill (fresh n r) r ∷ spills (writes_registers i.op) (suc n) rs) (spills (writes_registers i.op) n rs))
+                    (λ t. Passes (Agrees m (registers_written m i) (at next d y)) y
+                    (cond t (copy_instruction copy.Spill (fresh_stand_in n r) r ∷ spills (writes_registers i.op) (suc n) rs) (spills (writes_registers i.op) n rs))
                     (expand f next) e more.file)
                     (sym t)
                     (general.passes
-                    (copy_step c q copy.Spill (fresh n r) r (spills (writes_registers i.op) (suc n) rs ++ expand f next) e y h
+                    (copy_step c q copy.Spill (fresh_stand_in n r) r (spills (writes_registers i.op) (suc n) rs ++ expand f next) e y h
                     (sym (holds.made n r made_here (omega arith)) ∙ holds_h)
                     (subst (λ t. fits limit (type_of_comp t) h.value ≡ true) fits_so.0 fits_so.1))
-                    (vals_copy c q copy.Spill (fresh n r) r (spills (writes_registers i.op) (suc n) rs ++ expand f next) e y)
+                    (vals_copy c q copy.Spill (fresh_stand_in n r) r (spills (writes_registers i.op) (suc n) rs ++ expand f next) e y)
                     (λ agreed.
                     agree_storing i next (spills (writes_registers i.op) (suc n) rs ++ expand f next) (suc n) rs (wrote_unless y.raised (r ∷ []))
                     d e1 y ending
@@ -465,7 +465,7 @@ module _ (m : Mach) (s : ℕ → ℕ) (free top : ℕ) (formed : WellFormed m) (
               as_put = holds_h ∙ ap (λ t. Some (record { comp = t; value = h.value })) fits_so.0
 
               e1 : File
-              e1 = put r h.value e
+              e1 = assign_register r h.value e
 
               high : (x : ℕ) → suc n ≤ x → r.number ≡ x → ⊥
               high x le g =
@@ -497,8 +497,8 @@ module _ (m : Mach) (s : ℕ → ℕ) (free top : ℕ) (formed : WellFormed m) (
                     among = old_register m s free top formed placed is k r j is_reg g;
                     origin = refl;
                     live = inr
-                        (wrote_all y.raised quiet (written m i) k.number
-                        (left_among i.results (killed m i) (subst (λ n. Among n i.results) g (among_of r i.results result))));
+                        (wrote_all y.raised quiet (registers_written m i) k.number
+                        (left_among i.results (killed m i) (subst (λ n. AmongRegisters n i.results) g (among_of r i.results result))));
                     value = ap d (sym g) ∙ as_put ∙ sym (put_here r h.value e k.number g);
                   }
 
@@ -518,7 +518,7 @@ module _ (m : Mach) (s : ℕ → ℕ) (free top : ℕ) (formed : WellFormed m) (
         abbrev post : List Instr
         post = spills (writes_registers i.op) (first_result i next) i.results
 
-        stands : Stands i next m.code
+        stands : StandsAsInstr i next m.code
         stands = stands_of ending
 
         still : (n : ℕ) → Live m n (i ∷ next) → a' n ≡ b' n
@@ -532,16 +532,16 @@ module _ (m : Mach) (s : ℕ → ℕ) (free top : ℕ) (formed : WellFormed m) (
 
         abbrev Puts : List Value → File → Type 0
         Puts vs d =
-            PutsRenewed limit (writes_registers i.op) (first_result i next) i.results vs (clear (killed m i) a') (clear (killed m i) b') d
+            PutsRenewed limit (writes_registers i.op) (first_result i next) i.results vs (clear_registers (killed m i) a') (clear_registers (killed m i) b') d
 
         -- a register of the first is none of the fresh ones
-        own_result : (x : ℕ) → x < free → Among x (main_for i next).results → Among x i.results
+        own_result : (x : ℕ) → x < free → AmongRegisters x (main_for i next).results → AmongRegisters x i.results
         own_result x lt z =
             let k = number_among (main_for i next).results z in
             of k.0 k.2 (was_in (writes_registers i.op) (first_result i next) i.results k.0 k.1)
           where
-            of : (k : Reg) → k.number ≡ x → WasIn (writes_registers i.op) (first_result i next) i.results k → Among x i.results
-            of k e (was_own c t) = subst (λ n. Among n i.results) e (among_of k i.results c)
+            of : (k : Reg) → k.number ≡ x → WasIn (writes_registers i.op) (first_result i next) i.results k → AmongRegisters x i.results
+            of k e (was_own c t) = subst (λ n. AmongRegisters n i.results) e (among_of k i.results c)
             of k e (was_fresh y w g h) =
                 let le = made_free m s free top formed placed is stands (for_result g) in
                 let number : y ≡ k.number = ap (λ (r : Reg). r.number) h in absurd (omega (arith, lt, le, number, e))
@@ -568,10 +568,10 @@ module _ (m : Mach) (s : ℕ → ℕ) (free top : ℕ) (formed : WellFormed m) (
         one_result : (r : Reg) → IsRegister m r → (k : Reg) → Contains i.results k → k.number ≡ r.number → k ≡ r
         one_result r j k z e = formed.numbers k r (is_in_code (results_in stands z)) j e
 
-        fit_after : (vs : List Value) (d : File) → put_all limit i.results vs (clear (killed m i) a') ≡ Some d → (r : Reg) → IsRegister m r →
+        fit_after : (vs : List Value) (d : File) → put_all limit i.results vs (clear_registers (killed m i) a') ≡ Some d → (r : Reg) → IsRegister m r →
             FitsIn limit r (d r.number)
         fit_after vs d e r j =
-            put_fits limit i.results vs (clear (killed m i) a') d e r (one_result r j)
+            put_fits limit i.results vs (clear_registers (killed m i) a') d e r (one_result r j)
             (clear_fits limit (killed m i) a' r (frame_fits limit (passes_frame i.op) a r ((reading.holds).fit r j)))
 
         fit_still : (r : Reg) → IsRegister m r → FitsIn limit r (a' r.number)
@@ -584,7 +584,7 @@ module _ (m : Mach) (s : ℕ → ℕ) (free top : ℕ) (formed : WellFormed m) (
 
         -- where the second begins a code, its registers of one origin agree
         agree_begins : (rest : List Instr) (us : List Reg) (d e : File) (y : Around) → Ending rest m.code → Holds rest d e →
-            ((x : ℕ) → Among x (wrote_unless y.raised us) → ⊥) → OriginsAgree q (wrote_unless y.raised us) (at (expand f rest) e y)
+            ((x : ℕ) → AmongRegisters x (wrote_unless y.raised us) → ⊥) → OriginsAgree q (wrote_unless y.raised us) (at (expand f rest) e y)
         agree_begins rest us d e y end_rest h none =
             record {
               agree = λ r k ir ik origin l z x u s t.
@@ -593,7 +593,7 @@ module _ (m : Mach) (s : ℕ → ℕ) (free top : ℕ) (formed : WellFormed m) (
                   h.agree r k w.0 v.0 origin w.1 v.1 x u (h.itself r.number w.1 ∙ s) (h.itself k.number v.1 ∙ t);
             }
           where
-            here : (r : Reg) → IsRegister q r → Live q r.number (expand f rest) ⊎ Among r.number (wrote_unless y.raised us) →
+            here : (r : Reg) → IsRegister q r → Live q r.number (expand f rest) ⊎ AmongRegisters r.number (wrote_unless y.raised us) →
                 IsRegister m r × Live m r.number rest
             here r j (inl v) =
                 let live = live_before m s free top formed placed is end_rest v in
@@ -601,7 +601,7 @@ module _ (m : Mach) (s : ℕ → ℕ) (free top : ℕ) (formed : WellFormed m) (
             here r j (inr z) = absurd (none r.number z)
 
         -- what the second writes, where the first writes nothing
-        main_silent : IsSilent m i → (x : ℕ) → Among x (written q (main_for i next)) → ⊥
+        main_silent : IsSilent m i → (x : ℕ) → AmongRegisters x (registers_written q (main_for i next)) → ⊥
         main_silent silent x z =
             ⊎_elim
             (λ h.
@@ -609,7 +609,7 @@ module _ (m : Mach) (s : ℕ → ℕ) (free top : ℕ) (formed : WellFormed m) (
             of k.0 (was_in (writes_registers i.op) (first_result i next) i.results k.0 k.1))
             (λ h.
             silent x
-            (right_among i.results (killed m i) (subst (Among x) (killed_same m s free top formed placed is i next) h)))
+            (right_among i.results (killed m i) (subst (AmongRegisters x) (killed_same m s free top formed placed is i next) h)))
             (split_among x (main_for i next).results (killed q (main_for i next)) z)
           where
             of : (k : Reg) → WasIn (writes_registers i.op) (first_result i next) i.results k → ⊥
@@ -617,10 +617,10 @@ module _ (m : Mach) (s : ℕ → ℕ) (free top : ℕ) (formed : WellFormed m) (
             of k (was_fresh y w g h) =
                 silent w.number (left_among i.results (killed m i) (among_of w i.results (for_in (writes_registers i.op) g)))
 
-        silent_none : IsSilent m i → (o : Option Value) → (x : ℕ) → Among x (wrote_unless o (written q (main_for i next))) → ⊥
-        silent_none silent o x z = main_silent silent x (unless_among o (written q (main_for i next)) x z)
+        silent_none : IsSilent m i → (o : Option Value) → (x : ℕ) → AmongRegisters x (wrote_unless o (registers_written q (main_for i next))) → ⊥
+        silent_none silent o x z = main_silent silent x (unless_among o (registers_written q (main_for i next)) x z)
 
-        none_written : (o : Option Value) → IsSilent m i ⊎ IsRaised o → (x : ℕ) → Among x (wrote_unless o (written q (main_for i next))) → ⊥
+        none_written : (o : Option Value) → IsSilent m i ⊎ IsRaised o → (x : ℕ) → AmongRegisters x (wrote_unless o (registers_written q (main_for i next))) → ⊥
         none_written o (inl silent) x z = silent_none silent o x z
         none_written (Some v) (inr r) x z = elim z [ ]
         none_written None (inr r) x z = elim r [ ]
@@ -632,12 +632,12 @@ module _ (m : Mach) (s : ℕ → ℕ) (free top : ℕ) (formed : WellFormed m) (
         no_post silent =
             ap (λ rs. spills (writes_registers i.op) (first_result i next) rs) (none i.results (λ n z. silent n (left_among i.results (killed m i) z)))
           where
-            none : (rs : List Reg) → ((n : ℕ) → Among n rs → ⊥) → rs ≡ []
+            none : (rs : List Reg) → ((n : ℕ) → AmongRegisters n rs → ⊥) → rs ≡ []
             none [] h = refl
             none (r ∷ rs) h = absurd (h r.number (first refl))
 
         just_main : (vs : List Value) (d : File) (p : Puts vs d) (y : Around) → y.raised ≡ None → (r : Reg) (u : Held) → IsRegister q r →
-            Among r.number (wrote_unless y.raised (written q (main_for i next))) → p.file r.number ≡ Some u → Stores i next d p.file y r
+            AmongRegisters r.number (wrote_unless y.raised (registers_written q (main_for i next))) → p.file r.number ≡ Some u → Stores i next d p.file y r
         just_main vs d p y quiet r u j z e =
             ⊎_elim
             (λ h.
@@ -647,10 +647,10 @@ module _ (m : Mach) (s : ℕ → ℕ) (free top : ℕ) (formed : WellFormed m) (
             ⊎_elim (λ h. absurd (none h))
             (λ h.
             absurd
-            (none-some _ (sym (cleared (killed m i) b' r.number (subst (Among r.number) (killed_same m s free top formed placed is i next) h))
+            (none-some _ (sym (cleared (killed m i) b' r.number (subst (AmongRegisters r.number) (killed_same m s free top formed placed is i next) h))
             ∙ sym (p.others_new r.number none) ∙ e)))
             (split_among r.number (main_for i next).results (killed q (main_for i next))
-            (unless_among y.raised (written q (main_for i next)) r.number z)))
+            (unless_among y.raised (registers_written q (main_for i next)) r.number z)))
             (among_or_not r.number (main_for i next).results)
           where
             of : (k : Reg) → k.number ≡ r.number → WasIn (writes_registers i.op) (first_result i next) i.results k → Stores i next d p.file y r
@@ -660,8 +660,8 @@ module _ (m : Mach) (s : ℕ → ℕ) (free top : ℕ) (formed : WellFormed m) (
                   among = old_register m s free top formed placed is r k j (is_in_code (results_in stands c)) g;
                   origin = refl;
                   live = inr
-                      (wrote_all y.raised quiet (written m i) r.number
-                      (left_among i.results (killed m i) (subst (λ n. Among n i.results) g (among_of k i.results c))));
+                      (wrote_all y.raised quiet (registers_written m i) r.number
+                      (left_among i.results (killed m i) (subst (λ n. AmongRegisters n i.results) g (among_of k i.results c))));
                   value = ap d (sym g) ∙ p.own k c t ∙ ap p.file g;
                 }
             of k g (was_fresh x w h t) =
@@ -669,7 +669,7 @@ module _ (m : Mach) (s : ℕ → ℕ) (free top : ℕ) (formed : WellFormed m) (
                 let made : Result i next r.number w = subst (λ x. Result i next x w) number h in
                 of_result i next d p.file y ending quiet r j w made (p.made r.number w made)
 
-        past_to : (vs : List Value) (d : File) → put_all limit i.results vs (clear (killed m i) a') ≡ Some d → (p : Puts vs d) (y : Around) →
+        past_to : (vs : List Value) (d : File) → put_all limit i.results vs (clear_registers (killed m i) a') ≡ Some d → (p : Puts vs d) (y : Around) →
             y.raised ≡ None → (t : Target) → OneOf t (targets i.op) → Past y d p.file t
         past_to vs d e p y quiet On o =
             let begun : HoldsAfter i next (first_result i next) i.results d p.file =
@@ -677,57 +677,57 @@ module _ (m : Mach) (s : ℕ → ℕ) (free top : ℕ) (formed : WellFormed m) (
               itself = λ x v spilled. same_after vs d p On o x (live_low v (ending_next ending)) v spilled;
               made = λ x w g le. p.made x w g;
             } in
-            let done = after i next d y ending quiet (λ n z. put_holds limit i.results vs (clear (killed m i) a') d e n z) (fit_after vs d e)
+            let done = after i next d y ending quiet (λ n z. put_holds limit i.results vs (clear_registers (killed m i) a') d e n z) (fit_after vs d e)
             (first_result i next) i.results (all_results m s free top formed placed is i next) p.file begun in
             general.on
             (λ agreed.
-            agree_storing i next (post ++ expand f next) (first_result i next) i.results (wrote_unless y.raised (written q (main_for i next))) d p.file y
+            agree_storing i next (post ++ expand f next) (first_result i next) i.results (wrote_unless y.raised (registers_written q (main_for i next))) d p.file y
             ending laid_main begun quiet agreed (λ r u j z g. just_main vs d p y quiet r u j z g))
             done.passing
             (λ agreed.
             record {
               same = refl;
               quiet = none_raised quiet;
-              holds = record { itself = done.holds; fit = fit_after vs d e; agree = agree_there next (written m i) d y agreed };
+              holds = record { itself = done.holds; fit = fit_after vs d e; agree = agree_there next (registers_written m i) d y agreed };
             })
         past_to vs d e p y quiet (At l) o =
             let silent = label_silent m (form_of formed ending) l o in
             let unspilled = λ (x : ℕ) (r : Reg) (z : Contains i.results r) (t : is_renewed (writes_registers i.op) r ≡ true) (g : r.number ≡ x).
             silent r.number (left_among i.results (killed m i) (among_of r i.results z)) in
-            let rel : Agrees m (written m i) (at (after_label l m.code) d y) → Linked (after_label l m.code) y y d p.file =
-            λ (agreed : Agrees m (written m i) (at (after_label l m.code) d y)).
+            let rel : Agrees m (registers_written m i) (at (after_label l m.code) d y) → Linked (after_label l m.code) y y d p.file =
+            λ (agreed : Agrees m (registers_written m i) (at (after_label l m.code) d y)).
             record {
               same = refl;
               quiet = none_raised quiet;
               holds = record {
                 itself = λ x v. same_after vs d p (At l) o x (live_low v (ending_label l m.code)) v (unspilled x);
                 fit = fit_after vs d e;
-                agree = agree_there (after_label l m.code) (written m i) d y agreed;
+                agree = agree_there (after_label l m.code) (registers_written m i) d y agreed;
               };
             } in
             general.elsewhere (no_post silent)
             (λ agreed. (
               rel agreed,
-              subst (λ code. Agrees q (written q (main_for i next)) (at code p.file y)) (sym (label_expand f (keeps_marks s) l m.code))
-                  (agree_begins (after_label l m.code) (written q (main_for i next)) d p.file y (ending_label l m.code) (rel agreed).holds
+              subst (λ code. Agrees q (registers_written q (main_for i next)) (at code p.file y)) (sym (label_expand f (keeps_marks s) l m.code))
+                  (agree_begins (after_label l m.code) (registers_written q (main_for i next)) d p.file y (ending_label l m.code) (rel agreed).holds
                   (silent_none silent y.raised)),
             ))
 
         -- where an exit or a raise lands
-        landed : (to : Landing) → MayLand i.op to → (y : Around) → Agrees m (written m i) (at (landing_code m.code (i ∷ next) to) a' y) →
+        landed : (to : Landing) → MayLand i.op to → (y : Around) → Agrees m (registers_written m i) (at (landing_code m.code (i ∷ next) to) a' y) →
             Holds (landing_code m.code (i ∷ next) to) a' b'
         landed (AtLabel l) (lands_at_label o) y agreed =
             let silent = label_silent m (form_of formed ending) l o in
             record {
               itself = λ n v. still n (on (silent n) (goes (At l) o) v);
               fit = fit_still;
-              agree = agree_there (after_label l m.code) (written m i) a' y agreed;
+              agree = agree_there (after_label l m.code) (registers_written m i) a' y agreed;
             }
         landed AtHandler (lands_at_handler r) y agreed =
             record {
               itself = λ n v. still n (caught_live r (tries_at (i ∷ next)) refl v);
               fit = fit_still;
-              agree = agree_there (at_handler m.code (tries_at (i ∷ next))) (written m i) a' y agreed;
+              agree = agree_there (at_handler m.code (tries_at (i ∷ next))) (registers_written m i) a' y agreed;
             }
 
         tries_so : tries_at (main_for i next ∷ (post ++ expand f next)) ≡ tries_at (i ∷ next)
@@ -738,19 +738,19 @@ module _ (m : Mach) (s : ℕ → ℕ) (free top : ℕ) (formed : WellFormed m) (
             general.Lands c m q f (keeps_marks s) is_code Suit Linked i (main_for i next) next post to y y a' b'
         lands to may y silent quiet agreed = (
           record { same = refl; quiet = quiet; holds = landed to may y agreed },
-          subst (λ code. Agrees q (written q (main_for i next)) (at code b' y))
+          subst (λ code. Agrees q (registers_written q (main_for i next)) (at code b' y))
               (sym (land_expand f (keeps_marks s) m.code (i ∷ next) (main_for i next ∷ (post ++ expand f next)) to tries_so))
-              (agree_begins (landing_code m.code (i ∷ next) to) (written q (main_for i next)) a' b' y (ending_land to (i ∷ next) m.code)
+              (agree_begins (landing_code m.code (i ∷ next) to) (registers_written q (main_for i next)) a' b' y (ending_land to (i ∷ next) m.code)
               (landed to may y agreed) (none_written y.raised silent)),
         )
 
-        pushed : IsTry i.op → (y : Around) → Agrees m (written m i) (at next a' y) → Holds next a' b'
+        pushed : IsTry i.op → (y : Around) → Agrees m (registers_written m i) (at next a' y) → Holds next a' b'
         pushed t y agreed =
             let silent = try_silent m (form_of formed ending) t in
             record {
               itself = λ n v. still n (on (silent n) (goes On (try_on i.op t)) v);
               fit = fit_still;
-              agree = agree_there next (written m i) a' y agreed;
+              agree = agree_there next (registers_written m i) a' y agreed;
             }
 
         apart_results : Apart i.results
@@ -763,9 +763,9 @@ module _ (m : Mach) (s : ℕ → ℕ) (free top : ℕ) (formed : WellFormed m) (
             let rises = past_rises (reads_registers i.op) (s (length next)) i.args in omega (arith, lt, from, rises)
 
         puts_same : (vs : List Value) (d : File) (p : Puts vs d) →
-            put_all limit (main_for i next).results vs (clear (killed q (main_for i next)) b') ≡ Some p.file
+            put_all limit (main_for i next).results vs (clear_registers (killed q (main_for i next)) b') ≡ Some p.file
         puts_same vs d p =
-            subst (λ ks. put_all limit (main_for i next).results vs (clear ks b') ≡ Some p.file)
+            subst (λ ks. put_all limit (main_for i next).results vs (clear_registers ks b') ≡ Some p.file)
             (sym (killed_same m s free top formed placed is i next)) p.puts
 
         acts_same : (y : Around) (act : Act) → Within i.op act → Told (IsSilent m i) act → Calm act →
@@ -773,7 +773,7 @@ module _ (m : Mach) (s : ℕ → ℕ) (free top : ℕ) (formed : WellFormed m) (
         acts_same y (Goes vs to y') (goes_in o) t (calm_go quiet) =
             general.both_go
             (λ d e.
-            let p = put_renewed limit (writes_registers i.op) (first_result i next) i.results vs (clear (killed m i) a') (clear (killed m i) b') d
+            let p = put_renewed limit (writes_registers i.op) (first_result i next) i.results vs (clear_registers (killed m i) a') (clear_registers (killed m i) b') d
             apart_results low_results e in
             (p.file, puts_same vs d p, past_to vs d e p y' quiet to o))
         acts_same y (Jumps (AtLabel l) y') (jumps_in may) (told_jump silent) (calm_label quiet) =
@@ -787,7 +787,7 @@ module _ (m : Mach) (s : ℕ → ℕ) (free top : ℕ) (formed : WellFormed m) (
             general.both_push (no_post (try_silent m (form_of formed ending) t)) refl
             (λ agreed. (
               record { same = refl; quiet = none_raised quiet; holds = pushed t y' agreed },
-              agree_begins next (written q (main_for i next)) a' b' y' (ending_next ending) (pushed t y' agreed)
+              agree_begins next (registers_written q (main_for i next)) a' b' y' (ending_next ending) (pushed t y' agreed)
                   (silent_none (try_silent m (form_of formed ending) t) y'.raised),
             ))
         acts_same y (Asks whom vs go) (asks_in w) (told_ask t) (calm_ask k) =
@@ -867,18 +867,18 @@ module _ (m : Mach) (s : ℕ → ℕ) (free top : ℕ) (formed : WellFormed m) (
         }
 
     linked_entry : (vs : List Value) (a : File) (memory : Memory) → put_all limit m.params vs (λ n. None) ≡ Some a →
-        Linked m.code (entered memory) (entered memory) a a
+        Linked m.code (entry_around memory) (entry_around memory) a a
     linked_entry vs a memory e = record { same = refl; quiet = none_raised refl; holds = at_entry vs a e }
 
     comes : (Suit : Around → Around → Type 0) → ((x : Around) → Suit x x) → (vs : List Value) (a : File) (memory : Memory) →
-        put_all limit m.params vs (λ n. None) ≡ Some a → (n : ℕ) (t : Tally) → Proper c m n (at m.code a (entered memory)) t →
-        Comes Suit (run c m n (at m.code a (entered memory)) t) c q (at q.code a (entered memory)) t
+        put_all limit m.params vs (λ n. None) ≡ Some a → (n : ℕ) (t : Tally) → Proper c m n (at m.code a (entry_around memory)) t →
+        Comes Suit (run_of_mach c m n (at m.code a (entry_around memory)) t) c q (at q.code a (entry_around memory)) t
     comes Suit suits vs a memory e n t proper =
-        general.comes_from c m q f (keeps_marks s) is_code Suit Linked (serves Suit (λ x y g. subst (Suit x) g (suits x))) a a (entered memory)
-        (entered memory) (linked_entry vs a memory e) n t proper
+        general.comes_from c m q f (keeps_marks s) is_code Suit Linked (serves Suit (λ x y g. subst (Suit x) g (suits x))) a a (entry_around memory)
+        (entry_around memory) (linked_entry vs a memory e) n t proper
 
   -- The function with its reloads and spills does what it did.
-  pub does_reloaded : Does m (reloaded_by s m)
+  pub does_reloaded : MachSimulation m (reloaded_by s m)
   does_reloaded = λ c.
       begins_at c m q refl
       (λ arguments memory a t n e proper.

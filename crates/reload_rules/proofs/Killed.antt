@@ -6,7 +6,7 @@ use Rattle.bs_words.specs.declared.types.Loc.{Loc}
 use Rattle.bs_words.specs.declared.types.Loc.TheVariants as loc
 use Rattle.mach_ir.specs.Meaning.{Destroyed, Nothing, Temporaries, Everything, is_destroyed, same_colour, is_at_one_of, killed_among, killed_by}
 use Rattle.mach_ir.specs.declared.reg.Reg.{Reg}
-use Rattle.reload_rules.specs.Reloaded.{is_in_slot, is_renewed, fresh, number_after, renewed}
+use Rattle.reload_rules.specs.Reloaded.{is_in_slot, is_renewed, fresh_stand_in, next_reload_number, renewed}
 
 open_apart : (l : Loc) → same_colour l loc.Unset ≡ false
 open_apart (loc.Machine n) = refl
@@ -27,10 +27,10 @@ renewed_slot false r e = absurd (false≢true e)
 same_at : (l : Loc) (b : Bool) (n : ℕ) (rs : List Reg) → is_at_one_of l (renewed b n rs) ≡ is_at_one_of l rs
 same_at l b n [] = refl
 same_at l b n (r ∷ rs) =
-    ap (λ t. t || is_at_one_of l (renewed b (number_after b n r) rs)) (by (is_renewed b r) refl)
-    ∙ ap (λ t. same_colour l r.loc || t) (same_at l b (number_after b n r) rs)
+    ap (λ t. t || is_at_one_of l (renewed b (next_reload_number b n r) rs)) (by (is_renewed b r) refl)
+    ∙ ap (λ t. same_colour l r.loc || t) (same_at l b (next_reload_number b n r) rs)
   where
-    by : (t : Bool) → is_renewed b r ≡ t → same_colour l (cond t (fresh n r) r).loc ≡ same_colour l r.loc
+    by : (t : Bool) → is_renewed b r ≡ t → same_colour l (cond t (fresh_stand_in n r) r).loc ≡ same_colour l r.loc
     by true t = open_apart l ∙ sym (slot_apart l r.loc (renewed_slot b r t))
     by false t = refl
 

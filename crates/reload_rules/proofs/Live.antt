@@ -8,7 +8,7 @@ use Rattle.mach_ir.specs.Acts.{Target, On, At}
 use Rattle.mach_ir.specs.Formed.{WellFormed}
 use Rattle.mach_ir.specs.Meaning.{after_label, from_handler, code_at, tries_at, tries_past, destroyed_by, killed}
 use Rattle.mach_ir.specs.Placed.{WellPlaced}
-use Rattle.mach_ir.specs.Walks.{Among, first, later, OneOf, targets, may_raise, goes, raises, Writes, Live, read, on, aside, LiveAcross, across_step, across_raise, Stands, IsRegister}
+use Rattle.mach_ir.specs.Walks.{AmongRegisters, first, later, OneOf, targets, may_raise, goes, raises, Writes, Live, read, on, aside, LiveAcross, across_step, across_raise, StandsAsInstr, IsRegister}
 use Rattle.mach_ir.specs.declared.op.CopyKind.TheVariants as copy
 use Rattle.mach_ir.specs.declared.reg.Reg.{Reg}
 use Rattle.mach_ir.specs.declared.mach.Instr.{Instr}
@@ -18,9 +18,9 @@ use Rattle.mach_laws.proofs.Places.{label_expand, handler_expand, ending_next, e
 use Rattle.mach_laws.proofs.Among.{left_among, right_among, split_among, number_among, among_of}
 use Rattle.mach_laws.proofs.Raised.{label_silent}
 use Rattle.mach_laws.proofs.Walking.{only_on}
-use Rattle.spill_rules.specs.Spilled.{copied}
+use Rattle.spill_rules.specs.Spilled.{copy_instruction}
 use Rattle.bs_words.proofs.Lists.{none_in, in_cons}
-use Rattle.reload_rules.specs.Reloaded.{reads_registers, writes_registers, is_renewed, fresh, number_after, number_past, reloads, spills, results_from, past_instr, renewed_instr}
+use Rattle.reload_rules.specs.Reloaded.{reads_registers, writes_registers, is_renewed, fresh_stand_in, next_reload_number, number_past, reloads, spills, results_from, past_instr, renewed_instr}
 use Rattle.reload_rules.proofs.Killed.{same_killed}
 use Rattle.reload_rules.proofs.Numbers.{IsFor, for_this, for_other, WasIn, was_own, was_fresh, after_true, after_false, for_from, for_below, for_in, was_in, own_stays, for_stands}
 use Rattle.reload_rules.proofs.Text.{laid_instr, keeps_marks}
@@ -28,10 +28,10 @@ use Rattle.reload_rules.proofs.Text.{laid_instr, keeps_marks}
 -- Numbers of fresh registers, by how many instructions come after: above those of all registers, and rising.
 pub record IsNumbering (m : Mach) (s : ℕ → ℕ) (free top : ℕ) : Type 0 where
   pub above : (r : Reg) → IsRegister m r → r.number < free
-  pub from : (i : Instr) (next : List Instr) → Stands i next m.code → free ≤ s (length next)
-  pub rises : (i j : Instr) (next rest : List Instr) → Stands i next m.code → Stands j rest next →
+  pub from : (i : Instr) (next : List Instr) → StandsAsInstr i next m.code → free ≤ s (length next)
+  pub rises : (i j : Instr) (next rest : List Instr) → StandsAsInstr i next m.code → StandsAsInstr j rest next →
       past_instr (s (length next)) i ≤ s (length rest)
-  pub below_top : (i : Instr) (next : List Instr) → Stands i next m.code → past_instr (s (length next)) i ≤ top
+  pub below_top : (i : Instr) (next : List Instr) → StandsAsInstr i next m.code → past_instr (s (length next)) i ≤ top
 
 abbrev pub reloaded_by : (ℕ → ℕ) → Mach → Mach
 reloaded_by s m = record m { code = expand (laid_instr s) m.code }
@@ -73,13 +73,13 @@ module _ (m : Mach) (s : ℕ → ℕ) (free top : ℕ) (formed : WellFormed m) (
     begins : {i : Instr} {next ys : List Instr} → Ending (i ∷ next) m.code → Laid (Reading i next (operands_at next) i.args) ys →
         Laid (Before (i ∷ next)) ys
     reload : {i : Instr} {next ys : List Instr} {n : ℕ} {rs : List Reg} (r : Reg) → Ending (i ∷ next) m.code → ForOperand i next n r →
-        Laid (Reading i next (suc n) rs) ys → Laid (Reading i next n (r ∷ rs)) (copied copy.Reload r (fresh n r) ∷ ys)
+        Laid (Reading i next (suc n) rs) ys → Laid (Reading i next n (r ∷ rs)) (copy_instruction copy.Reload r (fresh_stand_in n r) ∷ ys)
     passes_operand : {i : Instr} {next ys : List Instr} {n : ℕ} {rs : List Reg} (r : Reg) → Laid (Reading i next n rs) ys →
         Laid (Reading i next n (r ∷ rs)) ys
     main : {i : Instr} {next ys : List Instr} → Ending (i ∷ next) m.code → Laid (Storing i next (results_at i next) i.results) ys →
         Laid (Reading i next (results_at i next) []) (main_of i next ∷ ys)
     spill : {i : Instr} {next ys : List Instr} {n : ℕ} {rs : List Reg} (r : Reg) → Ending (i ∷ next) m.code → ForResult i next n r →
-        Laid (Storing i next (suc n) rs) ys → Laid (Storing i next n (r ∷ rs)) (copied copy.Spill (fresh n r) r ∷ ys)
+        Laid (Storing i next (suc n) rs) ys → Laid (Storing i next n (r ∷ rs)) (copy_instruction copy.Spill (fresh_stand_in n r) r ∷ ys)
     passes_result : {i : Instr} {next ys : List Instr} {n : ℕ} {rs : List Reg} (r : Reg) → is_renewed (writes_registers i.op) r ≡ false →
         Laid (Storing i next n rs) ys → Laid (Storing i next n (r ∷ rs)) ys
     ends : {i : Instr} {next ys : List Instr} {n : ℕ} → Laid (Before next) ys → Laid (Storing i next n []) ys
@@ -93,17 +93,17 @@ module _ (m : Mach) (s : ℕ → ℕ) (free top : ℕ) (formed : WellFormed m) (
   abbrev pub LastResults : Instr → List Instr → ℕ → List Reg → Type 0
   LastResults i next n rs = (x : ℕ) (k : Reg) → IsFor (writes_registers i.op) n rs x k → ForResult i next x k
 
-  last_after : (b : Bool) (n k : ℕ) (r : Reg) (rs : List Reg) → number_after b n r ≡ k → (x : ℕ) (w : Reg) → IsFor b k rs x w →
+  last_after : (b : Bool) (n k : ℕ) (r : Reg) (rs : List Reg) → next_reload_number b n r ≡ k → (x : ℕ) (w : Reg) → IsFor b k rs x w →
       IsFor b n (r ∷ rs) x w
   last_after b n k r rs e x w h = for_other (subst (λ k. IsFor b k rs x w) (sym e) h)
 
   pub fewer_operands : (i : Instr) (next : List Instr) (n k : ℕ) (r : Reg) (rs : List Reg) → LastOperands i next n (r ∷ rs) →
-      number_after (reads_registers i.op) n r ≡ k → LastOperands i next k rs
+      next_reload_number (reads_registers i.op) n r ≡ k → LastOperands i next k rs
   fewer_operands i next n k r rs h e =
       (λ x w g. h.0 x w (last_after (reads_registers i.op) n k r rs e x w g), ap (λ k. number_past (reads_registers i.op) k rs) (sym e) ∙ h.1)
 
   pub fewer_results : (i : Instr) (next : List Instr) (n k : ℕ) (r : Reg) (rs : List Reg) → LastResults i next n (r ∷ rs) →
-      number_after (writes_registers i.op) n r ≡ k → LastResults i next k rs
+      next_reload_number (writes_registers i.op) n r ≡ k → LastResults i next k rs
   fewer_results i next n k r rs h e = λ x w g. h x w (last_after (writes_registers i.op) n k r rs e x w g)
 
   pub laid_results : (i : Instr) (next : List Instr) (n : ℕ) (rs : List Reg) (ys : List Instr) → Ending (i ∷ next) m.code →
@@ -114,9 +114,9 @@ module _ (m : Mach) (s : ℕ → ℕ) (free top : ℕ) (formed : WellFormed m) (
       (λ k e. laid_results i next k rs ys ending (fewer_results i next n k r rs known e) h)
     where
       by : (t : Bool) → is_renewed (writes_registers i.op) r ≡ t →
-          ((k : ℕ) → number_after (writes_registers i.op) n r ≡ k → Laid (Storing i next k rs) (spills (writes_registers i.op) k rs ++ ys)) →
+          ((k : ℕ) → next_reload_number (writes_registers i.op) n r ≡ k → Laid (Storing i next k rs) (spills (writes_registers i.op) k rs ++ ys)) →
           Laid (Storing i next n (r ∷ rs))
-          (cond t (copied copy.Spill (fresh n r) r ∷ spills (writes_registers i.op) (suc n) rs) (spills (writes_registers i.op) n rs) ++ ys)
+          (cond t (copy_instruction copy.Spill (fresh_stand_in n r) r ∷ spills (writes_registers i.op) (suc n) rs) (spills (writes_registers i.op) n rs) ++ ys)
       by true t more = spill r ending (known n r (for_this t)) (more (suc n) (after_true (writes_registers i.op) n r t))
       by false t more = passes_result r t (more n (after_false (writes_registers i.op) n r t))
 
@@ -129,9 +129,9 @@ module _ (m : Mach) (s : ℕ → ℕ) (free top : ℕ) (formed : WellFormed m) (
       (λ k e. laid_operands i next k rs ys ending (fewer_operands i next n k r rs known e) h)
     where
       by : (t : Bool) → is_renewed (reads_registers i.op) r ≡ t →
-          ((k : ℕ) → number_after (reads_registers i.op) n r ≡ k → Laid (Reading i next k rs) (reloads (reads_registers i.op) k rs ++ ys)) →
+          ((k : ℕ) → next_reload_number (reads_registers i.op) n r ≡ k → Laid (Reading i next k rs) (reloads (reads_registers i.op) k rs ++ ys)) →
           Laid (Reading i next n (r ∷ rs))
-          (cond t (copied copy.Reload r (fresh n r) ∷ reloads (reads_registers i.op) (suc n) rs) (reloads (reads_registers i.op) n rs) ++ ys)
+          (cond t (copy_instruction copy.Reload r (fresh_stand_in n r) ∷ reloads (reads_registers i.op) (suc n) rs) (reloads (reads_registers i.op) n rs) ++ ys)
       by true t more = reload r ending (known.0 n r (for_this t)) (more (suc n) (after_true (reads_registers i.op) n r t))
       by false t more = passes_operand r (more n (after_false (reads_registers i.op) n r t))
 
@@ -201,20 +201,20 @@ module _ (m : Mach) (s : ℕ → ℕ) (free top : ℕ) (formed : WellFormed m) (
       (λ t.
       free
       (left_among (main_of i next).results (killed q (main_of i next))
-      (subst (λ x. Among x (main_of i next).results) r.2
+      (subst (λ x. AmongRegisters x (main_of i next).results) r.2
       (among_of r.0 (main_of i next).results (own_stays (writes_registers i.op) (results_at i next) i.results r.0 r.1 t)))))
       (cases_Bool (is_renewed (writes_registers i.op) r.0)))
-      (λ a. free (right_among (main_of i next).results (killed q (main_of i next)) (subst (Among x) (sym (killed_same i next)) a)))
+      (λ a. free (right_among (main_of i next).results (killed q (main_of i next)) (subst (AmongRegisters x) (sym (killed_same i next)) a)))
       (split_among x i.results (killed m i) w)
 
   pub writes_fresh : (x : ℕ) (i : Instr) (next : List Instr) (w : Reg) → ForResult i next x w → Writes q (main_of i next) x
   writes_fresh x i next w h =
       left_among (main_of i next).results (killed q (main_of i next))
-      (among_of (fresh x w) (main_of i next).results (for_stands (writes_registers i.op) h))
+      (among_of (fresh_stand_in x w) (main_of i next).results (for_stands (writes_registers i.op) h))
 
   -- ---- one step
 
-  one_number : {x : ℕ} (r : Reg) → Among x (r ∷ []) → r.number ≡ x
+  one_number : {x : ℕ} (r : Reg) → AmongRegisters x (r ∷ []) → r.number ≡ x
   one_number r (first e) = e
   one_number r (later a) = elim a [ ]
 
@@ -224,18 +224,18 @@ module _ (m : Mach) (s : ℕ → ℕ) (free top : ℕ) (formed : WellFormed m) (
   passed_by x i next n r rs e (inr h) =
       inr (h.0, more_spilled i x r rs (λ t g. both_ways (is_renewed (writes_registers i.op) r) e t) h.1)
 
-  read_case : {x : ℕ} {j : Instr} {ys : List Instr} (z : Stage) → Laid z (j ∷ ys) → Among x j.args → Says x z
+  read_case : {x : ℕ} {j : Instr} {ys : List Instr} (z : Stage) → Laid z (j ∷ ys) → AmongRegisters x j.args → Says x z
   read_case {x} z (begins {i = i} {next = next} ending h) a = narrowed x i next (read_case (Reading i next (operands_at next) i.args) h a)
   read_case z (reload {i = i} r ending g h) a =
       inl
       (read
-      (subst (λ n. Among n i.args) (one_number r a) (among_of r i.args (for_in (reads_registers i.op) g))))
+      (subst (λ n. AmongRegisters n i.args) (one_number r a) (among_of r i.args (for_in (reads_registers i.op) g))))
   read_case z (passes_operand {i = i} {next = next} {n = n} {rs = rs} r h) a = read_case (Reading i next n rs) h a
   read_case {x} z (main {i = i} {next = next} ending h) a = by (number_among (main_of i next).args a)
     where
       of : (k : Reg) → k.number ≡ x → WasIn (reads_registers i.op) (operands_at next) i.args k →
           Live m x (i ∷ next) ⊎ FreshOperand i next (results_at i next) x
-      of k e (was_own c t) = inl (read (subst (λ n. Among n i.args) e (among_of k i.args c)))
+      of k e (was_own c t) = inl (read (subst (λ n. AmongRegisters n i.args) e (among_of k i.args c)))
       of k e (was_fresh y w g same) =
           let number : y ≡ x = ap (λ (r : Reg). r.number) same ∙ e in
           inr
@@ -245,7 +245,7 @@ module _ (m : Mach) (s : ℕ → ℕ) (free top : ℕ) (formed : WellFormed m) (
       by : (k : Reg) × Contains (main_of i next).args k × (k.number ≡ x) → Live m x (i ∷ next) ⊎ FreshOperand i next (results_at i next) x
       by k = of k.0 k.2 (was_in (reads_registers i.op) (operands_at next) i.args k.0 k.1)
   read_case {x} z (spill {i = i} {next = next} {n = n} r ending g h) a =
-      inl (subst (FreshResult i next n) (one_number (fresh n r) a) (is_result r g (omega arith)))
+      inl (subst (FreshResult i next n) (one_number (fresh_stand_in n r) a) (is_result r g (omega arith)))
   read_case {x} z (passes_result {i = i} {next = next} {n = n} {rs = rs} r e h) a =
       passed_by x i next n r rs e (read_case (Storing i next n rs) h a)
   read_case {x} z (ends {i = i} {next = next} h) a = inr (read_case (Before next) h a, nothing_spilled i x)
@@ -277,7 +277,7 @@ module _ (m : Mach) (s : ℕ → ℕ) (free top : ℕ) (formed : WellFormed m) (
           ⊎_elim
           (λ e.
           absurd
-          (w (left_among (fresh n r ∷ []) (killed q (copied copy.Reload r (fresh n r))) (first (eqb-true n x e)))))
+          (w (left_among (fresh_stand_in n r ∷ []) (killed q (copy_instruction copy.Reload r (fresh_stand_in n r))) (first (eqb-true n x e)))))
           (λ e.
           let ne : (n ≡ x → ⊥) = λ d. both_ways (nat_eq n x) e (eq-eqb n x d) in
           inr (is_operand k a (less n x lt ne)))
@@ -305,7 +305,7 @@ module _ (m : Mach) (s : ℕ → ℕ) (free top : ℕ) (formed : WellFormed m) (
       by (inr a) =
           inr (
             a.0,
-            more_spilled i x r rs (λ t e. w (left_among (r ∷ []) (killed q (copied copy.Spill (fresh n r) r)) (first e))) a.1,
+            more_spilled i x r rs (λ t e. w (left_among (r ∷ []) (killed q (copy_instruction copy.Spill (fresh_stand_in n r) r)) (first e))) a.1,
           )
   on_case {x} z t (passes_result {i = i} {next = next} {n = n} {rs = rs} r e h) w o ih =
       passed_by x i next n r rs e (on_case (Storing i next n rs) t h w o ih)

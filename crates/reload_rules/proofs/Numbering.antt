@@ -2,7 +2,7 @@
 use Rattle.std.proofs.Common.{◌≡◌, ℕ, ◌+◌, ◌<◌, ◌≤◌, Bool, true, false, cond, List, [], ◌∷◌, ◌++◌, length, refl, sym, ap, ◌∙◌, subst, arith}
 use Rattle.std.proofs.lemmas.Bool.{eq-eqb, eqb-true}
 use Rattle.std.specs.Prelude.{nat_eq}
-use Rattle.mach_ir.specs.Walks.{Stands, here, below, IsRegister}
+use Rattle.mach_ir.specs.Walks.{StandsAsInstr, here, below, IsRegister}
 use Rattle.mach_ir.specs.declared.reg.Reg.{Reg}
 use Rattle.mach_ir.specs.declared.mach.Instr.{Instr}
 use Rattle.mach_ir.specs.declared.mach.Mach.{Mach}
@@ -38,7 +38,7 @@ at_tail i is n k lt = by (nat_eq k (length is)) refl
     by true e = absurd (not_equal k (length is) lt (eqb-true k (length is) e))
     by false e = refl
 
-from_start : (code : List Instr) (n : ℕ) (i : Instr) (next : List Instr) → Stands i next code → n ≤ start_at code n (length next)
+from_start : (code : List Instr) (n : ℕ) (i : Instr) (next : List Instr) → StandsAsInstr i next code → n ≤ start_at code n (length next)
 from_start (j ∷ is) n i next here = let e = at_head i is n in omega (arith, e)
 from_start (j ∷ is) n i next (below s) =
     let e = at_tail j is n (length next) (shorter s) in
@@ -46,7 +46,7 @@ from_start (j ∷ is) n i next (below s) =
     let y = instr_rises n j in omega (arith, e, x, y)
 from_start [] n i next s = elim s [ ]
 
-rises_past : (code : List Instr) (n : ℕ) (i j : Instr) (next rest : List Instr) → Stands i next code → Stands j rest next →
+rises_past : (code : List Instr) (n : ℕ) (i j : Instr) (next rest : List Instr) → StandsAsInstr i next code → StandsAsInstr j rest next →
     past_instr (start_at code n (length next)) i ≤ start_at code n (length rest)
 rises_past (k ∷ is) n i j next rest here t =
     let x = from_start is (past_instr n i) j rest t in
@@ -60,7 +60,7 @@ rises_past (k ∷ is) n i j next rest (below s) t =
     (sym (at_tail k is n (length rest) (omega (arith, less, lt)))) (rises_past is (past_instr n k) i j next rest s t))
 rises_past [] n i j next rest s t = elim s [ ]
 
-below_all : (code : List Instr) (n : ℕ) (i : Instr) (next : List Instr) → Stands i next code →
+below_all : (code : List Instr) (n : ℕ) (i : Instr) (next : List Instr) → StandsAsInstr i next code →
     past_instr (start_at code n (length next)) i ≤ n + other_operands code
 below_all (k ∷ is) n i next here =
     let x = few_past n i in

@@ -8,11 +8,11 @@ use Rattle.bs_words.specs.declared.types.Loc.{Loc}
 use Rattle.bs_words.specs.declared.types.Loc.TheVariants as loc
 use Rattle.mach_ir.specs.Acts.{Target, On, At}
 use Rattle.mach_ir.specs.Forms.{HasForm, copies, constant, symbol, operates, loads, stores, allocates, calls, tail_calls, calls_out, checks, raises, returns}
-use Rattle.mach_ir.specs.Formed.{comps, MarkHasForm, exit_form, if_form, else_form, switch_form, case_form, catch_form, with_form, try_form, leave_form, handler_form, end_form, IsFormed, formed_op, formed_mark, WellFormed}
+use Rattle.mach_ir.specs.Formed.{comps, MarkHasForm, exit_form, if_form, else_form, switch_form, case_form, catch_form, with_form, try_form, leave_form, handler_form, end_form, IsFormedInstruction, formed_op, formed_mark, WellFormed}
 use Rattle.mach_ir.specs.Meaning.{code_at, killed}
-use Rattle.mach_ir.specs.Placed.{IsPlaced, MayShare, WellPlaced, colours}
+use Rattle.mach_ir.specs.Placed.{HasColourOrSlot, MayShare, WellPlaced, colour_numbers}
 use Rattle.mach_ir.specs.Seats.{Seats, Anywhere, InOrder, AfterFirst, AreSeated, anywhere, in_order, after_first, places_of, mach_operand_seats, mach_result_seats, Seated}
-use Rattle.mach_ir.specs.Walks.{Among, first, later, OneOf, this, other, targets, goes, Live, LiveAfter, after_step, Writes, IsMove, is_move, Stands, IsRegister, is_colour, Meets, at_write, at_params, Joined, one_way, other_way}
+use Rattle.mach_ir.specs.Walks.{AmongRegisters, first, later, OneOf, this, other, targets, goes, Live, LiveAfter, after_step, Writes, IsMove, is_move, StandsAsInstr, IsRegister, is_colour, Meets, at_write, at_params, Joined, one_way, other_way}
 use Rattle.mach_ir.specs.declared.op.Op.{Op}
 use Rattle.mach_ir.specs.declared.op.CopyKind.TheVariants as copy
 use Rattle.mach_ir.specs.declared.reg.Reg.{Reg}
@@ -27,9 +27,9 @@ use Rattle.places_rules.specs.Places.{ColoursLow}
 use Rattle.places_rules.proofs.Open.{machine_open}
 use Rattle.places_rules.proofs.Whole.{AreRegisters, FixedSeats, fixed_in_order, fixed_after_first, fixed_operands, fixed_results, tail_fixed, head_fixed}
 use Rattle.places_rules.proofs.Walked.{colour_place}
-use Rattle.spill_rules.specs.Spilled.{copied}
+use Rattle.spill_rules.specs.Spilled.{copy_instruction}
 use Rattle.spill_rules.proofs.Chosen.{no_result}
-use Rattle.reload_rules.specs.Reloaded.{reads_registers, writes_registers, is_in_slot, is_renewed, fresh, number_after, renewed}
+use Rattle.reload_rules.specs.Reloaded.{reads_registers, writes_registers, is_in_slot, is_renewed, fresh_stand_in, next_reload_number, renewed}
 use Rattle.reload_rules.proofs.Kept.{laid_after}
 use Rattle.reload_rules.proofs.Live.{IsNumbering, reloaded_by, ForResult, Storing, Laid, FreshResult, is_result, killed_same, live_back, live_before}
 use Rattle.reload_rules.proofs.Numbers.{WasIn, was_own, was_fresh, for_in, for_slot, was_in}
@@ -67,7 +67,7 @@ mark_goes g cs ds leave_form = inl refl
 mark_goes g cs ds handler_form = inr this
 mark_goes g cs ds end_form = inl refl
 
-results_go_on : {i : Instr} (r : Reg) → IsFormed i → Contains i.results r → OneOf On (targets i.op)
+results_go_on : {i : Instr} (r : Reg) → IsFormedInstruction i → Contains i.results r → OneOf On (targets i.op)
 results_go_on r (formed_op {f = g} {args = args} {results = results} h) c =
     ⊎_elim (λ e. absurd (no_result results r e c)) (λ o. o) (op_goes g (comps args) (comps results) h)
 results_go_on r (formed_mark {f = g} {args = args} {results = results} h) c =
@@ -84,8 +84,8 @@ same_places : (b : Bool) (n : ℕ) (rs : List Reg) (more : List Loc) → AreRegi
 same_places b n [] more h = refl
 same_places b n (r ∷ rs) more h =
     let k = head_fixed h in
-    ap (λ t. (cond t (fresh n r) r).loc ∷ places_of (renewed b (number_after b n r) rs)) (not_renewed b r k.0 k.1)
-    ∙ ap (λ ls. r.loc ∷ ls) (same_places b (number_after b n r) rs more (tail_fixed h))
+    ap (λ t. (cond t (fresh_stand_in n r) r).loc ∷ places_of (renewed b (next_reload_number b n r) rs)) (not_renewed b r k.0 k.1)
+    ∙ ap (λ ls. r.loc ∷ ls) (same_places b (next_reload_number b n r) rs more (tail_fixed h))
 
 still_seated : (z : Seats) (b : Bool) (n : ℕ) (rs : List Reg) → FixedSeats z → AreSeated z (places_of rs) →
     AreSeated z (places_of (renewed b n rs))
@@ -94,7 +94,7 @@ still_seated (InOrder places) b n rs (fixed_in_order f) (in_order more e) =
     in_order more (ap (λ ls. ls ++ more) (same_places b n rs more (subst AreRegisters (sym e) f)) ∙ e)
 still_seated (AfterFirst places) b n [] f h = elim h [ ]
 still_seated (AfterFirst places) b n (r ∷ rs) (fixed_after_first f) (after_first more e) =
-    after_first more (ap (λ ls. ls ++ more) (same_places b (number_after b n r) rs more (subst AreRegisters (sym e) f)) ∙ e)
+    after_first more (ap (λ ls. ls ++ more) (same_places b (next_reload_number b n r) rs more (subst AreRegisters (sym e) f)) ∙ e)
 
 module _ (m : Mach) (s : ℕ → ℕ) (free top : ℕ) (formed : WellFormed m) (placed : WellPlaced m) (is : IsNumbering m s free top) where
   abbrev q : Mach
@@ -109,36 +109,36 @@ module _ (m : Mach) (s : ℕ → ℕ) (free top : ℕ) (formed : WellFormed m) (
   abbrev Result : Instr → List Instr → ℕ → Reg → Type 0
   Result = ForResult m s free top formed placed is
 
-  form_of : {i : Instr} {next : List Instr} → Stands i next m.code → IsFormed i
-  form_of {i} t = All-contains IsFormed m.code i formed.instrs (contains_of t)
+  form_of : {i : Instr} {next : List Instr} → StandsAsInstr i next m.code → IsFormedInstruction i
+  form_of {i} t = All-contains IsFormedInstruction m.code i formed.instrs (contains_of t)
 
-  only_number : {x : ℕ} (r : Reg) → Among x (r ∷ []) → r.number ≡ x
+  only_number : {x : ℕ} (r : Reg) → AmongRegisters x (r ∷ []) → r.number ≡ x
   only_number r (first e) = e
   only_number r (later a) = elim a [ ]
 
   -- ---- the graph
 
-  result_high : {i : Instr} {next : List Instr} {n x : ℕ} → Stands i next m.code → x < free → FreshResult m s free top formed placed is i next n x → ⊥
+  result_high : {i : Instr} {next : List Instr} {n x : ℕ} → StandsAsInstr i next m.code → x < free → FreshResult m s free top formed placed is i next n x → ⊥
   result_high t lt (is_result w g le) =
       let high = made_free m s free top formed placed is t (for_result g) in omega (arith, lt, high)
 
   -- what it writes over fresh registers, of those of the first, it wrote
-  writes_back : (x : ℕ) (i : Instr) (next : List Instr) → Stands i next m.code → x < free → Writes q (over i next) x → Writes m i x
+  writes_back : (x : ℕ) (i : Instr) (next : List Instr) → StandsAsInstr i next m.code → x < free → Writes q (over i next) x → Writes m i x
   writes_back x i next t lt w =
       ⊎_elim
       (λ a.
       let k = number_among (over i next).results a in
       of k.0 k.2 (was_in (writes_registers i.op) (first_result m s free top formed placed is i next) i.results k.0 k.1))
-      (λ a. right_among i.results (killed m i) (subst (Among x) (killed_same m s free top formed placed is i next) a))
+      (λ a. right_among i.results (killed m i) (subst (AmongRegisters x) (killed_same m s free top formed placed is i next) a))
       (split_among x (over i next).results (killed q (over i next)) w)
     where
       of : (k : Reg) → k.number ≡ x → WasIn (writes_registers i.op) (first_result m s free top formed placed is i next) i.results k → Writes m i x
-      of k e (was_own c u) = left_among i.results (killed m i) (subst (λ n. Among n i.results) e (among_of k i.results c))
+      of k e (was_own c u) = left_among i.results (killed m i) (subst (λ n. AmongRegisters n i.results) e (among_of k i.results c))
       of k e (was_fresh y w g h) =
           let high = made_free m s free top formed placed is t (for_result g) in
           let number : y ≡ k.number = ap (λ (r : Reg). r.number) h in absurd (omega (arith, lt, high, number, e))
 
-  after_main : (x : ℕ) (i : Instr) (next ys : List Instr) → Stands i next m.code → x < free →
+  after_main : (x : ℕ) (i : Instr) (next ys : List Instr) → StandsAsInstr i next m.code → x < free →
       Laid m s free top formed placed is (Storing i next (first_result m s free top formed placed is i next) i.results) ys →
       LiveAfter q x (over i next) ys → LiveAfter m x i next
   after_main x i next ys t lt laid (after_step (goes to o) v) = by to o v
@@ -152,8 +152,8 @@ module _ (m : Mach) (s : ℕ → ℕ) (free top : ℕ) (formed : WellFormed m) (
           (live_before m s free top formed placed is (ending_label l m.code)
           (subst (Live q x) (label_expand f (keeps_marks s) l m.code) v))
 
-  after_copy : (x n : ℕ) (r : Reg) (i : Instr) (next ys : List Instr) (rs : List Reg) → Stands i next m.code → x < free →
-      Laid m s free top formed placed is (Storing i next (suc n) rs) ys → LiveAfter q x (copied copy.Spill (fresh n r) r) ys → Live m x next
+  after_copy : (x n : ℕ) (r : Reg) (i : Instr) (next ys : List Instr) (rs : List Reg) → StandsAsInstr i next m.code → x < free →
+      Laid m s free top formed placed is (Storing i next (suc n) rs) ys → LiveAfter q x (copy_instruction copy.Spill (fresh_stand_in n r) r) ys → Live m x next
   after_copy x n r i next ys rs t lt laid (after_step (goes to o) v) = by to o v
     where
       by : (to : Target) → OneOf to (On ∷ []) → Live q x (code_at q.code ys to) → Live m x next
@@ -174,7 +174,7 @@ module _ (m : Mach) (s : ℕ → ℕ) (free top : ℕ) (formed : WellFormed m) (
     where
       by : Part m s free top formed placed is j ys → Meets m n k
       by (part_reload i next x r t g e) =
-          let number = only_number (fresh x r) (subst (λ j. Writes q j n) (sym e) w) in
+          let number = only_number (fresh_stand_in x r) (subst (λ j. Writes q j n) (sym e) w) in
           let high = made_free m s free top formed placed is t (for_operand g) in absurd (omega (arith, low, high, number))
       by (part_main i next t e h) =
           at_write i next t (writes_back n i next t low (subst (λ j. Writes q j n) (sym e) w))
@@ -186,7 +186,7 @@ module _ (m : Mach) (s : ℕ → ℕ) (free top : ℕ) (formed : WellFormed m) (
       by (part_spill i next x r rs t g e l) =
           let number = only_number r (subst (λ j. Writes q j n) (sym e) w) in
           at_write i next t
-          (left_among i.results (killed m i) (subst (λ n. Among n i.results) number (among_of r i.results (for_in (writes_registers i.op) g))))
+          (left_among i.results (killed m i) (subst (λ n. AmongRegisters n i.results) number (among_of r i.results (for_in (writes_registers i.op) g))))
           (after_step (goes On (results_go_on r (form_of t) (for_in (writes_registers i.op) g)))
           (after_copy k x r i next ys rs t lt l (subst (λ j. LiveAfter q k j ys) (sym e) v)))
           (λ move. move_none next move g)
@@ -204,7 +204,7 @@ module _ (m : Mach) (s : ℕ → ℕ) (free top : ℕ) (formed : WellFormed m) (
   old_if_placed r (is_old a) h = a
   old_if_placed r (is_new i next x w t g e) h = absurd (h (sym (ap (λ (r : Reg). r.loc) e)))
 
-  place_of : (r : Reg) → WasRegister m s free top formed placed is r → (r.loc ≡ loc.Unset) ⊎ IsPlaced r
+  place_of : (r : Reg) → WasRegister m s free top formed placed is r → (r.loc ≡ loc.Unset) ⊎ HasColourOrSlot r
   place_of r (is_old a) = (placed.agree).places r a
   place_of r (is_new i next x w t g e) = inl (sym (ap (λ (r : Reg). r.loc) e))
 

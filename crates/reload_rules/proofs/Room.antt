@@ -1,7 +1,7 @@
 -- Bounds on a function that gets copies.
 use Rattle.std.proofs.Common.{ℕ, ◌+◌, ◌*◌, ◌≤◌, arith}
 use Rattle.liveness.proofs.Counting.{countable_of}
-use Rattle.mach_ir.specs.Sizes.{Size, HasSize, IsSmall, HasRoom, IsCountable}
+use Rattle.mach_ir.specs.Sizes.{Size, HasSize, IsSmallSize, HasRoom, IsCountable}
 use Rattle.mach_ir.specs.declared.mach.Mach.{Mach}
 use Rattle.mach_laws.proofs.Grows.{within_more}
 use Rattle.reload_rules.specs.Kept.{with_copies}
@@ -30,7 +30,7 @@ with_both {m} s n k both le h = within_more h (once s.instrs n k both le) (doubl
     doubled a n k both le = omega (arith, le)
 
 -- With fewer copies bounds are small where they are with more.
-pub small_both : (s : Size) (n k both : ℕ) → n + k ≤ both → IsSmall (with_copies both s) → IsSmall (with_copies k (with_copies n s))
+pub small_both : (s : Size) (n k both : ℕ) → n + k ≤ both → IsSmallSize (with_copies both s) → IsSmallSize (with_copies k (with_copies n s))
 small_both s n k both le h =
     let places = h.places in
     let operands = h.operands in

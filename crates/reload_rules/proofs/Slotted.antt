@@ -6,12 +6,12 @@ use Rattle.bs_words.specs.declared.types.Loc.{Loc}
 use Rattle.bs_words.specs.declared.types.Loc.TheVariants as loc
 use Rattle.bs_words.proofs.Lists.{first_in, later_in}
 use Rattle.mach_ir.specs.Formed.{WellFormed}
-use Rattle.mach_ir.specs.Placed.{Colouring, IsColouring, IsPlaced, in_colour, in_slot, MayShare, WellPlaced, colours}
+use Rattle.mach_ir.specs.Placed.{Colouring, IsProperColouring, HasColourOrSlot, in_colour, in_slot, MayShare, WellPlaced, colour_numbers}
 use Rattle.mach_ir.specs.Walks.{InCode, in_args, in_results, further, IsRegister, is_in_code, Joined}
 use Rattle.mach_ir.specs.declared.reg.Reg.{Reg}
 use Rattle.mach_ir.specs.declared.mach.Instr.{Instr}
 use Rattle.mach_ir.specs.declared.mach.Mach.{Mach}
-use Rattle.places_rules.specs.Places.{Placing, IsPlacing, ColoursLow, placed, all_placed, placed_code}
+use Rattle.places_rules.specs.Places.{LocationAssignment, IsProperAssignment, ColoursLow, located_register, all_placed, placed_code}
 use Rattle.places_rules.proofs.Open.{slot_open, machine_slot}
 use Rattle.places_rules.proofs.Lists.{was}
 use Rattle.places_rules.proofs.Text.{was_register}
@@ -32,7 +32,7 @@ put_of place r = by (place r.number) refl
     by loc.Unset e = as_was (ap is_in_slot e) (ap (slot_or r.loc) e)
 
 module _ (m : Mach) (place : Colouring) (formed : WellFormed m) (well : WellPlaced m)
-    (colouring : IsColouring (IsRegister m) (Joined m) place) where
+    (colouring : IsProperColouring (IsRegister m) (Joined m) place) where
   -- one that is not open is where the colouring has it
   place_same : (r : Reg) → IsRegister m r → to_slots place r ≢ loc.Unset → place r.number ≡ to_slots place r
   place_same r i ne = by (put_of place r)
@@ -48,30 +48,30 @@ module _ (m : Mach) (place : Colouring) (formed : WellFormed m) (well : WellPlac
       by (to_slot k e h) = ⊎_elim inl (λ p. inr (h ∙ sym e ∙ p)) (colouring.fixed r i)
       by (as_was t h) = inr h
 
-  moved : (r : Reg) (l : Loc) → to_slots place r ≡ l → IsPlaced (record r { loc = l }) → IsPlaced (placed (to_slots place) r)
+  moved : (r : Reg) (l : Loc) → to_slots place r ≡ l → HasColourOrSlot (record r { loc = l }) → HasColourOrSlot (located_register (to_slots place) r)
   moved r l e (in_colour n c h) = in_colour n c (e ∙ h)
   moved r l e (in_slot h) = in_slot (e ∙ h)
 
-  as_itself : (r : Reg) → IsPlaced r → IsPlaced (record r { loc = r.loc })
+  as_itself : (r : Reg) → HasColourOrSlot r → HasColourOrSlot (record r { loc = r.loc })
   as_itself r (in_colour n c h) = in_colour n c h
   as_itself r (in_slot h) = in_slot h
 
-  places : (r : Reg) → IsRegister m r → (to_slots place r ≡ loc.Unset) ⊎ IsPlaced (placed (to_slots place) r)
+  places : (r : Reg) → IsRegister m r → (to_slots place r ≡ loc.Unset) ⊎ HasColourOrSlot (located_register (to_slots place) r)
   places r i = by (put_of place r)
     where
-      by : Put place r → (to_slots place r ≡ loc.Unset) ⊎ IsPlaced (placed (to_slots place) r)
+      by : Put place r → (to_slots place r ≡ loc.Unset) ⊎ HasColourOrSlot (located_register (to_slots place) r)
       by (to_slot k e h) = inr (moved r (place r.number) (h ∙ sym e) (colouring.places r i))
       by (as_was t h) =
           ⊎_elim (λ u. inl (h ∙ u)) (λ p. inr (moved r r.loc h (as_itself r p))) ((well.agree).places r i)
 
   apart : (r k : Reg) → IsRegister m r → IsRegister m k → Joined m r.number k.number → to_slots place r ≢ loc.Unset →
-      to_slots place r ≡ to_slots place k → MayShare (placed (to_slots place) r) (placed (to_slots place) k)
+      to_slots place r ≡ to_slots place k → MayShare (located_register (to_slots place) r) (located_register (to_slots place) k)
   apart r k i j joined ne e =
       let one = place_same r i ne in
       let two = place_same k j (λ u. ne (e ∙ u)) in
       let share = colouring.apart r k i j joined (one ∙ e ∙ sym two) in (share.0, sym one ∙ share.1)
 
-  pub slots_placing : IsPlacing m (to_slots place)
+  pub slots_placing : IsProperAssignment m (to_slots place)
   slots_placing = record { fixed = fixed; places = places; apart = apart }
 
   pub slots_least : (r k : Reg) → Contains m.colours r → IsRegister m k → to_slots place k ≡ r.loc → r.number ≤ k.number
@@ -83,7 +83,7 @@ module _ (m : Mach) (place : Colouring) (formed : WellFormed m) (well : WellPlac
 
   pub slots_low : ColoursLow m → ColoursLow (in_slots place m)
   slots_low low r k c i open_one =
-      let w = was (placed (to_slots place)) m.colours r c in
+      let w = was (located_register (to_slots place)) m.colours r c in
       let v = was_register (to_slots place) m k i in
       subst (λ n. r.number < n) (ap (λ (r : Reg). r.number) v.same)
       (subst (λ n. n < (v.register).number) (ap (λ (r : Reg). r.number) w.same)
@@ -111,10 +111,10 @@ module _ (m : Mach) (place : Colouring) (formed : WellFormed m) (well : WellPlac
       by (as_was t h) =
           ⊎_elim (λ u. t ∙ sym (open_none (to_slots place r) (h ∙ u))) (λ p. ap is_in_slot (p ∙ sym h)) (colouring.fixed r i)
 
-  abbrev by_number : Placing
+  abbrev by_number : LocationAssignment
   by_number r = place r.number
 
-  same_renewed : (b : Bool) (r : Reg) → IsRegister m r → is_renewed b (placed by_number r) ≡ is_renewed b (placed (to_slots place) r)
+  same_renewed : (b : Bool) (r : Reg) → IsRegister m r → is_renewed b (located_register by_number r) ≡ is_renewed b (located_register (to_slots place) r)
   same_renewed true r i = same_slot r i
   same_renewed false r i = refl
 
@@ -123,7 +123,7 @@ module _ (m : Mach) (place : Colouring) (formed : WellFormed m) (well : WellPlac
   same_any b [] known = refl
   same_any b (r ∷ rs) known =
       ap (λ t. t || any_renewed b (all_placed by_number rs)) (same_renewed b r (known r (first_in r rs)))
-      ∙ ap (λ t. is_renewed b (placed (to_slots place) r) || t) (same_any b rs (λ k c. known k (later_in r k rs c)))
+      ∙ ap (λ t. is_renewed b (located_register (to_slots place) r) || t) (same_any b rs (λ k c. known k (later_in r k rs c)))
 
   same_needs : (code : List Instr) → ((r : Reg) → InCode r code → IsRegister m r) →
       any_needs (placed_code by_number code) ≡ any_needs (placed_code (to_slots place) code)

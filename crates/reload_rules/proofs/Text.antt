@@ -10,21 +10,21 @@ use Rattle.mach_ir.specs.declared.mach.MachOp.{MachOp}
 use Rattle.mach_ir.specs.declared.mach.MachOp.TheVariants as mach
 use Rattle.mach_ir.specs.declared.mach.Instr.{Instr}
 use Rattle.mach_laws.specs.Expand.{KeepsMarks, NoLabel, no_label, not_labelled, NoHandler, no_handler, not_handled, bounds_try, NoBound, no_bound, not_bound}
-use Rattle.spill_rules.specs.Spilled.{copied}
-use Rattle.reload_rules.specs.Reloaded.{reads_registers, writes_registers, is_renewed, fresh, renewed, reloads, spills, results_from, renewed_instr, reloaded_instr}
+use Rattle.spill_rules.specs.Spilled.{copy_instruction}
+use Rattle.reload_rules.specs.Reloaded.{reads_registers, writes_registers, is_renewed, fresh_stand_in, renewed, reloads, spills, results_from, renewed_instr, reloaded_instr}
 
 -- ---- what holds of copies before other code
 
 module _ (Q : List Instr → Type 0) (ys : List Instr) (base : Q ys)
-    (more : (kind : CopyKind) (from to : Reg) (zs : List Instr) → Q zs → Q (copied kind from to ∷ zs)) where
+    (more : (kind : CopyKind) (from to : Reg) (zs : List Instr) → Q zs → Q (copy_instruction kind from to ∷ zs)) where
   pub before_reloads : (b : Bool) (n : ℕ) (rs : List Reg) → Q (reloads b n rs ++ ys)
   before_reloads b n [] = base
   before_reloads b n (r ∷ rs) =
       by (is_renewed b r) (before_reloads b (suc n) rs) (before_reloads b n rs)
     where
       by : (t : Bool) → Q (reloads b (suc n) rs ++ ys) → Q (reloads b n rs ++ ys) →
-          Q (cond t (copied copy.Reload r (fresh n r) ∷ reloads b (suc n) rs) (reloads b n rs) ++ ys)
-      by true one two = more copy.Reload r (fresh n r) (reloads b (suc n) rs ++ ys) one
+          Q (cond t (copy_instruction copy.Reload r (fresh_stand_in n r) ∷ reloads b (suc n) rs) (reloads b n rs) ++ ys)
+      by true one two = more copy.Reload r (fresh_stand_in n r) (reloads b (suc n) rs ++ ys) one
       by false one two = two
 
   pub before_spills : (b : Bool) (n : ℕ) (rs : List Reg) → Q (spills b n rs ++ ys)
@@ -33,8 +33,8 @@ module _ (Q : List Instr → Type 0) (ys : List Instr) (base : Q ys)
       by (is_renewed b r) (before_spills b (suc n) rs) (before_spills b n rs)
     where
       by : (t : Bool) → Q (spills b (suc n) rs ++ ys) → Q (spills b n rs ++ ys) →
-          Q (cond t (copied copy.Spill (fresh n r) r ∷ spills b (suc n) rs) (spills b n rs) ++ ys)
-      by true one two = more copy.Spill (fresh n r) r (spills b (suc n) rs ++ ys) one
+          Q (cond t (copy_instruction copy.Spill (fresh_stand_in n r) r ∷ spills b (suc n) rs) (spills b n rs) ++ ys)
+      by true one two = more copy.Spill (fresh_stand_in n r) r (spills b (suc n) rs ++ ys) one
       by false one two = two
 
 appended : (xs : List Instr) → xs ++ [] ≡ xs

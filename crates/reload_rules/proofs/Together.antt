@@ -3,19 +3,19 @@ use Rattle.std.proofs.Common.{◌≡◌, ℕ, ◌+◌, Bool, true, false, refl, 
 use Rattle.std.proofs.lemmas.Bool.{both_ways}
 use Rattle.std.proofs.Math.Nat.{le_antisymm}
 use Rattle.mach_ir.specs.Formed.{WellFormed}
-use Rattle.mach_ir.specs.Placed.{Colouring, IsColouring, WellPlaced}
+use Rattle.mach_ir.specs.Placed.{Colouring, IsProperColouring, WellPlaced}
 use Rattle.mach_ir.specs.Sizes.{HasSize}
 use Rattle.mach_ir.specs.Walks.{IsRegister, Joined}
 use Rattle.mach_ir.proofs.Keeping.{keeps_then}
 use Rattle.mach_ir.specs.declared.mach.Mach.{Mach}
 use Rattle.pass_rules.specs.Measures.{other_operands}
-use Rattle.places_rules.specs.Places.{ColoursLow, recoloured}
+use Rattle.places_rules.specs.Places.{ColoursLow, with_colouring}
 use Rattle.places_rules.proofs.Colouring.{coloured_kept}
 use Rattle.places_rules.proofs.Open.{not_open}
 use Rattle.places_rules.proofs.Text.{placed_formed}
 use Rattle.places_rules.proofs.Walked.{no_addr_before}
 use Rattle.places_rules.proofs.Whole.{placed_keeps, placed_well, placed_seated, placed_size, placed_slots}
-use Rattle.reload_rules.specs.Kept.{with_copies, IsKept}
+use Rattle.reload_rules.specs.Kept.{with_copies, IsReloadKept}
 use Rattle.reload_rules.specs.Reloaded.{any_needs, reloaded, to_slots, in_slots, IsFree, IsReloadedBy, is_coloured, asks_again}
 use Rattle.reload_rules.proofs.Copies.{placed_others}
 use Rattle.reload_rules.proofs.Formed.{reloaded_formed}
@@ -27,8 +27,8 @@ use Rattle.reload_rules.proofs.Slotted.{slots_placing, slots_least, slots_low, s
 use Rattle.reload_rules.proofs.Whole.{reloaded_keeps, reloaded_no_addr, reloaded_slots, reloaded_size, reloaded_registers}
 
 module _ (m : Mach) (place : Colouring) (formed : WellFormed m) (well : WellPlaced m) (low : ColoursLow m)
-    (colouring : IsColouring (IsRegister m) (Joined m) place) where
-  of_coloured : any_needs (in_slots place m).code ≡ false → IsKept m (recoloured place m) false
+    (colouring : IsProperColouring (IsRegister m) (Joined m) place) where
+  of_coloured : any_needs (in_slots place m).code ≡ false → IsReloadKept m (with_colouring place m) false
   of_coloured none =
       let kept = coloured_kept m place formed well colouring low in
       record {
@@ -63,7 +63,7 @@ module _ (m : Mach) (place : Colouring) (formed : WellFormed m) (well : WellPlac
     abbrev top : ℕ
     top = free + other_operands (in_slots place m).code
 
-    of_numbered : IsKept m (reloaded_by (numbering free (in_slots place m)) (in_slots place m)) true
+    of_numbered : IsReloadKept m (reloaded_by (numbering free (in_slots place m)) (in_slots place m)) true
     of_numbered =
         record {
           keeps = keeps_then (placed_keeps m (to_slots place) formed well (slots_placing m place formed well colouring))
@@ -93,12 +93,12 @@ module _ (m : Mach) (place : Colouring) (formed : WellFormed m) (well : WellPlac
               };
         }
 
-    of_reloaded : IsKept m (reloaded free (in_slots place m)) true
-    of_reloaded = subst (λ q. IsKept m q true) (numbered_same (in_slots place m) free) of_numbered
+    of_reloaded : IsReloadKept m (reloaded free (in_slots place m)) true
+    of_reloaded = subst (λ q. IsReloadKept m q true) (numbered_same (in_slots place m) free) of_numbered
 
 -- What reloading makes of a function by a colouring is kept.
 pub reloaded_kept : (m q : Mach) (place : Colouring) (asks : Bool) → WellFormed m → WellPlaced m → ColoursLow m →
-    IsColouring (IsRegister m) (Joined m) place → IsReloadedBy m place q asks → IsKept m q asks
+    IsProperColouring (IsRegister m) (Joined m) place → IsReloadedBy m place q asks → IsReloadKept m q asks
 reloaded_kept m q place asks formed well low colouring (is_coloured e) = of_coloured m place formed well low colouring e
 reloaded_kept m q place asks formed well low colouring (asks_again {free = free} e h) =
     of_reloaded m place formed well low colouring free h

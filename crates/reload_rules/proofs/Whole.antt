@@ -22,11 +22,11 @@ use Rattle.mach_laws.proofs.Walking.{across_live}
 use Rattle.pass_rules.specs.Measures.{other_operands}
 use Rattle.places_rules.specs.Places.{IsSlot}
 use Rattle.places_rules.proofs.Open.{slot_open}
-use Rattle.spill_rules.specs.Spilled.{copied}
+use Rattle.spill_rules.specs.Spilled.{copy_instruction}
 use Rattle.spill_rules.proofs.Holding.{live_register}
 use Rattle.spill_rules.proofs.Text.{copy_no_symbol, copy_no_external}
 use Rattle.reload_rules.specs.Kept.{with_copies}
-use Rattle.reload_rules.specs.Reloaded.{reads_registers, writes_registers, is_in_slot, is_renewed, fresh, number_after, renewed, any_renewed, needs_registers, any_needs}
+use Rattle.reload_rules.specs.Reloaded.{reads_registers, writes_registers, is_in_slot, is_renewed, fresh_stand_in, next_reload_number, renewed, any_renewed, needs_registers, any_needs}
 use Rattle.reload_rules.proofs.Copies.{code_instrs, code_operands}
 use Rattle.reload_rules.proofs.Kept.{does_reloaded}
 use Rattle.reload_rules.proofs.Live.{IsNumbering, reloaded_by, Stage, Before, Reading, Storing, Laid, begins, reload, passes_operand, main, spill, passes_result, ends, laid_of, laid_tries, across_back}
@@ -44,14 +44,14 @@ slot_of loc.Unset e = absurd (false≢true e)
 none_left : (b : Bool) (n : ℕ) (rs : List Reg) → any_renewed b (renewed b n rs) ≡ false
 none_left b n [] = refl
 none_left b n (r ∷ rs) =
-    ap (λ t. t || any_renewed b (renewed b (number_after b n r) rs)) (by (is_renewed b r) refl)
-    ∙ none_left b (number_after b n r) rs
+    ap (λ t. t || any_renewed b (renewed b (next_reload_number b n r) rs)) (by (is_renewed b r) refl)
+    ∙ none_left b (next_reload_number b n r) rs
   where
-    open_one : (b : Bool) → is_renewed b (fresh n r) ≡ false
+    open_one : (b : Bool) → is_renewed b (fresh_stand_in n r) ≡ false
     open_one true = refl
     open_one false = refl
 
-    by : (t : Bool) → is_renewed b r ≡ t → is_renewed b (cond t (fresh n r) r) ≡ false
+    by : (t : Bool) → is_renewed b r ≡ t → is_renewed b (cond t (fresh_stand_in n r) r) ≡ false
     by true t = open_one b
     by false t = t
 
@@ -76,7 +76,7 @@ module _ (m : Mach) (s : ℕ → ℕ) (free top : ℕ) (formed : WellFormed m) (
 
   -- ---- what instructions name
 
-  named_before : (Named : MachOp → Type 0) → ((kind : CopyKind) (from to : Reg) → Named (copied kind from to).op → ⊥) → IsNamedIn Named q →
+  named_before : (Named : MachOp → Type 0) → ((kind : CopyKind) (from to : Reg) → Named (copy_instruction kind from to).op → ⊥) → IsNamedIn Named q →
       IsNamedIn Named m
   named_before Named none n =
       let z = part_in m s free top formed placed is n.instr n.among in

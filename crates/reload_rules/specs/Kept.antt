@@ -16,7 +16,7 @@ abbrev pub with_copies : (copies : ℕ) → Size → Size
 with_copies n s =
     record s { instrs = s.instrs + n; operands = s.operands + 2 * n; registers = s.registers + n }
 
-pub record IsKept (m q : Mach) (asks : Bool) : Type 0 where
+pub record IsReloadKept (m q : Mach) (asks : Bool) : Type 0 where
   -- it does what the first does
   pub keeps : Keeps m q
   pub formed : WellFormed q

@@ -15,8 +15,8 @@ use Rattle.mach_ir.specs.declared.mach.MachOp.{MachOp}
 use Rattle.mach_ir.specs.declared.mach.MachOp.TheVariants as mach
 use Rattle.mach_ir.specs.declared.mach.Instr.{Instr}
 use Rattle.mach_ir.specs.declared.mach.Mach.{Mach}
-use Rattle.places_rules.specs.Places.{Placing, with_places, recoloured}
-use Rattle.spill_rules.specs.Spilled.{copied}
+use Rattle.places_rules.specs.Places.{LocationAssignment, with_places, with_colouring}
+use Rattle.spill_rules.specs.Spilled.{copy_instruction}
 
 -- ---- which operands and results
 
@@ -51,34 +51,34 @@ is_renewed registers r = registers && is_in_slot r.loc
 -- ---- fresh registers
 
 -- another register for this one, its place open
-abbrev pub fresh : ℕ → Reg → Reg
-fresh n r = record r { number = n; loc = loc.Unset }
+abbrev pub fresh_stand_in : ℕ → Reg → Reg
+fresh_stand_in n r = record r { number = n; loc = loc.Unset }
 
 -- the next number, once this register has been gone over
-abbrev pub number_after : Bool → ℕ → Reg → ℕ
-number_after registers n r = cond (is_renewed registers r) (suc n) n
+abbrev pub next_reload_number : Bool → ℕ → Reg → ℕ
+next_reload_number registers n r = cond (is_renewed registers r) (suc n) n
 
 abbrev pub number_past : Bool → ℕ → List Reg → ℕ
 number_past registers n [] = n
-number_past registers n (r ∷ rs) = number_past registers (number_after registers n r) rs
+number_past registers n (r ∷ rs) = number_past registers (next_reload_number registers n r) rs
 
 -- the fresh registers from this number on, for those that need one
 abbrev pub renewed : Bool → ℕ → List Reg → List Reg
 renewed registers n [] = []
 renewed registers n (r ∷ rs) =
-    cond (is_renewed registers r) (fresh n r) r ∷ renewed registers (number_after registers n r) rs
+    cond (is_renewed registers r) (fresh_stand_in n r) r ∷ renewed registers (next_reload_number registers n r) rs
 
 -- the copies from slots to the fresh registers, and back
 abbrev pub reloads : Bool → ℕ → List Reg → List Instr
 reloads registers n [] = []
 reloads registers n (r ∷ rs) =
-    cond (is_renewed registers r) (copied copy.Reload r (fresh n r) ∷ reloads registers (suc n) rs)
+    cond (is_renewed registers r) (copy_instruction copy.Reload r (fresh_stand_in n r) ∷ reloads registers (suc n) rs)
     (reloads registers n rs)
 
 abbrev pub spills : Bool → ℕ → List Reg → List Instr
 spills registers n [] = []
 spills registers n (r ∷ rs) =
-    cond (is_renewed registers r) (copied copy.Spill (fresh n r) r ∷ spills registers (suc n) rs)
+    cond (is_renewed registers r) (copy_instruction copy.Spill (fresh_stand_in n r) r ∷ spills registers (suc n) rs)
     (spills registers n rs)
 
 -- ---- instructions
@@ -135,7 +135,7 @@ slot_or own (loc.Machine n) = own
 slot_or own loc.Unset = own
 
 -- Each register that the colouring puts into a slot is there. The others stay as they are.
-abbrev pub to_slots : Colouring → Placing
+abbrev pub to_slots : Colouring → LocationAssignment
 to_slots place r = slot_or r.loc (place r.number)
 
 abbrev pub in_slots : Colouring → Mach → Mach
@@ -152,6 +152,6 @@ pub record IsFree (m : Mach) (free : ℕ) : Type 0 where
 -- own, and all others are as they were.
 pub data IsReloadedBy (m : Mach) (place : Colouring) : Mach → Bool → Type 0 where
   is_coloured : any_needs (in_slots place m).code ≡ false →
-      IsReloadedBy m place (recoloured place m) false
+      IsReloadedBy m place (with_colouring place m) false
   asks_again : {free : ℕ} → any_needs (in_slots place m).code ≡ true → IsFree m free →
       IsReloadedBy m place (reloaded free (in_slots place m)) true

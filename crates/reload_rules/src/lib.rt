@@ -9,19 +9,19 @@
 
 ghost use Rattle.std.specs.Prelude.{◌≡◌, Bool};
 ghost use Rattle.mach_ir.specs.Formed.{WellFormed};
-ghost use Rattle.mach_ir.specs.Placed.{Colouring, IsColouring, WellPlaced};
+ghost use Rattle.mach_ir.specs.Placed.{Colouring, IsProperColouring, WellPlaced};
 ghost use Rattle.mach_ir.specs.Walks.{IsRegister, Joined};
 ghost use Rattle.mach_ir.specs.declared.mach.Mach.{Mach};
 ghost use Rattle.places_rules.specs.Places.{ColoursLow};
-ghost use Rattle.reload_rules.specs.Kept.{IsKept};
+ghost use Rattle.reload_rules.specs.Kept.{IsReloadKept};
 ghost use Rattle.reload_rules.specs.Reloaded.{IsReloadedBy};
 
 /// Law: what reloading makes of a function by a colouring of it is kept.
 pub fn what_is_reloaded_is_kept()
     ensures { (m q : Mach) (place : Colouring) (asks : Bool) → WellFormed m → WellPlaced m →
         ColoursLow m →
-        IsColouring (IsRegister m) (Joined m) place → IsReloadedBy m place q asks →
-        IsKept m q asks }
+        IsProperColouring (IsRegister m) (Joined m) place → IsReloadedBy m place q asks →
+        IsReloadKept m q asks }
 {}
 
 /// Law: reloading makes one function of each, and one answer.

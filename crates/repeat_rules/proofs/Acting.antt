@@ -11,7 +11,7 @@ use Rattle.cmm_meaning.specs.Extends.{Shape, shape_of}
 use Rattle.cmm_meaning.specs.Setting.{Setting}
 use Rattle.combine_rules.proofs.Steady.{Firm, no_value, a_value, apply_firm}
 use Rattle.combine_rules.proofs.Steadily.{AllSteady, is_lost, goes_ahead, all_steady}
-use Rattle.mach_ir.specs.Acts.{Around, On, Act, Goes, Stuck, only_if, one_result, new_blocks, with_block, fresh_block, is_complete}
+use Rattle.mach_ir.specs.Acts.{Around, On, Act, Goes, Stuck, stuck_unless, one_result, new_blocks, with_block, fresh_block, is_complete}
 use Rattle.mach_ir.specs.Meaning.{mach_act}
 use Rattle.mach_ir.specs.Placed.{is_straight}
 use Rattle.mach_ir.specs.declared.blocks.NewBlock.{NewBlock}
@@ -74,7 +74,7 @@ blocks_on (b ∷ blocks) so_far x = by (blocks_on blocks (so_far ++ value.Block 
     by (is_stuck e) = is_stuck e
     by (goes_on vs after e g) = goes_on vs after e (grown_on (one_block b x) g)
 
-only_on : (x : Around) (b : Bool) {act : Act} → GoesOn x act → GoesOn x (only_if b act)
+only_on : (x : Around) (b : Bool) {act : Act} → GoesOn x act → GoesOn x (stuck_unless b act)
 only_on x true g = g
 only_on x false g = is_stuck refl
 

@@ -6,11 +6,11 @@ use Rattle.std.proofs.lemmas.List.Elements.{All-contains, Contains-append_left}
 use Rattle.bs_words.specs.declared.types.Comp.{Comp}
 use Rattle.bs_words.proofs.Lists.{none_in, first_in, later_in, in_cons, head_same, tail_same, none_there}
 use Rattle.mach_ir.specs.Forms as form
-use Rattle.mach_ir.specs.Forms.{HasForm, results_of}
-use Rattle.mach_ir.specs.Formed.{comps, IsFormed, formed_op, formed_mark, WellFormed}
+use Rattle.mach_ir.specs.Forms.{HasForm, results_of_type}
+use Rattle.mach_ir.specs.Formed.{comps, IsFormedInstruction, formed_op, formed_mark, WellFormed}
 use Rattle.mach_ir.specs.Seats.{AreSeated, anywhere, mach_operand_seats, mach_result_seats, places_of, Seated}
 use Rattle.mach_ir.specs.Sizes.{operand_count}
-use Rattle.mach_ir.specs.Walks.{IsRegister, is_param, is_colour, is_in_code, Stands}
+use Rattle.mach_ir.specs.Walks.{IsRegister, is_param, is_colour, is_in_code, StandsAsInstr}
 use Rattle.mach_ir.specs.declared.op.CopyKind.TheVariants as copy
 use Rattle.mach_ir.specs.declared.op.Leaving.TheVariants as leaving
 use Rattle.mach_ir.specs.declared.op.Op.TheVariants as op
@@ -22,7 +22,7 @@ use Rattle.mach_ir.specs.declared.mach.Instr.{Instr}
 use Rattle.mach_ir.specs.declared.mach.Mach.{Mach}
 use Rattle.mach_laws.specs.Expand.{expand, KeepsMarks}
 use Rattle.mach_laws.proofs.Places.{args_in, results_in, contains_of, stands_in}
-use Rattle.repeat_rules.specs.Repeated.{is_operator, Repeats, from_earlier, again, in_place, IsBefore, IsRepeated, IsFormKept}
+use Rattle.repeat_rules.specs.Repeated.{is_operator, RepeatsEarlier, from_earlier, instr_with_earlier, alone_with_earlier, IsRepeatedBefore, IsRepeated, IsFormKept}
 use Rattle.mach_laws.proofs.InPlace as text
 use Rattle.mach_laws.proofs.InPlace.{AreAlike, IsPure, is_pure, same_op, both_pure, IsMain, was_main, each_in}
 use Rattle.repeat_rules.proofs.OneForOne.{in_append, in_code_stands, StandsFor, before_of}
@@ -53,7 +53,7 @@ record OperatorForm (i : Instr) : Type 0 where
   result : comps i.results ≡ to ∷ []
   operands : comps i.args ≢ []
 
-operator_form : {i : Instr} → IsFormed i → is_operator i.op ≡ true → OperatorForm i
+operator_form : {i : Instr} → IsFormedInstruction i → is_operator i.op ≡ true → OperatorForm i
 operator_form (formed_op {f = op.Pure (pure.Operator f r)} {args = args} {results = results} h) e =
     let t = one_result f r (comps args) (comps results) h in
     record { to = t.0; result = t.1; operands = some_operand f r (comps args) (comps results) h }
@@ -71,15 +71,15 @@ some_length (r ∷ rs) h = omega arith
 
 module _ (plan : ℕ → Option Reg) where
   abbrev pub f : ℕ → Instr → List Instr
-  f = in_place plan
+  f = alone_with_earlier plan
 
   -- ---- what becomes of an instruction
 
   pub data Fate (k : ℕ) (i : Instr) : Type 0 where
-    unchanged : again plan k i ≡ i → (is_operator i.op ≡ true → plan k ≡ None) → Fate k i
-    moved : (r : Reg) → is_operator i.op ≡ true → plan k ≡ Some r → again plan k i ≡ from_earlier (Some r) i → Fate k i
+    unchanged : instr_with_earlier plan k i ≡ i → (is_operator i.op ≡ true → plan k ≡ None) → Fate k i
+    moved : (r : Reg) → is_operator i.op ≡ true → plan k ≡ Some r → instr_with_earlier plan k i ≡ from_earlier (Some r) i → Fate k i
 
-  pub alone : (k : ℕ) (i : Instr) → is_operator i.op ≡ false → again plan k i ≡ i
+  pub alone : (k : ℕ) (i : Instr) → is_operator i.op ≡ false → instr_with_earlier plan k i ≡ i
   alone k i e = ap (λ b. cond b (from_earlier (plan k) i) i) e
 
   pub fate : (k : ℕ) (i : Instr) → Fate k i
@@ -93,30 +93,30 @@ module _ (plan : ℕ → Option Reg) where
           moved r e h (ap (λ b. cond b (from_earlier (plan k) i) i) e ∙ ap (λ o. from_earlier o i) h)
 
   -- what holds of an instruction, and of moves
-  pub either_way : (P : Instr → Type 0) (k : ℕ) (i : Instr) → P i → ((r : Reg) → P (from_earlier (Some r) i)) → P (again plan k i)
+  pub either_way : (P : Instr → Type 0) (k : ℕ) (i : Instr) → P i → ((r : Reg) → P (from_earlier (Some r) i)) → P (instr_with_earlier plan k i)
   either_way P k i x y = by (fate k i)
     where
-      by : Fate k i → P (again plan k i)
+      by : Fate k i → P (instr_with_earlier plan k i)
       by (unchanged e h) = subst P (sym e) x
       by (moved r g h e) = subst P (sym e) (y r)
 
   -- an operator and a move from a result only compute, and write the same
-  pub alike : (k : ℕ) (i : Instr) → StandsFor i (again plan k i)
+  pub alike : (k : ℕ) (i : Instr) → StandsFor i (instr_with_earlier plan k i)
   alike k i = by (fate k i)
     where
-      by : Fate k i → StandsFor i (again plan k i)
+      by : Fate k i → StandsFor i (instr_with_earlier plan k i)
       by (unchanged e h) = subst (StandsFor i) (sym e) (record { op = same_op refl; results = refl })
       by (moved r g h e) = subst (StandsFor i) (sym e) (record { op = both_pure (operator_pure i.op g) is_pure; results = refl })
 
-  pub same_ops : (k : ℕ) (i : Instr) → AreAlike i.op (again plan k i).op
+  pub same_ops : (k : ℕ) (i : Instr) → AreAlike i.op (instr_with_earlier plan k i).op
   same_ops k i = (alike k i).op
 
-  pub keeps_marks : KeepsMarks (in_place plan)
-  keeps_marks = text.keeps_marks (again plan) same_ops
+  pub keeps_marks : KeepsMarks (alone_with_earlier plan)
+  keeps_marks = text.keeps_marks (instr_with_earlier plan) same_ops
 
   -- ---- sizes
 
-  fewer : (code : List Instr) → ((i : Instr) → Contains code i → IsFormed i) → operand_count (expand f code) ≤ operand_count code
+  fewer : (code : List Instr) → ((i : Instr) → Contains code i → IsFormedInstruction i) → operand_count (expand f code) ≤ operand_count code
   fewer [] formed = omega arith
   fewer (i ∷ is) formed =
       by (fate (length is) i) (fewer is (λ j c. formed j (later_in i j is c)))
@@ -133,19 +133,19 @@ module _ (plan : ℕ → Option Reg) where
 
 module _ (m : Mach) (plan : ℕ → Option Reg) where
   abbrev q : Mach
-  q = record m { code = expand (in_place plan) m.code }
+  q = record m { code = expand (alone_with_earlier plan) m.code }
 
   abbrev g : ℕ → Instr → List Instr
-  g = in_place plan
+  g = alone_with_earlier plan
 
-  module _ (moves : (i : Instr) (next made : List Instr) → IsBefore plan m i next made → is_operator i.op ≡ true → (r : Reg) →
-      plan (length next) ≡ Some r → Repeats made i r) where
+  module _ (moves : (i : Instr) (next made : List Instr) → IsRepeatedBefore plan m i next made → is_operator i.op ≡ true → (r : Reg) →
+      plan (length next) ≡ Some r → RepeatsEarlier made i r) where
     -- the result of an operator of the second
     pub operator_result : (j : Instr) (r : Reg) → Contains q.code j → is_operator j.op ≡ true → Contains j.results r → IsRegister m r
     operator_result j r c o d =
-        let s = stands_in q.code j c in of_main (was_main (again plan) m.code j s.0 s.1)
+        let s = stands_in q.code j c in of_main (was_main (instr_with_earlier plan) m.code j s.0 s.1)
       where
-        of_main : {zs : List Instr} → IsMain (again plan) j zs m.code → IsRegister m r
+        of_main : {zs : List Instr} → IsMain (instr_with_earlier plan) j zs m.code → IsRegister m r
         of_main w = of_fate (fate plan (length w.next) w.instr)
           where
             of_fate : Fate plan (length w.next) w.instr → IsRegister m r
@@ -155,27 +155,27 @@ module _ (m : Mach) (plan : ℕ → Option Reg) where
                 absurd (both_ways (is_operator j.op) (ap (λ (x : Instr). is_operator x.op) (sym (sym e ∙ w.same))) o)
 
     -- what is moved from
-    pub moved_from : (i : Instr) (next : List Instr) (r : Reg) → Stands i next m.code → is_operator i.op ≡ true → plan (length next) ≡ Some r →
+    pub moved_from : (i : Instr) (next : List Instr) (r : Reg) → StandsAsInstr i next m.code → is_operator i.op ≡ true → plan (length next) ≡ Some r →
         IsRegister m r
     moved_from i next r s o e =
-        let b = before_of (again plan) s in
+        let b = before_of (instr_with_earlier plan) s in
         let w = moves i next b.made (record { before = b.before; whole = b.whole; made_so = b.made_so }) o r e in
         let t = w.stands in
         operator_result w.earlier r
         (subst (λ xs. Contains xs w.earlier) (sym b.made_so)
-        (Contains-append_left b.made (again plan (length next) i ∷ expand g next) w.earlier
+        (Contains-append_left b.made (instr_with_earlier plan (length next) i ∷ expand g next) w.earlier
         (subst (λ xs. Contains xs w.earlier) (sym t.within) (in_append t.others w.earlier t.run))))
         t.operates (subst (λ rs. Contains rs r) (sym t.result) (first_in r []))
 
     pub was_register : (r : Reg) → IsRegister q r → IsRegister m r
     was_register r (is_param c) = is_param c
     was_register r (is_colour c) = is_colour c
-    was_register r (is_in_code c) = let w = in_code_stands q.code c in of_main (was_main (again plan) m.code w.0 w.1 w.2) w.3
+    was_register r (is_in_code c) = let w = in_code_stands q.code c in of_main (was_main (instr_with_earlier plan) m.code w.0 w.1 w.2) w.3
       where
         only_one : (k r : Reg) → Contains (k ∷ []) r → k ≡ r
         only_one k r c = ⊎_elim (λ e. e) (λ d. absurd (none_in r d)) (in_cons k r [] c)
 
-        of_main : {j : Instr} {zs : List Instr} → IsMain (again plan) j zs m.code → Contains j.args r ⊎ Contains j.results r → IsRegister m r
+        of_main : {j : Instr} {zs : List Instr} → IsMain (instr_with_earlier plan) j zs m.code → Contains j.args r ⊎ Contains j.results r → IsRegister m r
         of_main {j} w d = of_fate (fate plan (length w.next) w.instr) d
           where
             of_fate : Fate plan (length w.next) w.instr → Contains j.args r ⊎ Contains j.results r → IsRegister m r
@@ -190,8 +190,8 @@ module _ (m : Mach) (plan : ℕ → Option Reg) where
             of_fate (moved k g h e) (inr a) =
                 is_in_code (results_in w.stands (subst (λ (x : Instr). Contains x.results r) (sym (sym e ∙ w.same)) a))
 
-  module _ (stays : (i : Instr) (next made : List Instr) → IsBefore plan m i next made → plan (length next) ≡ None → (r : Reg) →
-      Repeats made i r → ⊥) where
+  module _ (stays : (i : Instr) (next made : List Instr) → IsRepeatedBefore plan m i next made → plan (length next) ≡ None → (r : Reg) →
+      RepeatsEarlier made i r → ⊥) where
     -- ---- none is left
 
     -- an instruction of the second, by the code before it
@@ -200,8 +200,8 @@ module _ (m : Mach) (plan : ℕ → Option Reg) where
       next : List Instr
       before : List Instr
       stands : code ≡ before ++ instr ∷ next
-      same : again plan (length next) instr ≡ j
-      whole : expand g code ≡ made ++ again plan (length next) instr ∷ expand g next
+      same : instr_with_earlier plan (length next) instr ≡ j
+      whole : expand g code ≡ made ++ instr_with_earlier plan (length next) instr ∷ expand g next
 
     split_at : (code made : List Instr) (j : Instr) (zs : List Instr) → expand g code ≡ made ++ j ∷ zs → Split code made j
     split_at [] [] j zs e = absurd (none_there e)
@@ -219,7 +219,7 @@ module _ (m : Mach) (plan : ℕ → Option Reg) where
           whole = ap (λ y. y ∷ expand g is) (head_same e) ∙ ap (λ xs. x ∷ xs) w.whole;
         }
 
-    pub left_none : (made : List Instr) (j : Instr) (zs : List Instr) → q.code ≡ made ++ j ∷ zs → (r : Reg) → Repeats made j r → ⊥
+    pub left_none : (made : List Instr) (j : Instr) (zs : List Instr) → q.code ≡ made ++ j ∷ zs → (r : Reg) → RepeatsEarlier made j r → ⊥
     left_none made j zs e r w = of_split (split_at m.code made j zs e)
       where
         operates : is_operator j.op ≡ true
@@ -233,63 +233,63 @@ module _ (m : Mach) (plan : ℕ → Option Reg) where
                 let same : t.instr ≡ j = sym h ∙ t.same in
                 stays t.instr t.next made (record { before = t.before; whole = t.stands; made_so = t.whole })
                 (k (ap (λ (x : Instr). is_operator x.op) same ∙ operates)) r
-                (subst (λ x. Repeats made x r) (sym same) w)
+                (subst (λ x. RepeatsEarlier made x r) (sym same) w)
             of_fate (moved k g h d) =
                 both_ways (is_operator j.op) (ap (λ (x : Instr). is_operator x.op) (sym (sym d ∙ t.same))) operates
 
   module _ (formed : WellFormed m)
-      (moves : (i : Instr) (next made : List Instr) → IsBefore plan m i next made → is_operator i.op ≡ true → (r : Reg) →
-      plan (length next) ≡ Some r → Repeats made i r)
-      (stays : (i : Instr) (next made : List Instr) → IsBefore plan m i next made → plan (length next) ≡ None → (r : Reg) →
-      Repeats made i r → ⊥) where
+      (moves : (i : Instr) (next made : List Instr) → IsRepeatedBefore plan m i next made → is_operator i.op ≡ true → (r : Reg) →
+      plan (length next) ≡ Some r → RepeatsEarlier made i r)
+      (stays : (i : Instr) (next made : List Instr) → IsRepeatedBefore plan m i next made → plan (length next) ≡ None → (r : Reg) →
+      RepeatsEarlier made i r → ⊥) where
     was : (r : Reg) → IsRegister q r → IsRegister m r
     was r i = was_register moves r i
 
-    form_of : (i : Instr) → Contains m.code i → IsFormed i
-    form_of i c = All-contains IsFormed m.code i formed.instrs c
+    form_of : (i : Instr) → Contains m.code i → IsFormedInstruction i
+    form_of i c = All-contains IsFormedInstruction m.code i formed.instrs c
 
-    formed_again : (k : ℕ) (i : Instr) → Contains m.code i → IsFormed (again plan k i)
+    formed_again : (k : ℕ) (i : Instr) → Contains m.code i → IsFormedInstruction (instr_with_earlier plan k i)
     formed_again k i c = by (fate plan k i)
       where
-        by : Fate plan k i → IsFormed (again plan k i)
-        by (unchanged e h) = subst IsFormed (sym e) (form_of i c)
+        by : Fate plan k i → IsFormedInstruction (instr_with_earlier plan k i)
+        by (unchanged e h) = subst IsFormedInstruction (sym e) (form_of i c)
         by (moved r g h e) =
             let t = operator_form (form_of i c) g in
-            subst IsFormed (sym e)
+            subst IsFormedInstruction (sym e)
             (formed_op (subst (λ cs. HasForm (op.Pure (pure.Copy copy.Move)) (r.comp ∷ []) cs) (sym t.result) form.copies))
 
-    returns_same : (k : ℕ) (i : Instr) → Contains m.code i → (again plan k i).op ≡ mach.Op (op.Leaving leaving.Return) →
-        comps (again plan k i).args ≡ results_of m.result
+    returns_same : (k : ℕ) (i : Instr) → Contains m.code i → (instr_with_earlier plan k i).op ≡ mach.Op (op.Leaving leaving.Return) →
+        comps (instr_with_earlier plan k i).args ≡ results_of_type m.result
     returns_same k i c = by (fate plan k i)
       where
         no_move : mach.Op (op.Pure (pure.Copy copy.Move)) ≡ mach.Op (op.Leaving leaving.Return) → ⊥
         no_move e = cc
 
-        by : Fate plan k i → (again plan k i).op ≡ mach.Op (op.Leaving leaving.Return) → comps (again plan k i).args ≡ results_of m.result
+        by : Fate plan k i → (instr_with_earlier plan k i).op ≡ mach.Op (op.Leaving leaving.Return) → comps (instr_with_earlier plan k i).args ≡ results_of_type m.result
         by (unchanged h s) e =
             ap (λ (x : Instr). comps x.args) h ∙ formed.returns i c (ap (λ (x : Instr). x.op) (sym h) ∙ e)
         by (moved r g s h) e = absurd (no_move (ap (λ (x : Instr). x.op) (sym h) ∙ e))
 
     still_formed : WellFormed q
     still_formed =
-        one.still_formed (again plan) (alike plan) m formed was (λ i next s. formed_again (length next) i (contains_of s))
+        one.still_formed (instr_with_earlier plan) (alike plan) m formed was (λ i next s. formed_again (length next) i (contains_of s))
         (λ i next s. returns_same (length next) i (contains_of s))
 
     still_seated : Seated m → Seated q
     still_seated seated =
         record {
           params = seated.params;
-          operands = each_in (again plan) m.code (λ (i : Instr). AreSeated (mach_operand_seats i.op) (places_of i.args))
+          operands = each_in (instr_with_earlier plan) m.code (λ (i : Instr). AreSeated (mach_operand_seats i.op) (places_of i.args))
               (λ i next s.
               either_way plan (λ (i : Instr). AreSeated (mach_operand_seats i.op) (places_of i.args)) (length next) i
               (seated.operands i (contains_of s)) (λ r. anywhere));
-          results = each_in (again plan) m.code (λ (i : Instr). AreSeated (mach_result_seats i.op) (places_of i.results))
+          results = each_in (instr_with_earlier plan) m.code (λ (i : Instr). AreSeated (mach_result_seats i.op) (places_of i.results))
               (λ i next s.
               either_way plan (λ (i : Instr). AreSeated (mach_result_seats i.op) (places_of i.results)) (length next) i
               (seated.results i (contains_of s)) (λ r. anywhere));
         }
 
-    pub kept_by : IsFormKept m (record m { code = expand (in_place plan) m.code })
+    pub kept_by : IsFormKept m (record m { code = expand (alone_with_earlier plan) m.code })
     kept_by =
         record {
           formed = still_formed;
@@ -297,7 +297,7 @@ module _ (m : Mach) (plan : ℕ → Option Reg) where
           params = refl;
           registers = was;
           none_left = left_none stays;
-          size = one.still_small (again plan) (alike plan) m was (fewer plan m.code form_of);
+          size = one.still_small (instr_with_earlier plan) (alike plan) m was (fewer plan m.code form_of);
         }
 
 pub form_kept : (m q : Mach) → WellFormed m → IsRepeated m q → IsFormKept m q

@@ -9,17 +9,17 @@ use Rattle.bs_words.specs.declared.values.Value.{Value}
 use Rattle.bs_words.proofs.Lists.{first_in}
 use Rattle.combine_rules.proofs.Files.{values_has, frame_loses}
 use Rattle.mach_ir.specs.Acts.{Around, On, Goes}
-use Rattle.mach_ir.specs.Meaning.{Held, File, put, put_all, clear, killed, values, past_frame, unless_addr, is_addr, passes_frame, mach_act}
+use Rattle.mach_ir.specs.Meaning.{Held, File, assign_register, put_all, clear_registers, killed, values, past_frame, unless_addr, is_addr, passes_frame, mach_act}
 use Rattle.mach_ir.specs.Placed.{is_straight}
-use Rattle.mach_ir.specs.Runs.{Place}
-use Rattle.mach_ir.specs.Walks.{Among, first, later}
+use Rattle.mach_ir.specs.Runs.{ActivationSetting}
+use Rattle.mach_ir.specs.Walks.{AmongRegisters, first, later}
 use Rattle.mach_ir.specs.declared.reg.Reg.{Reg}
 use Rattle.mach_ir.specs.declared.mach.Instr.{Instr}
 use Rattle.mach_ir.specs.declared.mach.Mach.{Mach}
 use Rattle.mach_laws.specs.Expand.{Ending}
 use Rattle.mach_laws.proofs.Among.{number_among}
 use Rattle.mach_laws.proofs.Files.{PutAll, nil, cons, put_other, put_same, put_of}
-use Rattle.repeat_rules.specs.Repeated.{is_operator, allocates, Ends, itself}
+use Rattle.repeat_rules.specs.Repeated.{is_operator, allocates, EndsHeldValue, itself}
 use Rattle.repeat_rules.proofs.Acting.{Grown, gives_value, gives_still}
 use Rattle.repeat_rules.proofs.Standing.{operator_straight, operator_same, straight_kills, straight_frame, Standing, Earlier, just_now, earlier, earlier_of}
 
@@ -30,7 +30,7 @@ Fresh r v = Some (record { comp = r.comp; value = v })
 
 -- what is not written stays
 pub stays : {end : ℕ} {a : File} {rs : List Reg} {vs : List Value} {d : File} → PutAll end a rs vs d → (n : ℕ) →
-    (Among n rs → ⊥) → d n ≡ a n
+    (AmongRegisters n rs → ⊥) → d n ≡ a n
 stays nil n free = refl
 stays (cons {r = r} {v = v} {d = d} e p) n free =
     put_other r v d n (λ s. free (first s)) ∙ stays p n (λ z. free (later z))
@@ -38,12 +38,12 @@ stays (cons {r = r} {v = v} {d = d} e p) n free =
 record PutOne (r : Reg) (vs : List Value) (a d : File) : Type 0 where
   value : Value
   is : vs ≡ value ∷ []
-  file : d ≡ put r value a
+  file : d ≡ assign_register r value a
 
 put_one : {end : ℕ} {a : File} {r : Reg} {vs : List Value} {d : File} → PutAll end a (r ∷ []) vs d → PutOne r vs a d
 put_one (cons {v = v} e nil) = record { value = v; is = refl; file = refl }
 
-values_stay : (a d : File) (rs : List Reg) → ((n : ℕ) → Among n rs → d n ≡ a n) → (vs : List Value) →
+values_stay : (a d : File) (rs : List Reg) → ((n : ℕ) → AmongRegisters n rs → d n ≡ a n) → (vs : List Value) →
     values d rs ≡ Some vs → values a rs ≡ Some vs
 values_stay a d rs h vs e = values_has d a rs (λ n z v g. sym (h n z) ∙ g) vs e
 
@@ -59,7 +59,7 @@ past_kept true r v a h e = ap unless_addr e ∙ by r.comp refl
     by comp.Val s = ap (λ t. cond (is_addr t) None (Fresh r v)) s
     by comp.Float s = ap (λ t. cond (is_addr t) None (Fresh r v)) s
 
-module _ (m : Mach) (plan : ℕ → Option Reg) (c : Place) where
+module _ (m : Mach) (plan : ℕ → Option Reg) (c : ActivationSetting) where
   -- its operands may have been lost since
   pub record Holding (x : Around) (a : File) (j : Instr) (r : Reg) : Type 0 where
     pub value : Value
@@ -71,16 +71,16 @@ module _ (m : Mach) (plan : ℕ → Option Reg) (c : Place) where
 
   -- what straight code goes on with
   pub calm : (i : Instr) (a : File) → is_straight i.op ≡ true → allocates i.op ≡ false →
-      clear (killed m i) (past_frame (passes_frame i.op) a) ≡ a
+      clear_registers (killed m i) (past_frame (passes_frame i.op) a) ≡ a
   calm i a st none =
-      ap (λ ks. clear ks (past_frame (passes_frame i.op) a)) (straight_kills m i st)
+      ap (λ ks. clear_registers ks (past_frame (passes_frame i.op) a)) (straight_kills m i st)
       ∙ ap (λ t. past_frame t a) (straight_frame i.op st ∙ none)
 
   -- an operator has just been done
   now : (j : Instr) (r : Reg) → is_operator j.op ≡ true → j.results ≡ r ∷ [] →
       ((k : Reg) → Contains j.args k → r.number ≢ k.number) → (a d : File) (x after : Around) (vs ws : List Value) →
       values a j.args ≡ Some vs → mach_act c.setting j.op vs x ≡ Goes ws On after →
-      put_all c.setting.end j.results ws (clear (killed m j) (past_frame (passes_frame j.op) a)) ≡ Some d → Holding after d j r
+      put_all c.setting.end j.results ws (clear_registers (killed m j) (past_frame (passes_frame j.op) a)) ≡ Some d → Holding after d j r
   now j r o one apart a d x after vs ws e acts puts = by (put_one written)
     where
       written : PutAll c.setting.end a (r ∷ []) ws d
@@ -91,11 +91,11 @@ module _ (m : Mach) (plan : ℕ → Option Reg) (c : Place) where
           (sym (calm j a (operator_straight j.op o) (operator_same allocates false (λ f. refl) j.op o)))
           ∙ puts)
 
-      kept : (n : ℕ) → Among n j.args → d n ≡ a n
+      kept : (n : ℕ) → AmongRegisters n j.args → d n ≡ a n
       kept n z =
           stays written n (λ w. by_one w)
         where
-          by_one : Among n (r ∷ []) → ⊥
+          by_one : AmongRegisters n (r ∷ []) → ⊥
           by_one (first s) = let k = number_among j.args z in apart k.0 k.1 (s ∙ sym k.2)
           by_one (later w) = elim w [ ]
 
@@ -114,9 +114,9 @@ module _ (m : Mach) (plan : ℕ → Option Reg) (c : Place) where
   -- one that stood holds what it held
   still : (i j : Instr) (r : Reg) → is_operator j.op ≡ true → is_straight i.op ≡ true →
       ((w k : Reg) → Contains i.results w → Contains j.args k → w.number ≢ k.number) →
-      ((w : Reg) → Contains i.results w → Ends r w → ⊥) → (r.comp ≡ comp.Addr → allocates i.op ≡ false) →
+      ((w : Reg) → Contains i.results w → EndsHeldValue r w → ⊥) → (r.comp ≡ comp.Addr → allocates i.op ≡ false) →
       (a d : File) (x after : Around) (ws : List Value) → Grown x after →
-      put_all c.setting.end i.results ws (clear (killed m i) (past_frame (passes_frame i.op) a)) ≡ Some d →
+      put_all c.setting.end i.results ws (clear_registers (killed m i) (past_frame (passes_frame i.op) a)) ≡ Some d →
       Holding x a j r → Holding after d j r
   still i j r o st apart ends kept a d x after ws grown puts h =
       record {
@@ -129,12 +129,12 @@ module _ (m : Mach) (plan : ℕ → Option Reg) (c : Place) where
       a' : File
       a' = past_frame (passes_frame i.op) a
 
-      there : (n : ℕ) → (Among n i.results → ⊥) → d n ≡ a' n
+      there : (n : ℕ) → (AmongRegisters n i.results → ⊥) → d n ≡ a' n
       there n free =
-          stays (put_of c.setting.end i.results ws (clear (killed m i) a') d puts) n free
-          ∙ ap (λ ks. clear ks a' n) (straight_kills m i st)
+          stays (put_of c.setting.end i.results ws (clear_registers (killed m i) a') d puts) n free
+          ∙ ap (λ ks. clear_registers ks a' n) (straight_kills m i st)
 
-      not_written : (n : ℕ) → Among n j.args → Among n i.results → ⊥
+      not_written : (n : ℕ) → AmongRegisters n j.args → AmongRegisters n i.results → ⊥
       not_written n z w =
           let k = number_among j.args z in let l = number_among i.results w in apart l.0 k.0 l.1 k.1 (l.2 ∙ sym k.2)
 
@@ -147,7 +147,7 @@ module _ (m : Mach) (plan : ℕ → Option Reg) (c : Place) where
   pub holds_next : {i : Instr} {next : List Instr} → Ending (i ∷ next) m.code → is_straight i.op ≡ true →
       (a d : File) (x after : Around) (vs ws : List Value) → values a i.args ≡ Some vs →
       mach_act c.setting i.op vs x ≡ Goes ws On after → Grown x after →
-      put_all c.setting.end i.results ws (clear (killed m i) (past_frame (passes_frame i.op) a)) ≡ Some d →
+      put_all c.setting.end i.results ws (clear_registers (killed m i) (past_frame (passes_frame i.op) a)) ≡ Some d →
       Holds (i ∷ next) x a → Holds next after d
   holds_next {i} {next} ending st a d x after vs ws e acts grown puts known j r w = by (earlier_of m plan ending j r w)
     where
@@ -159,6 +159,6 @@ module _ (m : Mach) (plan : ℕ → Option Reg) (c : Place) where
           (subst (λ rs. Contains rs r) (sym (w.stands).result) (first_in r [])) z)
           a d x after vs ws (ap (λ (y : Instr). values a y.args) h ∙ e)
           (ap (λ (y : Instr). mach_act c.setting y.op vs x) h ∙ acts)
-          (ap (λ (y : Instr). put_all c.setting.end y.results ws (clear (killed m y) (past_frame (passes_frame y.op) a))) h ∙ puts)
+          (ap (λ (y : Instr). put_all c.setting.end y.results ws (clear_registers (killed m y) (past_frame (passes_frame y.op) a))) h ∙ puts)
       by (earlier s straight apart ends kept) =
           still i j r (w.stands).operates straight apart ends kept a d x after ws grown puts (known j r s)

@@ -8,10 +8,10 @@ use Rattle.bs_words.specs.declared.values.Value.{Value}
 use Rattle.bs_words.proofs.Lists.{head_same, tail_same}
 use Rattle.cmm_meaning.specs.State.{Doing}
 use Rattle.mach_ir.specs.Acts.{Around, Target, On, At, AtHandler, Act, Goes, Pushes, Jumps, Unwinds, Asks, Replaces, Ends, EndsRaising, Stuck}
-use Rattle.mach_ir.specs.Keeps.{ValsWritten, Ahead, Trails, Proper, Follows, Begins, Does}
-use Rattle.mach_ir.specs.Meaning.{Held, State, File, put_all, clear, killed, values, with_held, past_frame, passes_frame, mach_act, tries_at, tries_past, start}
+use Rattle.mach_ir.specs.Keeps.{ValsWritten, Ahead, Trails, Proper, Follows, Begins, MachSimulation}
+use Rattle.mach_ir.specs.Meaning.{Held, State, File, put_all, clear_registers, killed, values, with_held, past_frame, passes_frame, mach_act, tries_at, tries_past, mach_start}
 use Rattle.mach_ir.specs.Placed.{is_straight}
-use Rattle.mach_ir.specs.Runs.{Place, Tally, entered}
+use Rattle.mach_ir.specs.Runs.{ActivationSetting, Tally, entry_around}
 use Rattle.mach_ir.specs.Walks.{IsRegister, LiveAcross}
 use Rattle.mach_ir.specs.declared.reg.Reg.{Reg}
 use Rattle.mach_ir.specs.declared.mach.Instr.{Instr}
@@ -24,7 +24,7 @@ use Rattle.mach_laws.proofs.Level as levels
 use Rattle.mach_laws.proofs.Places.{tries_expand, stands_of}
 use Rattle.mach_laws.proofs.Simulate.{Agrees}
 use Rattle.repeat_rules.specs.Kept.{OwnOrigins}
-use Rattle.repeat_rules.specs.Repeated.{is_operator, allocates, Repeats, from_earlier, again, in_place, with_moves, IsBefore}
+use Rattle.repeat_rules.specs.Repeated.{is_operator, allocates, RepeatsEarlier, from_earlier, instr_with_earlier, alone_with_earlier, with_moves, IsRepeatedBefore}
 use Rattle.repeat_rules.proofs.OneForOne as one
 use Rattle.mach_laws.proofs.InPlace.{frame_same}
 use Rattle.mach_laws.proofs.Level.{ahead_of, trails_of}
@@ -35,19 +35,19 @@ use Rattle.repeat_rules.proofs.Live.{Stood, across_back}
 use Rattle.repeat_rules.proofs.Standing.{operator_straight, operator_same, Standing, not_past, not_at_entry, not_at_label, not_landed, Repeated, repeated}
 
 module _ (m : Mach) (plan : ℕ → Option Reg) (own : OwnOrigins m)
-    (moves : (i : Instr) (next made : List Instr) → IsBefore plan m i next made → is_operator i.op ≡ true → (r : Reg) →
-    plan (length next) ≡ Some r → Repeats made i r) where
+    (moves : (i : Instr) (next made : List Instr) → IsRepeatedBefore plan m i next made → is_operator i.op ≡ true → (r : Reg) →
+    plan (length next) ≡ Some r → RepeatsEarlier made i r) where
   abbrev q : Mach
   q = record m { code = with_moves plan m.code }
 
   abbrev f : ℕ → Instr → List Instr
-  f = in_place plan
+  f = alone_with_earlier plan
 
   -- registers of one origin are one
   agreed : (ws : List Reg) (s : State) → Agrees q ws s
-  agreed ws s = one.agreed (again plan) (alike plan) m (was_register m plan moves) own ws s
+  agreed ws s = one.agreed (instr_with_earlier plan) (alike plan) m (was_register m plan moves) own ws s
 
-  module _ (c : Place) where
+  module _ (c : ActivationSetting) where
     -- both are at one place, with the same round them and in registers, and results that stand hold what they should
     record InStep (rest : List Instr) (x y : Around) (a b : File) : Type 0 where
       around : x ≡ y
@@ -56,14 +56,14 @@ module _ (m : Mach) (plan : ℕ → Option Reg) (own : OwnOrigins m)
 
     vals_before : (i : Instr) (next : List Instr) (a : File) (x : Around) → Ending (i ∷ next) m.code →
         Holds m plan c (i ∷ next) x a → ValsWritten m (at (i ∷ next) a x) →
-        ValsWritten q (at (again plan (length next) i ∷ expand f next) a x)
+        ValsWritten q (at (instr_with_earlier plan (length next) i ∷ expand f next) a x)
     vals_before i next a x ending holds known =
         record {
           written = λ j ys e frame r one val v none.
               by r (was_register m plan moves r one) val
-              (sym (frame_same (again plan) (same_ops plan) (length next) i) ∙ ap (λ (z : Instr). passes_frame z.op) (head_same e) ∙ frame) none
+              (sym (frame_same (instr_with_earlier plan) (same_ops plan) (length next) i) ∙ ap (λ (z : Instr). passes_frame z.op) (head_same e) ∙ frame) none
               (across_back m plan moves ending
-              (subst (λ ys. LiveAcross q r.number (again plan (length next) i) ys) (sym (tail_same e))
+              (subst (λ ys. LiveAcross q r.number (instr_with_earlier plan (length next) i) ys) (sym (tail_same e))
               (subst (λ (z : Instr). LiveAcross q r.number z ys) (sym (head_same e)) v)));
         }
       where
@@ -122,7 +122,7 @@ module _ (m : Mach) (plan : ℕ → Option Reg) (own : OwnOrigins m)
         -- within a straight run
         stays_in_step : is_straight i.op ≡ true → (ws : List Value) (after : Around) →
             mach_act c.setting i.op vs x ≡ Goes ws On after → Grown x after → (d : File) →
-            put_all c.setting.end i.results ws (clear (killed m i) a') ≡ Some d → InStep next after after d d
+            put_all c.setting.end i.results ws (clear_registers (killed m i) a') ≡ Some d → InStep next after after d d
         stays_in_step st ws after acts grown d puts =
             record {
               around = refl;
@@ -155,12 +155,12 @@ module _ (m : Mach) (plan : ℕ → Option Reg) (own : OwnOrigins m)
         abbrev Replaced : Type 0
         Replaced = general.Replaces c m q f (keeps_marks plan) refl Suit InStep i next x x a a vs
 
-        vals_here : (main : Instr) → again plan (length next) i ≡ main → ValsWritten m (at (i ∷ next) a x) →
+        vals_here : (main : Instr) → instr_with_earlier plan (length next) i ≡ main → ValsWritten m (at (i ∷ next) a x) →
             ValsWritten q (at (main ∷ expand f next) a x)
         vals_here main e known =
             subst (λ (z : Instr). ValsWritten q (at (z ∷ expand f next) a x)) e (vals_before i next a x ending holds known)
 
-        left_there : again plan (length next) i ≡ i → Replaced
+        left_there : instr_with_earlier plan (length next) i ≡ i → Replaced
         left_there e =
             record {
               pre = [];
@@ -175,7 +175,7 @@ module _ (m : Mach) (plan : ℕ → Option Reg) (own : OwnOrigins m)
               alike = same_acts;
             }
 
-        move_there : (r : Reg) → is_operator i.op ≡ true → again plan (length next) i ≡ from_earlier (Some r) i →
+        move_there : (r : Reg) → is_operator i.op ≡ true → instr_with_earlier plan (length next) i ≡ from_earlier (Some r) i →
             Repeated m plan i next r → Replaced
         move_there r o e w =
             record {
@@ -207,7 +207,7 @@ module _ (m : Mach) (plan : ℕ → Option Reg) (own : OwnOrigins m)
                 ap (λ g. mach_act c.setting g vs x) (sym w.same_op)
                 ∙ h.gives vs (ap (values a) w.same_args ∙ reads)
 
-            quiet : clear (killed m i) a' ≡ a
+            quiet : clear_registers (killed m i) a' ≡ a
             quiet =
                 calm m plan c i a (operator_straight i.op o) (operator_same allocates false (λ f. refl) i.op o)
 
@@ -241,9 +241,9 @@ module _ (m : Mach) (plan : ℕ → Option Reg) (own : OwnOrigins m)
         }
 
     does_at : (arguments : List Value) (memory : Memory) (doings : List Doing) (s : State) →
-        start c m arguments memory ≡ Some s → Begins c m q arguments memory doings s
-    does_at = levels.begins_at c m q refl (λ arguments memory a t n e proper. follows a (entered memory) n t proper)
+        mach_start c m arguments memory ≡ Some s → Begins c m q arguments memory doings s
+    does_at = levels.begins_at c m q refl (λ arguments memory a t n e proper. follows a (entry_around memory) n t proper)
 
   -- The function whose repeats are moves does what it did.
-  pub does_repeated : Does m (record m { code = with_moves plan m.code })
+  pub does_repeated : MachSimulation m (record m { code = with_moves plan m.code })
   does_repeated = λ c arguments memory doings s e. does_at c arguments memory doings s e

@@ -5,34 +5,34 @@ use Rattle.std.proofs.lemmas.Bool.{both_ways}
 use Rattle.std.proofs.lemmas.List.Elements.{Contains-append_left}
 use Rattle.bs_words.specs.declared.types.Comp.TheVariants as comp
 use Rattle.bs_words.proofs.Lists.{first_in}
-use Rattle.mach_ir.specs.Meaning.{killed, written, passes_frame}
+use Rattle.mach_ir.specs.Meaning.{killed, registers_written, passes_frame}
 use Rattle.mach_ir.specs.Placed.{is_straight}
-use Rattle.mach_ir.specs.Walks.{Among, first, later, Writes, Live, read, LiveAfter, LiveAcross, IsRegister, is_in_code, NoAddrLive, Stands, IsMove, is_move, Meets, at_write, at_params}
+use Rattle.mach_ir.specs.Walks.{AmongRegisters, first, later, Writes, Live, read, LiveAfter, LiveAcross, IsRegister, is_in_code, NoAddrLive, StandsAsInstr, IsMove, is_move, Meets, at_write, at_params}
 use Rattle.mach_ir.specs.declared.reg.Reg.{Reg}
 use Rattle.mach_ir.specs.declared.mach.Instr.{Instr}
 use Rattle.mach_ir.specs.declared.mach.Mach.{Mach}
 use Rattle.mach_laws.specs.Expand.{Ending, all, expand}
 use Rattle.mach_laws.proofs.Places.{stands_of, ending_of, results_in}
 use Rattle.mach_laws.proofs.Among.{none_among, left_among, split_among, number_among, among_of}
-use Rattle.repeat_rules.specs.Repeated.{is_operator, allocates, Ends, Repeats, again, in_place, with_moves, IsBefore}
+use Rattle.repeat_rules.specs.Repeated.{is_operator, allocates, EndsHeldValue, RepeatsEarlier, instr_with_earlier, alone_with_earlier, with_moves, IsRepeatedBefore}
 use Rattle.repeat_rules.proofs.OneForOne as one
 use Rattle.mach_laws.proofs.InPlace.{was_main}
 use Rattle.repeat_rules.proofs.OneForOne.{in_append, written_same}
 use Rattle.repeat_rules.proofs.Form.{Fate, unchanged, moved, fate, alike, operator_result, was_register}
 use Rattle.repeat_rules.proofs.Standing.{operator_straight, straight_kills, straight_frame, Standing, Earlier, just_now, earlier, earlier_of, not_at_entry, not_at_label, not_at_handler, repeated}
 
-among_one : {n : ℕ} {r : Reg} → Among n (r ∷ []) → r.number ≡ n
+among_one : {n : ℕ} {r : Reg} → AmongRegisters n (r ∷ []) → r.number ≡ n
 among_one (first e) = e
 among_one (later a) = absurd (none_among a)
 
 module _ (m : Mach) (plan : ℕ → Option Reg)
-    (moves : (i : Instr) (next made : List Instr) → IsBefore plan m i next made → is_operator i.op ≡ true → (r : Reg) →
-    plan (length next) ≡ Some r → Repeats made i r) where
+    (moves : (i : Instr) (next made : List Instr) → IsRepeatedBefore plan m i next made → is_operator i.op ≡ true → (r : Reg) →
+    plan (length next) ≡ Some r → RepeatsEarlier made i r) where
   abbrev pub q : Mach
   q = record m { code = with_moves plan m.code }
 
   abbrev pub f : ℕ → Instr → List Instr
-  f = in_place plan
+  f = alone_with_earlier plan
 
   -- the result of an operator that stands is a register of both
   pub standing_register : {rest : List Instr} (j : Instr) (r : Reg) → Standing m plan rest j r → IsRegister m r
@@ -71,7 +71,7 @@ module _ (m : Mach) (plan : ℕ → Option Reg)
           absurd
           (free
           (left_among i.results (killed m i)
-          (subst (λ k. Among k i.results) x.number
+          (subst (λ k. AmongRegisters k i.results) x.number
           (among_of x.register i.results
           (subst (λ (j : Instr). Contains j.results x.register) e
           (subst (λ rs. Contains rs x.register) (sym ((x.standing).stands).result) (first_in x.register [])))))))
@@ -83,11 +83,11 @@ module _ (m : Mach) (plan : ℕ → Option Reg)
           }
 
   read_back : {n : ℕ} (i : Instr) (next : List Instr) → Ending (i ∷ next) m.code →
-      Among n (again plan (length next) i).args → Was n (i ∷ next)
+      AmongRegisters n (instr_with_earlier plan (length next) i).args → Was n (i ∷ next)
   read_back {n} i next ending a = by (fate plan (length next) i)
     where
       by : Fate plan (length next) i → Was n (i ∷ next)
-      by (unchanged e s) = inl (read (subst (λ (x : Instr). Among n x.args) e a))
+      by (unchanged e s) = inl (read (subst (λ (x : Instr). AmongRegisters n x.args) e a))
       by (moved r g s e) =
           let w = repeated m plan moves (stands_of ending) g s in
           inr
@@ -95,10 +95,10 @@ module _ (m : Mach) (plan : ℕ → Option Reg)
             instr = w.instr;
             register = r;
             standing = w.standing;
-            number = among_one (subst (λ (x : Instr). Among n x.args) e a);
+            number = among_one (subst (λ (x : Instr). AmongRegisters n x.args) e a);
           })
 
-  extra : one.IsExtra (again plan) (alike plan) m Result Stood
+  extra : one.IsExtra (instr_with_earlier plan) (alike plan) m Result Stood
   extra =
       record {
         reads = λ n i next ending a. read_back i next ending a;
@@ -109,8 +109,8 @@ module _ (m : Mach) (plan : ℕ → Option Reg)
       }
 
   pub across_back : {n : ℕ} {i : Instr} {next : List Instr} → Ending (i ∷ next) m.code →
-      LiveAcross q n (again plan (length next) i) (expand f next) → LiveAcross m n i next ⊎ Stood n i next
-  across_back ending v = one.across_back (again plan) (alike plan) m Result Stood extra ending v
+      LiveAcross q n (instr_with_earlier plan (length next) i) (expand f next) → LiveAcross m n i next ⊎ Stood n i next
+  across_back ending v = one.across_back (instr_with_earlier plan) (alike plan) m Result Stood extra ending v
 
   -- ---- the graph
 
@@ -122,18 +122,18 @@ module _ (m : Mach) (plan : ℕ → Option Reg)
     pub is_other : IsRegister m other
     pub number : one.number ≡ n
     pub other_number : other.number ≡ k
-    pub stands : Ends other one → ⊥
+    pub stands : EndsHeldValue other one → ⊥
 
   move_plain : {n k : ℕ} {i : Instr} → IsMove n k i → is_operator i.op ≡ false
   move_plain (is_move e h) = refl
 
-  meets_write : {n k : ℕ} (i : Instr) (next : List Instr) → n ≢ k → Ending (i ∷ next) m.code → Stands i next m.code →
+  meets_write : {n k : ℕ} (i : Instr) (next : List Instr) → n ≢ k → Ending (i ∷ next) m.code → StandsAsInstr i next m.code →
       Writes m i n → Result k next → Apart n k
   meets_write {n} {k} i next differs ending s w x = by (earlier_of m plan ending x.instr x.register x.standing)
     where
-      in_results_of : is_straight i.op ≡ true → Among n i.results
+      in_results_of : is_straight i.op ≡ true → AmongRegisters n i.results
       in_results_of st =
-          ⊎_elim (λ a. a) (λ a. absurd (none_among (subst (Among n) (straight_kills m i st) a)))
+          ⊎_elim (λ a. a) (λ a. absurd (none_among (subst (AmongRegisters n) (straight_kills m i st) a)))
           (split_among n i.results (killed m i) w)
 
       by : Earlier m plan i next x.instr x.register → Apart n k
@@ -144,7 +144,7 @@ module _ (m : Mach) (plan : ℕ → Option Reg)
           (differs
           (sym
           (among_one
-          (subst (Among n) (ap (λ (j : Instr). j.results) (sym e) ∙ ((x.standing).stands).result) (in_results_of st)))
+          (subst (AmongRegisters n) (ap (λ (j : Instr). j.results) (sym e) ∙ ((x.standing).stands).result) (in_results_of st)))
           ∙ x.number))
       by (earlier v st apart ends kept) =
           let r = number_among i.results (in_results_of st) in
@@ -160,28 +160,28 @@ module _ (m : Mach) (plan : ℕ → Option Reg)
 
   pub meets_back : {n k : ℕ} → n ≢ k → Meets q n k → Meets m n k ⊎ Apart n k
   meets_back {n} {k} differs (at_write j zs s w v apart) =
-      let o = was_main (again plan) m.code j zs s in
+      let o = was_main (instr_with_earlier plan) m.code j zs s in
       by o.instr o.next o.stands
-      (subst (Among n) (written_same (again plan) (alike plan) m (length o.next) o.instr) (subst (λ x. Among n (written m x)) (sym o.same) w))
-      (subst (λ ys. LiveAfter q k (again plan (length o.next) o.instr) ys) o.same_next
+      (subst (AmongRegisters n) (written_same (instr_with_earlier plan) (alike plan) m (length o.next) o.instr) (subst (λ x. AmongRegisters n (registers_written m x)) (sym o.same) w))
+      (subst (λ ys. LiveAfter q k (instr_with_earlier plan (length o.next) o.instr) ys) o.same_next
       (subst (λ (x : Instr). LiveAfter q k x zs) (sym o.same) v))
       (λ x. not_move o.instr (length o.next) (subst (λ (y : Instr). IsMove k n y → ⊥) (sym o.same) apart) x)
     where
-      not_move : (i : Instr) (p : ℕ) → (IsMove k n (again plan p i) → ⊥) → IsMove k n i → ⊥
+      not_move : (i : Instr) (p : ℕ) → (IsMove k n (instr_with_earlier plan p i) → ⊥) → IsMove k n i → ⊥
       not_move i p h x = of_fate (fate plan p i)
         where
           of_fate : Fate plan p i → ⊥
           of_fate (unchanged e s) = h (subst (IsMove k n) (sym e) x)
           of_fate (moved r g s e) = both_ways (is_operator i.op) (move_plain x) g
 
-      by : (i : Instr) (next : List Instr) → Stands i next m.code → Writes m i n →
-          LiveAfter q k (again plan (length next) i) (expand f next) → (IsMove k n i → ⊥) → Meets m n k ⊎ Apart n k
+      by : (i : Instr) (next : List Instr) → StandsAsInstr i next m.code → Writes m i n →
+          LiveAfter q k (instr_with_earlier plan (length next) i) (expand f next) → (IsMove k n i → ⊥) → Meets m n k ⊎ Apart n k
       by i next s w v free =
           ⊎_elim (λ l. inl (at_write i next s w l free)) (λ x. inr (meets_write i next differs (ending_of s) s w x))
-          (one.after_back (again plan) (alike plan) m Result Stood extra (ending_of s) v)
+          (one.after_back (instr_with_earlier plan) (alike plan) m Result Stood extra (ending_of s) v)
   meets_back differs (at_params a v) =
       ⊎_elim (λ l. inl (at_params a l)) (λ x. absurd (not_at_entry m plan x.instr x.register x.standing))
-      (one.live_back (again plan) (alike plan) m Result Stood extra v m.code all refl)
+      (one.live_back (instr_with_earlier plan) (alike plan) m Result Stood extra v m.code all refl)
 
   module _ (numbers : (r k : Reg) → IsRegister m r → IsRegister m k → r.number ≡ k.number → r ≡ k) where
     -- a result that an instruction leaves is lost at no frame point
@@ -195,5 +195,5 @@ module _ (m : Mach) (plan : ℕ → Option Reg)
 
     pub no_addr_back : NoAddrLive m → NoAddrLive (record m { code = with_moves plan m.code })
     no_addr_back none =
-        one.no_addr_back (again plan) (alike plan) m Result Stood extra (was_register m plan moves)
+        one.no_addr_back (instr_with_earlier plan) (alike plan) m Result Stood extra (was_register m plan moves)
         (λ i next r known addr frame s. stood_frame r known addr frame s) none

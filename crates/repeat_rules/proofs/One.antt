@@ -4,7 +4,7 @@ use Rattle.std.proofs.Common.{◌≡◌, ℕ, Bool, true, false, cond, List, [],
 use Rattle.mach_ir.specs.declared.reg.Reg.{Reg}
 use Rattle.mach_ir.specs.declared.mach.Instr.{Instr}
 use Rattle.mach_ir.specs.declared.mach.Mach.{Mach}
-use Rattle.repeat_rules.specs.Repeated.{is_operator, StillStands, Repeats, from_earlier, again, with_moves, IsBefore, IsRepeated}
+use Rattle.repeat_rules.specs.Repeated.{is_operator, StillStands, RepeatsEarlier, from_earlier, instr_with_earlier, with_moves, IsRepeatedBefore, IsRepeated}
 use Rattle.repeat_rules.proofs.OneForOne as same
 use Rattle.repeat_rules.proofs.Form.{alone, left_none}
 use Rattle.repeat_rules.proofs.Runs.{Order, together, first_one, first_other, order}
@@ -16,7 +16,7 @@ only_same e = cc
 -- no operator of this code repeats one before it
 abbrev NoneRepeats : List Instr → Type 0
 NoneRepeats made =
-    (before : List Instr) (j : Instr) (after : List Instr) → made ≡ before ++ j ∷ after → (r : Reg) → Repeats before j r → ⊥
+    (before : List Instr) (j : Instr) (after : List Instr) → made ≡ before ++ j ∷ after → (r : Reg) → RepeatsEarlier before j r → ⊥
 
 -- the later of two that do the same repeats the earlier
 later_repeats : {made : List Instr} → NoneRepeats made → (j k : Instr) (r s : Reg) (x : StillStands made j r)
@@ -36,20 +36,20 @@ one_result none j k r s x y ops args = by (order x.others y.others j k x.run y.r
     by (first_other mid e) = absurd (later_repeats none k j s r y x (sym ops) (sym args) mid e)
 
 module _ (m : Mach) (p w : ℕ → Option Reg)
-    (moves_p : (i : Instr) (next made : List Instr) → IsBefore p m i next made → is_operator i.op ≡ true → (r : Reg) →
-    p (length next) ≡ Some r → Repeats made i r)
-    (stays_p : (i : Instr) (next made : List Instr) → IsBefore p m i next made → p (length next) ≡ None → (r : Reg) →
-    Repeats made i r → ⊥)
-    (moves_w : (i : Instr) (next made : List Instr) → IsBefore w m i next made → is_operator i.op ≡ true → (r : Reg) →
-    w (length next) ≡ Some r → Repeats made i r)
-    (stays_w : (i : Instr) (next made : List Instr) → IsBefore w m i next made → w (length next) ≡ None → (r : Reg) →
-    Repeats made i r → ⊥) where
+    (moves_p : (i : Instr) (next made : List Instr) → IsRepeatedBefore p m i next made → is_operator i.op ≡ true → (r : Reg) →
+    p (length next) ≡ Some r → RepeatsEarlier made i r)
+    (stays_p : (i : Instr) (next made : List Instr) → IsRepeatedBefore p m i next made → p (length next) ≡ None → (r : Reg) →
+    RepeatsEarlier made i r → ⊥)
+    (moves_w : (i : Instr) (next made : List Instr) → IsRepeatedBefore w m i next made → is_operator i.op ≡ true → (r : Reg) →
+    w (length next) ≡ Some r → RepeatsEarlier made i r)
+    (stays_w : (i : Instr) (next made : List Instr) → IsRepeatedBefore w m i next made → w (length next) ≡ None → (r : Reg) →
+    RepeatsEarlier made i r → ⊥) where
   none_before : (made rest : List Instr) → with_moves p m.code ≡ made ++ rest → NoneRepeats made
   none_before made rest whole before j after e r x =
       left_none m p stays_p before j (after ++ rest)
       (whole ∙ ap (λ xs. xs ++ rest) e ∙ append_assoc before (j ∷ after) rest) r x
 
-  one_choice : (i : Instr) (next made : List Instr) → IsBefore p m i next made → IsBefore w m i next made →
+  one_choice : (i : Instr) (next made : List Instr) → IsRepeatedBefore p m i next made → IsRepeatedBefore w m i next made →
       is_operator i.op ≡ true → p (length next) ≡ w (length next)
   one_choice i next made bp bw o = by (p (length next)) (w (length next)) refl refl
     where
@@ -65,18 +65,18 @@ module _ (m : Mach) (p w : ℕ → Option Reg)
           (x.same_op ∙ sym y.same_op) (x.same_args ∙ sym y.same_args) in
           e ∙ ap Some same ∙ sym h
 
-  one_instr : (i : Instr) (next made : List Instr) → IsBefore p m i next made → IsBefore w m i next made →
-      again p (length next) i ≡ again w (length next) i
+  one_instr : (i : Instr) (next made : List Instr) → IsRepeatedBefore p m i next made → IsRepeatedBefore w m i next made →
+      instr_with_earlier p (length next) i ≡ instr_with_earlier w (length next) i
   one_instr i next made bp bw = by (is_operator i.op) refl
     where
-      by : (b : Bool) → is_operator i.op ≡ b → again p (length next) i ≡ again w (length next) i
+      by : (b : Bool) → is_operator i.op ≡ b → instr_with_earlier p (length next) i ≡ instr_with_earlier w (length next) i
       by false e = alone p (length next) i e ∙ sym (alone w (length next) i e)
       by true e =
           ap (λ o. cond (is_operator i.op) (from_earlier o i) i) (one_choice i next made bp bw e)
 
   pub one_code : with_moves p m.code ≡ with_moves w m.code
   one_code =
-      same.one_code (again p) (again w) m.code
+      same.one_code (instr_with_earlier p) (instr_with_earlier w) m.code
       (λ i next before made whole e h.
       one_instr i next made (record { before = before; whole = whole; made_so = e }) (record { before = before; whole = whole; made_so = h }))
       m.code [] [] refl refl refl

@@ -11,10 +11,10 @@ use Rattle.bs_words.specs.declared.types.Loc.TheVariants as loc
 use Rattle.bs_words.proofs.Lists.{first_in, later_in}
 use Rattle.mach_ir.specs.Acts.{Target, On, At}
 use Rattle.mach_ir.specs.Placed.{MayShare, WellPlaced}
-use Rattle.mach_ir.specs.Meaning.{Held, State, Nothing, after_label, from_handler, code_at, destroyed_by, killed_by, written, passes_frame}
-use Rattle.mach_ir.specs.Walks.{Among, goes, Writes, Live, on, aside, LiveAfter, after_step, LiveAcross, across_step, across_raise, InCode, in_args, in_results, further, IsRegister, NoAddrLive, Stands, here, below, Meets, Joined, one_way, other_way}
-use Rattle.mach_ir.specs.Formed.{comps, IsFormed, AreDistinct, WellFormed}
-use Rattle.mach_ir.specs.Forms.{results_of}
+use Rattle.mach_ir.specs.Meaning.{Held, State, Nothing, after_label, from_handler, code_at, destroyed_by, killed_by, registers_written, passes_frame}
+use Rattle.mach_ir.specs.Walks.{AmongRegisters, goes, Writes, Live, on, aside, LiveAfter, after_step, LiveAcross, across_step, across_raise, InCode, in_args, in_results, further, IsRegister, NoAddrLive, StandsAsInstr, here, below, Meets, Joined, one_way, other_way}
+use Rattle.mach_ir.specs.Formed.{comps, IsFormedInstruction, AreDistinct, WellFormed}
+use Rattle.mach_ir.specs.Forms.{results_of_type}
 use Rattle.mach_ir.specs.Sizes.{operand_count, Size, HasSize}
 use Rattle.mach_ir.specs.declared.op.Leaving.TheVariants as leaving
 use Rattle.mach_ir.specs.declared.op.Op.TheVariants as op
@@ -38,7 +38,7 @@ in_append (x ∷ xs) y ys = later_in x y (xs ++ y ∷ ys) (in_append xs y ys)
 -- ---- what is in code
 
 pub in_code_stands : {r : Reg} (code : List Instr) → InCode r code →
-    (j : Instr) × (zs : List Instr) × Stands j zs code × (Contains j.args r ⊎ Contains j.results r)
+    (j : Instr) × (zs : List Instr) × StandsAsInstr j zs code × (Contains j.args r ⊎ Contains j.results r)
 in_code_stands [] c = elim c [ ]
 in_code_stands (i ∷ is) (in_args c) = (i, is, here, inl c)
 in_code_stands (i ∷ is) (in_results c) = (i, is, here, inr c)
@@ -62,7 +62,7 @@ module _ (again : ℕ → Instr → Instr) where
     pub whole : code ≡ before ++ i ∷ next
     pub made_so : expand f code ≡ made ++ again (length next) i ∷ expand f next
 
-  pub before_of : {i : Instr} {next code : List Instr} → Stands i next code → Before i next code
+  pub before_of : {i : Instr} {next code : List Instr} → StandsAsInstr i next code → Before i next code
   before_of here = record { before = []; made = []; whole = refl; made_so = refl }
   before_of (below {j = j} {is = is} s) =
       let w = before_of s in
@@ -139,21 +139,21 @@ module _ (again : ℕ → Instr → Instr) (alike : (k : ℕ) (i : Instr) → St
   -- where each that stands for an instruction is formed, and returns what the function gives
   pub still_formed : (m : Mach) → WellFormed m →
       ((r : Reg) → IsRegister (record m { code = expand (one_each again) m.code }) r → IsRegister m r) →
-      ((i : Instr) (next : List Instr) → Stands i next m.code → IsFormed (again (length next) i)) →
-      ((i : Instr) (next : List Instr) → Stands i next m.code → (again (length next) i).op ≡ mach.Op (op.Leaving leaving.Return) →
-      comps (again (length next) i).args ≡ results_of m.result) →
+      ((i : Instr) (next : List Instr) → StandsAsInstr i next m.code → IsFormedInstruction (again (length next) i)) →
+      ((i : Instr) (next : List Instr) → StandsAsInstr i next m.code → (again (length next) i).op ≡ mach.Op (op.Leaving leaving.Return) →
+      comps (again (length next) i).args ≡ results_of_type m.result) →
       WellFormed (record m { code = expand (one_each again) m.code })
   still_formed m formed was_register instrs returns =
       record {
         numbers = λ r k i j e. formed.numbers r k (was_register r i) (was_register k j) e;
         params = formed.params;
         params_distinct = formed.params_distinct;
-        instrs = text.all_in again m.code IsFormed instrs;
+        instrs = text.all_in again m.code IsFormedInstruction instrs;
         distinct = text.all_in again m.code (λ (i : Instr). AreDistinct i.results)
             (λ i next s.
             subst AreDistinct (sym (alike (length next) i).results)
             (All-contains (λ (i : Instr). AreDistinct i.results) m.code i formed.distinct (contains_of s)));
-        returns = text.each_in again m.code (λ (j : Instr). j.op ≡ mach.Op (op.Leaving leaving.Return) → comps j.args ≡ results_of m.result)
+        returns = text.each_in again m.code (λ (j : Instr). j.op ≡ mach.Op (op.Leaving leaving.Return) → comps j.args ≡ results_of_type m.result)
             returns;
         labels_once = subst (λ ls. AllPairs (λ k l. k ≢ l) ls) (sym (text.same_labels again ops m.code)) formed.labels_once;
         labels_below = subst (λ ls. All (λ l. l < m.labels) ls) (sym (text.same_labels again ops m.code)) formed.labels_below;
@@ -178,13 +178,13 @@ module _ (again : ℕ → Instr → Instr) (alike : (k : ℕ) (i : Instr) → St
   -- ---- walks
 
   module _ (m : Mach) where
-    pub written_same : (k : ℕ) (i : Instr) → written m (again k i) ≡ written m i
+    pub written_same : (k : ℕ) (i : Instr) → registers_written m (again k i) ≡ registers_written m i
     written_same k i =
         ap (λ rs. rs ++ killed_by m.colours (destroyed_by (again k i).op) rs) (alike k i).results
         ∙ ap (λ d. i.results ++ killed_by m.colours d i.results) (op_same again ops destroyed_by Nothing (λ f. refl) k i)
 
     free_there : {n : ℕ} (i : Instr) (k : ℕ) → (Writes (now m) (again k i) n → ⊥) → Writes m i n → ⊥
-    free_there {n} i k free w = free (subst (Among n) (sym (written_same k i)) w)
+    free_there {n} i k free w = free (subst (AmongRegisters n) (sym (written_same k i)) w)
 
     -- ---- places
 
@@ -231,7 +231,7 @@ module _ (again : ℕ → Instr → Instr) (alike : (k : ℕ) (i : Instr) → St
       Was n rest = Live m n rest ⊎ Extra n rest
 
       pub record IsExtra : Type 0 where
-        pub reads : (n : ℕ) (i : Instr) (next : List Instr) → Ending (i ∷ next) m.code → Among n (again (length next) i).args → Was n (i ∷ next)
+        pub reads : (n : ℕ) (i : Instr) (next : List Instr) → Ending (i ∷ next) m.code → AmongRegisters n (again (length next) i).args → Was n (i ∷ next)
         pub left : (n : ℕ) (i : Instr) (next : List Instr) → Ending (i ∷ next) m.code → (Writes m i n → ⊥) → Extra n next → Left n i next
         pub before : (n : ℕ) (i : Instr) (next : List Instr) → Ending (i ∷ next) m.code → Left n i next → Was n (i ∷ next)
         pub at_label : (n l : ℕ) → Extra n (after_label l m.code) → ⊥

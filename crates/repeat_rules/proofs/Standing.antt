@@ -9,7 +9,7 @@ use Rattle.bs_words.proofs.Lists.{first_in, later_in, in_cons}
 use Rattle.mach_ir.specs.Acts.{Landing}
 use Rattle.mach_ir.specs.Meaning.{Nothing, is_handler_of, after_label, from_handler, landing_code, destroyed_by, killed_by, killed, passes_frame}
 use Rattle.mach_ir.specs.Placed.{is_straight}
-use Rattle.mach_ir.specs.Walks.{Stands}
+use Rattle.mach_ir.specs.Walks.{StandsAsInstr}
 use Rattle.mach_ir.specs.declared.op.Access.TheVariants as access
 use Rattle.mach_ir.specs.declared.op.Op.TheVariants as op
 use Rattle.mach_ir.specs.declared.op.Pure.{Pure}
@@ -19,7 +19,7 @@ use Rattle.mach_ir.specs.declared.mach.MachOp.TheVariants as mach
 use Rattle.mach_ir.specs.declared.mach.Instr.{Instr}
 use Rattle.mach_ir.specs.declared.mach.Mach.{Mach}
 use Rattle.mach_laws.specs.Expand.{Ending, expand}
-use Rattle.repeat_rules.specs.Repeated.{is_operator, allocates, Ends, StillStands, Repeats, again, in_place, with_moves, IsBefore}
+use Rattle.repeat_rules.specs.Repeated.{is_operator, allocates, EndsHeldValue, StillStands, RepeatsEarlier, instr_with_earlier, alone_with_earlier, with_moves, IsRepeatedBefore}
 use Rattle.mach_laws.proofs.InPlace.{of_pure, op_same}
 use Rattle.repeat_rules.proofs.OneForOne.{in_append, Made, before_of, made_past}
 use Rattle.repeat_rules.proofs.Form.{operator_pure, Fate, unchanged, moved, fate, alike, same_ops}
@@ -66,7 +66,7 @@ pub data Since (made : List Instr) (x j : Instr) (r : Reg) : Type 0 where
   just_there : j ≡ x → Since made x j r
   stood : StillStands made j r → is_straight x.op ≡ true →
       ((w k : Reg) → Contains x.results w → Contains j.args k → w.number ≢ k.number) →
-      ((w : Reg) → Contains x.results w → Ends r w → ⊥) → (r.comp ≡ comp.Addr → allocates x.op ≡ false) → Since made x j r
+      ((w : Reg) → Contains x.results w → EndsHeldValue r w → ⊥) → (r.comp ≡ comp.Addr → allocates x.op ≡ false) → Since made x j r
 
 -- an operator that stands stood earlier in its run too
 pub restricted : {made : List Instr} (j : Instr) (r : Reg) (s : StillStands made j r) (ys zs : List Instr) → s.run ≡ ys ++ zs →
@@ -123,7 +123,7 @@ module _ (m : Mach) (plan : ℕ → Option Reg) where
   q = record m { code = with_moves plan m.code }
 
   abbrev pub f : ℕ → Instr → List Instr
-  f = in_place plan
+  f = alone_with_earlier plan
 
   -- ---- what stands
 
@@ -138,7 +138,7 @@ module _ (m : Mach) (plan : ℕ → Option Reg) where
     just_now : j ≡ i → Earlier i next j r
     earlier : Standing (i ∷ next) j r → is_straight i.op ≡ true →
         ((w k : Reg) → Contains i.results w → Contains j.args k → w.number ≢ k.number) →
-        ((w : Reg) → Contains i.results w → Ends r w → ⊥) → (r.comp ≡ comp.Addr → allocates i.op ≡ false) →
+        ((w : Reg) → Contains i.results w → EndsHeldValue r w → ⊥) → (r.comp ≡ comp.Addr → allocates i.op ≡ false) →
         Earlier i next j r
 
   -- what stands after an instruction
@@ -148,12 +148,12 @@ module _ (m : Mach) (plan : ℕ → Option Reg) where
       of_since (since b.made x j r (subst (λ made. StillStands made j r) past.1 w.stands))
     where
       x : Instr
-      x = again plan (length next) i
+      x = instr_with_earlier plan (length next) i
 
-      past : (b : Made (again plan) (i ∷ next) m.code) × (w.made ≡ b.made ++ x ∷ [])
-      past = made_past (again plan) w.made ending w.whole
+      past : (b : Made (instr_with_earlier plan) (i ∷ next) m.code) × (w.made ≡ b.made ++ x ∷ [])
+      past = made_past (instr_with_earlier plan) w.made ending w.whole
 
-      b : Made (again plan) (i ∷ next) m.code
+      b : Made (instr_with_earlier plan) (i ∷ next) m.code
       b = past.0
 
       of_since : Since b.made x j r → Earlier i next j r
@@ -165,12 +165,12 @@ module _ (m : Mach) (plan : ℕ → Option Reg) where
               absurd
               (both_ways (is_operator j.op) (ap (λ (y : Instr). is_operator y.op) (e ∙ h)) (w.stands).operates)
       of_since (stood s st apart ends kept) =
-          let straight : is_straight i.op ≡ true = sym (op_same (again plan) (same_ops plan) is_straight true (λ f. refl) (length next) i) ∙ st in
+          let straight : is_straight i.op ≡ true = sym (op_same (instr_with_earlier plan) (same_ops plan) is_straight true (λ f. refl) (length next) i) ∙ st in
           let results : x.results ≡ i.results = (alike plan (length next) i).results in
           earlier (record { made = b.made; whole = b.whole; stands = s; begins = starts_straight straight }) straight
           (λ v k c. apart v k (subst (λ rs. Contains rs v) (sym results) c))
           (λ v c. ends v (subst (λ rs. Contains rs v) (sym results) c))
-          (λ e. sym (op_same (again plan) (same_ops plan) allocates false (λ f. refl) (length next) i) ∙ kept e)
+          (λ e. sym (op_same (instr_with_earlier plan) (same_ops plan) allocates false (λ f. refl) (length next) i) ∙ kept e)
 
   -- nothing stands after what ends a straight run
   pub not_past : {i : Instr} {next : List Instr} → Ending (i ∷ next) m.code → is_straight i.op ≡ false → (j : Instr) (r : Reg) →
@@ -213,12 +213,12 @@ module _ (m : Mach) (plan : ℕ → Option Reg) where
     pub same_op : instr.op ≡ i.op
     pub same_args : instr.args ≡ i.args
 
-  module _ (moves : (i : Instr) (next made : List Instr) → IsBefore plan m i next made → is_operator i.op ≡ true → (r : Reg) →
-      plan (length next) ≡ Some r → Repeats made i r) where
-    pub repeated : {i : Instr} {next : List Instr} {r : Reg} → Stands i next m.code → is_operator i.op ≡ true →
+  module _ (moves : (i : Instr) (next made : List Instr) → IsRepeatedBefore plan m i next made → is_operator i.op ≡ true → (r : Reg) →
+      plan (length next) ≡ Some r → RepeatsEarlier made i r) where
+    pub repeated : {i : Instr} {next : List Instr} {r : Reg} → StandsAsInstr i next m.code → is_operator i.op ≡ true →
         plan (length next) ≡ Some r → Repeated i next r
     repeated {i} {next} {r} s o e =
-        let b = before_of (again plan) s in
+        let b = before_of (instr_with_earlier plan) s in
         let w = moves i next b.made (record { before = b.before; whole = b.whole; made_so = b.made_so }) o r e in
         record {
           instr = w.earlier;

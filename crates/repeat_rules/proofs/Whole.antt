@@ -14,8 +14,8 @@ use Rattle.mach_ir.specs.declared.mach.MachOp.{MachOp}
 use Rattle.mach_ir.specs.declared.mach.MachOp.TheVariants as mach
 use Rattle.mach_ir.specs.declared.mach.Instr.{Instr}
 use Rattle.mach_ir.specs.declared.mach.Mach.{Mach}
-use Rattle.repeat_rules.specs.Kept.{OwnOrigins, IsKept}
-use Rattle.repeat_rules.specs.Repeated.{is_operator, same_place, Repeats, again, with_moves, IsBefore, IsRepeated, IsFormKept}
+use Rattle.repeat_rules.specs.Kept.{OwnOrigins, IsRepeatKept}
+use Rattle.repeat_rules.specs.Repeated.{is_operator, same_place, RepeatsEarlier, instr_with_earlier, with_moves, IsRepeatedBefore, IsRepeated, IsFormKept}
 use Rattle.repeat_rules.proofs.OneForOne as one
 use Rattle.mach_laws.proofs.InPlace.{was_main}
 use Rattle.mach_laws.proofs.Places.{contains_of, stands_in}
@@ -24,10 +24,10 @@ use Rattle.repeat_rules.proofs.Kept.{does_repeated}
 use Rattle.repeat_rules.proofs.Live.{Apart, meets_back, no_addr_back}
 
 module _ (m : Mach) (plan : ℕ → Option Reg) (formed : WellFormed m)
-    (moves : (i : Instr) (next made : List Instr) → IsBefore plan m i next made → is_operator i.op ≡ true → (r : Reg) →
-    plan (length next) ≡ Some r → Repeats made i r)
-    (stays : (i : Instr) (next made : List Instr) → IsBefore plan m i next made → plan (length next) ≡ None → (r : Reg) →
-    Repeats made i r → ⊥) where
+    (moves : (i : Instr) (next made : List Instr) → IsRepeatedBefore plan m i next made → is_operator i.op ≡ true → (r : Reg) →
+    plan (length next) ≡ Some r → RepeatsEarlier made i r)
+    (stays : (i : Instr) (next made : List Instr) → IsRepeatedBefore plan m i next made → plan (length next) ≡ None → (r : Reg) →
+    RepeatsEarlier made i r → ⊥) where
   abbrev q : Mach
   q = record m { code = with_moves plan m.code }
 
@@ -50,7 +50,7 @@ module _ (m : Mach) (plan : ℕ → Option Reg) (formed : WellFormed m)
 
   still_placed : WellPlaced m → WellPlaced q
   still_placed placed =
-      one.still_placed (again plan) (alike plan) m was (Apart m plan moves) (λ n k apart h. meets_back m plan moves apart h) none_apart placed
+      one.still_placed (instr_with_earlier plan) (alike plan) m was (Apart m plan moves) (λ n k apart h. meets_back m plan moves apart h) none_apart placed
 
   -- ---- names
 
@@ -58,10 +58,10 @@ module _ (m : Mach) (plan : ℕ → Option Reg) (formed : WellFormed m)
       IsNamedIn Named m
   named_before Named none n =
       let s = stands_in q.code n.instr n.among in
-      let w = was_main (again plan) m.code n.instr s.0 s.1 in
+      let w = was_main (instr_with_earlier plan) m.code n.instr s.0 s.1 in
       by w.instr (length w.next) (contains_of w.stands) (subst (λ (x : Instr). Named x.op) (sym w.same) n.named)
     where
-      by : (i : Instr) (k : ℕ) → Contains m.code i → Named (again plan k i).op → IsNamedIn Named m
+      by : (i : Instr) (k : ℕ) → Contains m.code i → Named (instr_with_earlier plan k i).op → IsNamedIn Named m
       by i k c named = of_fate (fate plan k i)
         where
           of_fate : Fate plan k i → IsNamedIn Named m
@@ -87,7 +87,7 @@ module _ (m : Mach) (plan : ℕ → Option Reg) (formed : WellFormed m)
         addrs = no_addr_back m plan moves formed.numbers;
       }
 
-  pub kept_from : WellPlaced m → OwnOrigins m → IsKept m (record m { code = with_moves plan m.code })
+  pub kept_from : WellPlaced m → OwnOrigins m → IsRepeatKept m (record m { code = with_moves plan m.code })
   kept_from placed own =
       record {
         keeps = still_keeps own;
@@ -100,6 +100,6 @@ module _ (m : Mach) (plan : ℕ → Option Reg) (formed : WellFormed m)
         size = form.size;
       }
 
-pub repeated_kept : (m q : Mach) → WellFormed m → WellPlaced m → OwnOrigins m → IsRepeated m q → IsKept m q
+pub repeated_kept : (m q : Mach) → WellFormed m → WellPlaced m → OwnOrigins m → IsRepeated m q → IsRepeatKept m q
 repeated_kept m q formed placed own r =
-    subst (IsKept m) (sym r.is) (kept_from m r.plan formed r.moves r.stays placed own)
+    subst (IsRepeatKept m) (sym r.is) (kept_from m r.plan formed r.moves r.stays placed own)

@@ -9,13 +9,13 @@ use Rattle.mach_ir.specs.Walks.{IsRegister}
 use Rattle.mach_ir.specs.declared.reg.Reg.{Reg}
 use Rattle.mach_ir.specs.declared.mach.Instr.{Instr}
 use Rattle.mach_ir.specs.declared.mach.Mach.{Mach}
-use Rattle.repeat_rules.specs.Repeated.{Repeats}
+use Rattle.repeat_rules.specs.Repeated.{RepeatsEarlier}
 
 -- no register is made from another
 abbrev pub OwnOrigins : Mach → Type 0
 OwnOrigins m = (r : Reg) → IsRegister m r → r.origin ≡ r.number
 
-pub record IsKept (p q : Mach) : Type 0 where
+pub record IsRepeatKept (p q : Mach) : Type 0 where
   -- it does the same, and no addr is live after a frame point where none was
   pub keeps : Keeps p q
   pub formed : WellFormed q
@@ -26,5 +26,5 @@ pub record IsKept (p q : Mach) : Type 0 where
   pub registers : (r : Reg) → IsRegister q r → IsRegister p r
   -- no operator repeats an earlier one
   pub none_left : (made : List Instr) (i : Instr) (next : List Instr) →
-      q.code ≡ made ++ i ∷ next → (r : Reg) → Repeats made i r → ⊥
+      q.code ≡ made ++ i ∷ next → (r : Reg) → RepeatsEarlier made i r → ⊥
   pub size : (s : Size) → HasSize p s → HasSize q s

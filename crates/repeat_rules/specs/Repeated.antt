@@ -39,10 +39,10 @@ allocates (mach.Mark f) = false
 
 -- A write of the second ends what the first holds: it is that register, or another of its fixed place
 -- or of its origin.
-pub data Ends (r w : Reg) : Type 0 where
-  itself : w.number ≡ r.number → Ends r w
-  same_place : w.loc ≡ r.loc → r.loc ≢ loc.Unset → Ends r w
-  same_origin : w.origin ≡ r.origin → Ends r w
+pub data EndsHeldValue (r w : Reg) : Type 0 where
+  itself : w.number ≡ r.number → EndsHeldValue r w
+  same_place : w.loc ≡ r.loc → r.loc ≢ loc.Unset → EndsHeldValue r w
+  same_origin : w.origin ≡ r.origin → EndsHeldValue r w
 
 -- What an operator computed is still held at the end of this code: only instructions of its straight
 -- run come after it, they write no operand of it, and end its result nowhere.
@@ -56,13 +56,13 @@ pub record StillStands (before : List Instr) (j : Instr) (r : Reg) : Type 0 wher
   -- nor does it write an operand itself
   pub operands : (i : Instr) → Contains (j ∷ run) i → (w k : Reg) → Contains i.results w →
       Contains j.args k → w.number ≢ k.number
-  pub stands : (i : Instr) → Contains run i → (w : Reg) → Contains i.results w → Ends r w → ⊥
+  pub stands : (i : Instr) → Contains run i → (w : Reg) → Contains i.results w → EndsHeldValue r w → ⊥
   -- an addr is lost at an allocation
   pub kept : r.comp ≡ comp.Addr → (i : Instr) → Contains run i → allocates i.op ≡ false
 
 -- An operator after this code computes what an earlier one did, whose operands and result still hold what
 -- they held then.
-pub record Repeats (before : List Instr) (i : Instr) (r : Reg) : Type 0 where
+pub record RepeatsEarlier (before : List Instr) (i : Instr) (r : Reg) : Type 0 where
   pub earlier : Instr
   pub stands : StillStands before earlier r
   pub same_op : earlier.op ≡ i.op
@@ -81,31 +81,31 @@ from_earlier (Some r) i =
     }
 
 -- in place of an operator, by how many instructions come after it
-abbrev pub again : (ℕ → Option Reg) → ℕ → Instr → Instr
-again plan k i = cond (is_operator i.op) (from_earlier (plan k) i) i
+abbrev pub instr_with_earlier : (ℕ → Option Reg) → ℕ → Instr → Instr
+instr_with_earlier plan k i = cond (is_operator i.op) (from_earlier (plan k) i) i
 
-abbrev pub in_place : (ℕ → Option Reg) → ℕ → Instr → List Instr
-in_place plan k i = again plan k i ∷ []
+abbrev pub alone_with_earlier : (ℕ → Option Reg) → ℕ → Instr → List Instr
+alone_with_earlier plan k i = instr_with_earlier plan k i ∷ []
 
 abbrev pub with_moves : (ℕ → Option Reg) → List Instr → List Instr
-with_moves plan code = expand (in_place plan) code
+with_moves plan code = expand (alone_with_earlier plan) code
 
 -- The code before an instruction of a function, as it is with its moves.
-pub record IsBefore (plan : ℕ → Option Reg) (m : Mach) (i : Instr) (next made : List Instr) :
+pub record IsRepeatedBefore (plan : ℕ → Option Reg) (m : Mach) (i : Instr) (next made : List Instr) :
     Type 0 where
   pub before : List Instr
   pub whole : m.code ≡ before ++ i ∷ next
   pub made_so : with_moves plan m.code
-      ≡ made ++ again plan (length next) i ∷ with_moves plan next
+      ≡ made ++ instr_with_earlier plan (length next) i ∷ with_moves plan next
 
 -- Exactly those operators are moves that repeat one of those that are left before them.
 pub record IsRepeated (m q : Mach) : Type 0 where
   pub plan : ℕ → Option Reg
   pub is : q ≡ record m { code = with_moves plan m.code }
-  pub moves : (i : Instr) (next made : List Instr) → IsBefore plan m i next made →
-      is_operator i.op ≡ true → (r : Reg) → plan (length next) ≡ Some r → Repeats made i r
-  pub stays : (i : Instr) (next made : List Instr) → IsBefore plan m i next made →
-      plan (length next) ≡ None → (r : Reg) → Repeats made i r → ⊥
+  pub moves : (i : Instr) (next made : List Instr) → IsRepeatedBefore plan m i next made →
+      is_operator i.op ≡ true → (r : Reg) → plan (length next) ≡ Some r → RepeatsEarlier made i r
+  pub stays : (i : Instr) (next made : List Instr) → IsRepeatedBefore plan m i next made →
+      plan (length next) ≡ None → (r : Reg) → RepeatsEarlier made i r → ⊥
 
 -- What is kept of the form of a function.
 pub record IsFormKept (p q : Mach) : Type 0 where
@@ -116,5 +116,5 @@ pub record IsFormKept (p q : Mach) : Type 0 where
   pub registers : (r : Reg) → IsRegister q r → IsRegister p r
   -- no operator repeats an earlier one
   pub none_left : (made : List Instr) (i : Instr) (next : List Instr) →
-      q.code ≡ made ++ i ∷ next → (r : Reg) → Repeats made i r → ⊥
+      q.code ≡ made ++ i ∷ next → (r : Reg) → RepeatsEarlier made i r → ⊥
   pub size : (s : Size) → HasSize p s → HasSize q s

@@ -12,7 +12,7 @@ ghost use Rattle.std.specs.Prelude.{◌≡◌};
 ghost use Rattle.mach_ir.specs.Formed.{WellFormed};
 ghost use Rattle.mach_ir.specs.Placed.{WellPlaced};
 ghost use Rattle.mach_ir.specs.declared.mach.Mach.{Mach};
-ghost use Rattle.repeat_rules.specs.Kept.{OwnOrigins, IsKept};
+ghost use Rattle.repeat_rules.specs.Kept.{OwnOrigins, IsRepeatKept};
 ghost use Rattle.repeat_rules.specs.Repeated.{IsRepeated, IsFormKept};
 
 /// Law: a function whose repeats are moves keeps its form, and has no repeat left.
@@ -23,7 +23,7 @@ pub fn a_function_without_repeats_is_formed()
 /// Law: a function whose repeats are moves is kept, where no register is made from another.
 pub fn what_is_repeated_is_kept()
     ensures { (m q : Mach) → WellFormed m → WellPlaced m → OwnOrigins m → IsRepeated m q →
-        IsKept m q }
+        IsRepeatKept m q }
 {}
 
 /// Law: the repeats of a function are moves in one way.

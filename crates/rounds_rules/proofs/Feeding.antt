@@ -12,11 +12,11 @@ use Rattle.mach_ir.specs.declared.op.CopyKind.TheVariants as copy
 use Rattle.mach_ir.specs.declared.reg.Reg.{Reg}
 use Rattle.mach_ir.specs.declared.mach.Instr.{Instr}
 use Rattle.pass_rules.specs.Measures.{code_words, instr_words, copy_words}
-use Rattle.spill_rules.specs.Spilled.{copied}
+use Rattle.spill_rules.specs.Spilled.{copy_instruction}
 use Rattle.pass_rules.proofs.Words.{at_most_copy, words_append}
-use Rattle.places_rules.specs.Places.{Placing, placed, all_placed, placed_instr, placed_code}
+use Rattle.places_rules.specs.Places.{LocationAssignment, located_register, all_placed, placed_instr, placed_code}
 use Rattle.places_rules.proofs.Open.{machine_open, slot_open, machine_slot}
-use Rattle.reload_rules.specs.Reloaded.{is_in_slot, is_renewed, fresh, renewed, reloads, spills}
+use Rattle.reload_rules.specs.Reloaded.{is_in_slot, is_renewed, fresh_stand_in, renewed, reloads, spills}
 use Rattle.mach_ir.specs.Places.{same_comp}
 use Rattle.bs_words.proofs.Places.{same_slot}
 
@@ -29,7 +29,7 @@ pub data MayStand (r : Reg) (l : Loc) : Type 0 where
   at_home : r.loc ≡ loc.Unset → l ≡ loc.Slot r.origin → MayStand r l
   left_open : r.loc ≡ loc.Unset → l ≡ loc.Unset → MayStand r l
 
-abbrev pub IsSound : Placing → Type 0
+abbrev pub IsSound : LocationAssignment → Type 0
 IsSound place = (r : Reg) → MayStand r (place r)
 
 -- a register in a slot is in that of its origin
@@ -55,13 +55,13 @@ stays_homed (at_home u e) h k s = same_slot s e
 stays_homed (left_open u e) h k s = absurd (slot_open s e)
 
 -- one placing after another
-abbrev pub after : Placing → Placing → Placing
-after second first r = second (placed first r)
+abbrev pub after : LocationAssignment → LocationAssignment → LocationAssignment
+after second first r = second (located_register first r)
 
-pub sound_after : (second first : Placing) → IsSound second → IsSound first → IsSound (after second first)
-sound_after second first two one r = by (one r) (two (placed first r))
+pub sound_after : (second first : LocationAssignment) → IsSound second → IsSound first → IsSound (after second first)
+sound_after second first two one r = by (one r) (two (located_register first r))
   where
-    by : MayStand r (first r) → MayStand (placed first r) (second (placed first r)) → MayStand r (second (placed first r))
+    by : MayStand r (first r) → MayStand (located_register first r) (second (located_register first r)) → MayStand r (second (located_register first r))
     by (stays n e) (stays m g) = stays n (g ∙ e)
     by (stays n e) (in_colour u g) = absurd (n (sym e ∙ u))
     by (stays n e) (at_home u g) = absurd (n (sym e ∙ u))
@@ -79,10 +79,10 @@ sound_after second first two one r = by (one r) (two (placed first r))
     by (left_open u e) (at_home v g) = at_home u g
     by (left_open u e) (left_open v g) = left_open u g
 
-module _ (second first : Placing) where
+module _ (second first : LocationAssignment) where
   twice_list : (rs : List Reg) → all_placed second (all_placed first rs) ≡ all_placed (after second first) rs
   twice_list [] = refl
-  twice_list (r ∷ rs) = ap (λ qs. placed (after second first) r ∷ qs) (twice_list rs)
+  twice_list (r ∷ rs) = ap (λ qs. located_register (after second first) r ∷ qs) (twice_list rs)
 
   pub twice_instr : (i : Instr) → placed_instr second (placed_instr first i) ≡ placed_instr (after second first) i
   twice_instr i = same (twice_list i.args) (twice_list i.results)
@@ -97,7 +97,7 @@ module _ (second first : Placing) where
       both : {i j : Instr} {is js : List Instr} → i ≡ j → is ≡ js → i ∷ is ≡ j ∷ js
       both e g = cc
 
-pub placed_append : (place : Placing) (xs ys : List Instr) → placed_code place (xs ++ ys) ≡ placed_code place xs ++ placed_code place ys
+pub placed_append : (place : LocationAssignment) (xs ys : List Instr) → placed_code place (xs ++ ys) ≡ placed_code place xs ++ placed_code place ys
 placed_append place [] ys = refl
 placed_append place (x ∷ xs) ys = ap (λ (is : List Instr). placed_instr place x ∷ is) (placed_append place xs ys)
 
@@ -105,7 +105,7 @@ placed_append place (x ∷ xs) ys = ap (λ (is : List Instr). placed_instr place
 
 -- a copy from a slot to itself
 pub data IsIdle : Instr → Type 0 where
-  idle : {kind : CopyKind} {a b : Reg} {k : ℕ} → a.loc ≡ loc.Slot k → b.loc ≡ loc.Slot k → a.comp ≡ b.comp → IsIdle (copied kind a b)
+  idle : {kind : CopyKind} {a b : Reg} {k : ℕ} → a.loc ≡ loc.Slot k → b.loc ≡ loc.Slot k → a.comp ≡ b.comp → IsIdle (copy_instruction kind a b)
 
 pub data AreIdle : List Instr → Type 0 where
   no_copies : AreIdle []
@@ -113,8 +113,8 @@ pub data AreIdle : List Instr → Type 0 where
 
 -- a copy between the register and the slot of its origin
 pub data IsBetween (r : Reg) : Instr → Type 0 where
-  brings : {kind : CopyKind} {s : Reg} → s.loc ≡ loc.Slot r.origin → s.comp ≡ r.comp → IsBetween r (copied kind s r)
-  takes : {kind : CopyKind} {s : Reg} → s.loc ≡ loc.Slot r.origin → s.comp ≡ r.comp → IsBetween r (copied kind r s)
+  brings : {kind : CopyKind} {s : Reg} → s.loc ≡ loc.Slot r.origin → s.comp ≡ r.comp → IsBetween r (copy_instruction kind s r)
+  takes : {kind : CopyKind} {s : Reg} → s.loc ≡ loc.Slot r.origin → s.comp ≡ r.comp → IsBetween r (copy_instruction kind r s)
 
 -- What feeds a register, or takes its value away: nothing, or a copy between its slot and the register, and copies from that slot to
 -- itself.
@@ -152,7 +152,7 @@ feeds_words (by_copies b is) = let a = between_words b in let n = all_idle_words
 
 -- ---- copies that are placed
 
-module _ (place : Placing) (sound : IsSound place) where
+module _ (place : LocationAssignment) (sound : IsSound place) where
   idle_placed : {c : Instr} → IsIdle c → IsIdle (placed_instr place c)
   idle_placed (idle {a = a} {b = b} e g same) = idle (slot_stays (sound a) e) (slot_stays (sound b) g) same
 
@@ -160,11 +160,11 @@ module _ (place : Placing) (sound : IsSound place) where
   all_idle_placed no_copies = no_copies
   all_idle_placed (idle_then i is) = idle_then (idle_placed i) (all_idle_placed is)
 
-  between_placed : {r : Reg} {c : Instr} → IsBetween r c → IsBetween (placed place r) (placed_instr place c)
+  between_placed : {r : Reg} {c : Instr} → IsBetween r c → IsBetween (located_register place r) (placed_instr place c)
   between_placed (brings {s = s} e g) = brings (slot_stays (sound s) e) g
   between_placed (takes {s = s} e g) = takes (slot_stays (sound s) e) g
 
-  pub feeds_placed : {cs : List Instr} {r : Reg} → Feeds cs r → Feeds (placed_code place cs) (placed place r)
+  pub feeds_placed : {cs : List Instr} {r : Reg} → Feeds cs r → Feeds (placed_code place cs) (located_register place r)
   feeds_placed itself = itself
   feeds_placed (by_copies b is) = by_copies (between_placed b) (all_idle_placed is)
 
@@ -180,10 +180,10 @@ idle_of : {cs : List Instr} {r : Reg} → r.loc ≡ loc.Slot r.origin → Feeds 
 idle_of home itself = no_copies
 idle_of home (by_copies b is) = idle_then (between_idle home b) is
 
-pub feeds_reload : (n : ℕ) {cs : List Instr} {r : Reg} → r.loc ≡ loc.Slot r.origin → Feeds cs r → Feeds (copied copy.Reload r (fresh n r) ∷ cs) (fresh n r)
+pub feeds_reload : (n : ℕ) {cs : List Instr} {r : Reg} → r.loc ≡ loc.Slot r.origin → Feeds cs r → Feeds (copy_instruction copy.Reload r (fresh_stand_in n r) ∷ cs) (fresh_stand_in n r)
 feeds_reload n home f = by_copies (brings home refl) (idle_of home f)
 
-pub feeds_spill : (n : ℕ) {cs : List Instr} {r : Reg} → r.loc ≡ loc.Slot r.origin → Feeds cs r → Feeds (copied copy.Spill (fresh n r) r ∷ cs) (fresh n r)
+pub feeds_spill : (n : ℕ) {cs : List Instr} {r : Reg} → r.loc ≡ loc.Slot r.origin → Feeds cs r → Feeds (copy_instruction copy.Spill (fresh_stand_in n r) r ∷ cs) (fresh_stand_in n r)
 feeds_spill n home f = by_copies (takes home refl) (idle_of home f)
 
 -- ---- those of all operands
@@ -192,7 +192,7 @@ pub data AllFed : List (List Instr) → List Reg → Type 0 where
   none_fed : AllFed [] []
   one_fed : {cs : List Instr} {chains : List (List Instr)} {r : Reg} {rs : List Reg} → Feeds cs r → AllFed chains rs → AllFed (cs ∷ chains) (r ∷ rs)
 
-abbrev pub words_of : Placing → List (List Instr) → ℕ
+abbrev pub words_of : LocationAssignment → List (List Instr) → ℕ
 words_of place [] = 0
 words_of place (cs ∷ chains) = code_words (placed_code place cs) + words_of place chains
 
@@ -200,9 +200,9 @@ words_of place (cs ∷ chains) = code_words (placed_code place cs) + words_of pl
 pub record FedBy (copies : List Instr) (rs : List Reg) : Type 0 where
   pub chains : List (List Instr)
   pub fed : AllFed chains rs
-  pub sum : (place : Placing) → code_words (placed_code place copies) ≡ words_of place chains
+  pub sum : (place : LocationAssignment) → code_words (placed_code place copies) ≡ words_of place chains
 
-none_for : (rs : List Reg) → (chains : List (List Instr)) × AllFed chains rs × ((place : Placing) → 0 ≡ words_of place chains)
+none_for : (rs : List Reg) → (chains : List (List Instr)) × AllFed chains rs × ((place : LocationAssignment) → 0 ≡ words_of place chains)
 none_for [] = ([], none_fed, λ place. refl)
 none_for (r ∷ rs) =
     let others = none_for rs in
@@ -211,7 +211,7 @@ none_for (r ∷ rs) =
 pub fed_at_first : (rs : List Reg) → FedBy [] rs
 fed_at_first rs = let none = none_for rs in record { chains = none.0; fed = none.1; sum = none.2 }
 
-module _ (place : Placing) (sound : IsSound place) where
+module _ (place : LocationAssignment) (sound : IsSound place) where
   all_words : {chains : List (List Instr)} {rs : List Reg} → AllFed chains rs → words_of place chains ≤ copy_words * length rs
   all_words none_fed = omega arith
   all_words (one_fed f fs) = let a = feeds_words (feeds_placed place sound f) in let b = all_words fs in omega (arith, a, b)
@@ -224,7 +224,7 @@ module _ (place : Placing) (sound : IsSound place) where
   all_placed_fed none_fed = none_fed
   all_placed_fed (one_fed f fs) = one_fed (feeds_placed place sound f) (all_placed_fed fs)
 
-  words_twice : (second : Placing) (chains : List (List Instr)) → words_of second (map (placed_code place) chains) ≡ words_of (after second place) chains
+  words_twice : (second : LocationAssignment) (chains : List (List Instr)) → words_of second (map (placed_code place) chains) ≡ words_of (after second place) chains
   words_twice second [] = refl
   words_twice second (cs ∷ chains) = let a = ap code_words (twice second place cs) in let b = words_twice second chains in omega (arith, a, b)
 
@@ -243,11 +243,11 @@ pub data AreHomed : List Reg → Type 0 where
 
 module _ (b : Bool) (more : ℕ → Reg → Instr) (copies_of : ℕ → List Reg → List Instr) (none : (n : ℕ) → copies_of n [] ≡ [])
     (next : (n : ℕ) (r : Reg) (rs : List Reg) → copies_of n (r ∷ rs) ≡ cond (is_renewed b r) (more n r ∷ copies_of (suc n) rs) (copies_of n rs))
-    (feeds : (n : ℕ) (cs : List Instr) (r : Reg) → r.loc ≡ loc.Slot r.origin → Feeds cs r → Feeds (more n r ∷ cs) (fresh n r)) where
+    (feeds : (n : ℕ) (cs : List Instr) (r : Reg) → r.loc ≡ loc.Slot r.origin → Feeds cs r → Feeds (more n r ∷ cs) (fresh_stand_in n r)) where
   record More (n : ℕ) (chains : List (List Instr)) (rs : List Reg) : Type 0 where
     made : List (List Instr)
     fed : AllFed made (renewed b n rs)
-    sum : (place : Placing) → words_of place made ≡ words_of place chains + code_words (placed_code place (copies_of n rs))
+    sum : (place : LocationAssignment) → words_of place made ≡ words_of place chains + code_words (placed_code place (copies_of n rs))
 
   in_slot_of : (b : Bool) (r : Reg) → is_renewed b r ≡ true → is_in_slot r.loc ≡ true
   in_slot_of true r e = e
@@ -261,7 +261,7 @@ module _ (b : Bool) (more : ℕ → Reg → Instr) (copies_of : ℕ → List Reg
       by true e all =
           let others = all (suc n) in
           let home : r.loc ≡ loc.Slot r.origin = home_of r.loc r.origin (in_slot_of b r e) h in
-          let list : renewed b n (r ∷ rs) ≡ fresh n r ∷ renewed b (suc n) rs = ap (λ t. cond t (fresh n r) r ∷ renewed b (cond t (suc n) n) rs) e in
+          let list : renewed b n (r ∷ rs) ≡ fresh_stand_in n r ∷ renewed b (suc n) rs = ap (λ t. cond t (fresh_stand_in n r) r ∷ renewed b (cond t (suc n) n) rs) e in
           let text : copies_of n (r ∷ rs) ≡ more n r ∷ copies_of (suc n) rs = next n r rs ∙ ap (λ t. cond t (more n r ∷ copies_of (suc n) rs) (copies_of n rs)) e in
           record {
             made = (more n r ∷ cs) ∷ others.made;
@@ -273,7 +273,7 @@ module _ (b : Bool) (more : ℕ → Reg → Instr) (copies_of : ℕ → List Reg
           }
       by false e all =
           let others = all n in
-          let list : renewed b n (r ∷ rs) ≡ r ∷ renewed b n rs = ap (λ t. cond t (fresh n r) r ∷ renewed b (cond t (suc n) n) rs) e in
+          let list : renewed b n (r ∷ rs) ≡ r ∷ renewed b n rs = ap (λ t. cond t (fresh_stand_in n r) r ∷ renewed b (cond t (suc n) n) rs) e in
           let text : copies_of n (r ∷ rs) ≡ copies_of n rs = next n r rs ∙ ap (λ t. cond t (more n r ∷ copies_of (suc n) rs) (copies_of n rs)) e in
           record {
             made = cs ∷ others.made;
@@ -287,7 +287,7 @@ module _ (b : Bool) (more : ℕ → Reg → Instr) (copies_of : ℕ → List Reg
 -- before an instruction
 pub fed_reloaded : (b : Bool) (n : ℕ) {copies : List Instr} {rs : List Reg} → AreHomed rs → FedBy copies rs → FedBy (copies ++ reloads b n rs) (renewed b n rs)
 fed_reloaded b n {copies} {rs} h f =
-    let m = all_more b (λ n r. copied copy.Reload r (fresh n r)) (reloads b) (λ n. refl) (λ n r rs. refl) (λ n cs r home f. feeds_reload n home f) n h f.fed in
+    let m = all_more b (λ n r. copy_instruction copy.Reload r (fresh_stand_in n r)) (reloads b) (λ n. refl) (λ n r rs. refl) (λ n cs r home f. feeds_reload n home f) n h f.fed in
     record {
       chains = m.made;
       fed = m.fed;
@@ -302,7 +302,7 @@ fed_reloaded b n {copies} {rs} h f =
 -- and after it
 pub fed_spilled : (b : Bool) (n : ℕ) {copies : List Instr} {rs : List Reg} → AreHomed rs → FedBy copies rs → FedBy (spills b n rs ++ copies) (renewed b n rs)
 fed_spilled b n {copies} {rs} h f =
-    let m = all_more b (λ n r. copied copy.Spill (fresh n r) r) (spills b) (λ n. refl) (λ n r rs. refl) (λ n cs r home f. feeds_spill n home f) n h f.fed in
+    let m = all_more b (λ n r. copy_instruction copy.Spill (fresh_stand_in n r) r) (spills b) (λ n. refl) (λ n r rs. refl) (λ n cs r home f. feeds_spill n home f) n h f.fed in
     record {
       chains = m.made;
       fed = m.fed;

@@ -16,10 +16,10 @@ use Rattle.mach_ir.specs.Formed.{is_exit}
 use Rattle.mach_ir.specs.Meaning.{passes_frame, tries_at, tries_past}
 use Rattle.mach_ir.specs.declared.op.Leaving.TheVariants as leaving
 use Rattle.pass_rules.specs.Carried.{OffsetFits, EndsInReturn, at_return, further}
-use Rattle.pass_rules.specs.Measures.{one_if, words_with, code_words, code_points, exits, instr_words, copy_words, operands_with, other_operands}
+use Rattle.pass_rules.specs.Measures.{one_if_true, words_for_instr, code_words, code_points, exit_count, instr_words, copy_words, operands_with, other_operands}
 use Rattle.pass_rules.proofs.Words.{words_append}
 use Rattle.pass_rules.proofs.Carried.{ends_second, returns_alone}
-use Rattle.places_rules.specs.Places.{Placing, placed, all_placed, placed_instr, placed_code}
+use Rattle.places_rules.specs.Places.{LocationAssignment, located_register, all_placed, placed_instr, placed_code}
 use Rattle.reload_rules.specs.Reloaded.{is_copy, reads_registers, writes_registers, renewed, reloads, spills, number_past, results_from, past_instr, renewed_instr, reloaded_instr, reloaded_code}
 use Rattle.reload_rules.proofs.Text.{no_reloads, no_spills, none_renewed}
 use Rattle.reload_rules.proofs.Copies.{same_length}
@@ -41,7 +41,7 @@ pub only_append : {xs ys : List Instr} → OnlyCopies xs → OnlyCopies ys → O
 only_append no_copy ys = ys
 only_append (copy_then c cs) ys = copy_then c (only_append cs ys)
 
-pub only_placed : (place : Placing) {xs : List Instr} → OnlyCopies xs → OnlyCopies (placed_code place xs)
+pub only_placed : (place : LocationAssignment) {xs : List Instr} → OnlyCopies xs → OnlyCopies (placed_code place xs)
 only_placed place no_copy = no_copy
 only_placed place (copy_then c cs) = copy_then c (only_placed place cs)
 
@@ -63,14 +63,14 @@ pub data Grown : List Instr → List Instr → Type 0 where
   grown_none : Grown [] []
   -- wherever it is placed, a copy has no more words than at first
   grown_copy : {i j : Instr} {p q : List Instr} → copies i.op ≡ true → j.op ≡ i.op →
-      ((place : Placing) → IsSound place → instr_words (placed_instr place j) ≤ instr_words i) → Grown p q → Grown (i ∷ p) (j ∷ q)
+      ((place : LocationAssignment) → IsSound place → instr_words (placed_instr place j) ≤ instr_words i) → Grown p q → Grown (i ∷ p) (j ∷ q)
   grown_other : {i j : Instr} {before behind p q : List Instr} → copies i.op ≡ false → j.op ≡ i.op → length j.args ≡ length i.args →
       length j.results ≡ length i.results → FedBy before j.args → FedBy behind j.results → OnlyCopies before → OnlyCopies behind →
       (i.results ≡ [] → behind ≡ []) → Grown p q → Grown (i ∷ p) (before ++ (j ∷ (behind ++ q)))
 
 -- ---- placed
 
-module _ (place : Placing) (sound : IsSound place) where
+module _ (place : LocationAssignment) (sound : IsSound place) where
   pub grown_placed : {p q : List Instr} → Grown p q → Grown p (placed_code place q)
   grown_placed grown_none = grown_none
   grown_placed (grown_copy {i = i} {j = j} c e words g) =
@@ -79,7 +79,7 @@ module _ (place : Placing) (sound : IsSound place) where
       (grown_placed g)
   grown_placed (grown_other {i = i} {j = j} {before = before} {behind = behind} {q = q} c e args results one two only also none g) =
       subst (Grown _) (sym text)
-      (grown_other {j = placed_instr place j} c e (length-map j.args (placed place) ∙ args) (length-map j.results (placed place) ∙ results)
+      (grown_other {j = placed_instr place j} c e (length-map j.args (located_register place) ∙ args) (length-map j.results (located_register place) ∙ results)
       (fed_placed place sound one) (fed_placed place sound two) (only_placed place only) (only_placed place also) (λ n. ap (placed_code place) (none n)) (grown_placed g))
     where
       text : placed_code place (before ++ (j ∷ (behind ++ q))) ≡ placed_code place before ++ (placed_instr place j ∷ (placed_code place behind ++ placed_code place q))
@@ -194,7 +194,7 @@ grown_reloaded (grown_other {i = i} {j = j} {before = before} {behind = behind} 
 -- ---- at first
 
 -- a copy that leads from a place to itself does so wherever it is placed
-module _ (place : Placing) (sound : IsSound place) where
+module _ (place : LocationAssignment) (sound : IsSound place) where
   same_machine : (a b n m : ℕ) → n ≡ a → m ≡ b → nat_eq a b ≡ true → nat_eq n m ≡ true
   same_machine a b n m e g s = ap (λ k. nat_eq k m) e ∙ ap (nat_eq a) g ∙ s
 
@@ -225,7 +225,7 @@ module _ (place : Placing) (sound : IsSound place) where
   fewer false true h = omega arith
   fewer false false h = omega arith
 
-  copy_placed : (f : MachOp) (args results : List Reg) → copies f ≡ true → words_with f (all_placed place args) (all_placed place results) ≤ words_with f args results
+  copy_placed : (f : MachOp) (args results : List Reg) → copies f ≡ true → words_for_instr f (all_placed place args) (all_placed place results) ≤ words_for_instr f args results
   copy_placed (mach.Op (op.Pure (pure.Copy kind))) args results e = fewer (same_spot args results) (same_spot (all_placed place args) (all_placed place results)) (spots_stay args results)
   copy_placed (mach.Op (op.Pure (pure.Constant w))) args results e = cc
   copy_placed (mach.Op (op.Pure (pure.Symbol name))) args results e = cc
@@ -246,7 +246,7 @@ grown_first (i ∷ is) = by (copies i.op) refl (grown_first is)
 -- ---- words
 
 -- of another instruction, whatever its operands are
-other_words : (f : MachOp) (args results us rs : List Reg) → copies f ≡ false → length rs ≡ length results → words_with f us rs ≡ words_with f args results
+other_words : (f : MachOp) (args results us rs : List Reg) → copies f ≡ false → length rs ≡ length results → words_for_instr f us rs ≡ words_for_instr f args results
 other_words (mach.Op (op.Pure (pure.Copy kind))) args results us rs c e = cc
 other_words (mach.Op (op.Pure (pure.Constant w))) args results us rs c e = omega (arith, e)
 other_words (mach.Op (op.Pure (pure.Symbol name))) args results us rs c e = omega (arith, e)
@@ -267,7 +267,7 @@ other_count (mach.Op (op.Leaving f)) args results c = refl
 other_count (mach.Mark f) args results c = refl
 
 -- Placed, it has a copy's words more for each operand and result of another instruction than a copy, at the most.
-module _ (place : Placing) (sound : IsSound place) where
+module _ (place : LocationAssignment) (sound : IsSound place) where
   pub grown_words : {p q : List Instr} → Grown p q → code_words (placed_code place q) ≤ code_words p + copy_words * other_operands p
   grown_words grown_none = omega arith
   grown_words (grown_copy {i = i} {j = j} {p = p} {q = q} c e words g) =
@@ -285,8 +285,8 @@ module _ (place : Placing) (sound : IsSound place) where
       let front = fed_words place sound one in
       let back = fed_words place sound two in
       let here : instr_words (placed_instr place j) ≡ instr_words i =
-      ap (λ f. words_with f (all_placed place j.args) (all_placed place j.results)) e
-      ∙ other_words i.op i.args i.results (all_placed place j.args) (all_placed place j.results) c (length-map j.results (placed place) ∙ results) in
+      ap (λ f. words_for_instr f (all_placed place j.args) (all_placed place j.results)) e
+      ∙ other_words i.op i.args i.results (all_placed place j.args) (all_placed place j.results) c (length-map j.results (located_register place) ∙ results) in
       let count = other_count i.op i.args i.results c in
       let others = grown_words g in
       omega (arith, text, split, more, rest, front, back, here, count, others, args, results)
@@ -338,11 +338,11 @@ Fit (i ∷ is) = OffsetFits i.op × Fit is
 module _ (rest : List Instr) where
   points_behind : {cs : List Instr} → OnlyCopies cs → code_points (cs ++ rest) ≡ code_points rest
   points_behind no_copy = refl
-  points_behind (copy_then {c = c} is only) = let here = ap one_if (copy_points c.op is) in let others = points_behind only in omega (arith, here, others)
+  points_behind (copy_then {c = c} is only) = let here = ap one_if_true (copy_points c.op is) in let others = points_behind only in omega (arith, here, others)
 
-  exits_behind : {cs : List Instr} → OnlyCopies cs → exits (cs ++ rest) ≡ exits rest
+  exits_behind : {cs : List Instr} → OnlyCopies cs → exit_count (cs ++ rest) ≡ exit_count rest
   exits_behind no_copy = refl
-  exits_behind (copy_then {c = c} {cs = cs} is only) = ap (λ b. cond b (suc (exits (cs ++ rest))) (exits (cs ++ rest))) (copy_exit c.op is) ∙ exits_behind only
+  exits_behind (copy_then {c = c} {cs = cs} is only) = ap (λ b. cond b (suc (exit_count (cs ++ rest))) (exit_count (cs ++ rest))) (copy_exit c.op is) ∙ exits_behind only
 
   operands_behind : {cs : List Instr} → OnlyCopies cs → other_operands (cs ++ rest) ≡ other_operands rest
   operands_behind no_copy = refl
@@ -364,21 +364,21 @@ module _ (rest : List Instr) where
 
 pub grown_points : {p q : List Instr} → Grown p q → code_points q ≡ code_points p
 grown_points grown_none = refl
-grown_points (grown_copy c e words g) = let here = ap (λ f. one_if (passes_frame f)) e in let others = grown_points g in omega (arith, here, others)
+grown_points (grown_copy c e words g) = let here = ap (λ f. one_if_true (passes_frame f)) e in let others = grown_points g in omega (arith, here, others)
 grown_points (grown_other {j = j} {behind = behind} {q = q} c e args results one two only also none g) =
     let front = points_behind (j ∷ (behind ++ q)) only in
     let back = points_behind q also in
-    let here = ap (λ f. one_if (passes_frame f)) e in
+    let here = ap (λ f. one_if_true (passes_frame f)) e in
     let others = grown_points g in
     omega (arith, front, back, here, others)
 
-pub grown_exits : {p q : List Instr} → Grown p q → exits q ≡ exits p
+pub grown_exits : {p q : List Instr} → Grown p q → exit_count q ≡ exit_count p
 grown_exits grown_none = refl
 grown_exits (grown_copy {i = i} {j = j} {q = q} c e words g) =
-    ap (λ f. cond (is_exit f) (suc (exits q)) (exits q)) e ∙ ap (λ n. cond (is_exit i.op) (suc n) n) (grown_exits g)
+    ap (λ f. cond (is_exit f) (suc (exit_count q)) (exit_count q)) e ∙ ap (λ n. cond (is_exit i.op) (suc n) n) (grown_exits g)
 grown_exits (grown_other {i = i} {j = j} {behind = behind} {q = q} c e args results one two only also none g) =
     exits_behind (j ∷ (behind ++ q)) only
-    ∙ ap (λ f. cond (is_exit f) (suc (exits (behind ++ q))) (exits (behind ++ q))) e
+    ∙ ap (λ f. cond (is_exit f) (suc (exit_count (behind ++ q))) (exit_count (behind ++ q))) e
     ∙ ap (λ n. cond (is_exit i.op) (suc n) n) (exits_behind q also ∙ grown_exits g)
 
 pub grown_operands : {p q : List Instr} → Grown p q → other_operands q ≡ other_operands p

@@ -6,15 +6,15 @@ use Rattle.std.proofs.lemmas.List.Elements.{All-nil, All-cons, All-head, All-tai
 use Rattle.bs_words.specs.declared.types.Loc.{Loc}
 use Rattle.bs_words.specs.declared.types.Loc.TheVariants as loc
 use Rattle.choices.specs.declared.choices.Alloc.{Alloc}
-use Rattle.mach_ir.specs.Formed.{WellFormed, IsFormed}
-use Rattle.mach_ir.specs.Graph.{place_in}
+use Rattle.mach_ir.specs.Formed.{WellFormed, IsFormedInstruction}
+use Rattle.mach_ir.specs.Graph.{coloured_location}
 use Rattle.mach_ir.specs.Keeps.{Keeps}
 use Rattle.mach_ir.specs.Meaning.{tries_at}
-use Rattle.mach_ir.specs.Placed.{Colouring, FullyPlaced, IsColouring, IsPlaced, WellPlaced}
+use Rattle.mach_ir.specs.Placed.{Colouring, FullyPlaced, IsProperColouring, HasColourOrSlot, WellPlaced}
 use Rattle.mach_ir.specs.Placed as placings
 use Rattle.mach_ir.specs.Seats.{Seated}
 use Rattle.mach_ir.specs.Sizes.{Size, HasSize, HasRoom}
-use Rattle.mach_ir.specs.Walks.{InCode, in_args, in_results, further, IsRegister, is_in_code, Joined, Stands, here, below}
+use Rattle.mach_ir.specs.Walks.{InCode, in_args, in_results, further, IsRegister, is_in_code, Joined, StandsAsInstr, here, below}
 use Rattle.bs_words.proofs.Lists.{first_in, later_in}
 use Rattle.mach_ir.specs.declared.reg.Reg.{Reg}
 use Rattle.mach_ir.specs.declared.mach.Instr.{Instr}
@@ -25,7 +25,7 @@ use Rattle.mach_laws.proofs.Instructions.{return_results}
 use Rattle.pass_rules.specs.Carried.{IsCarried, OffsetFits}
 use Rattle.pass_rules.specs.Measures.{code_words, copy_words, other_operands}
 use Rattle.pass_rules.proofs.Operands.{others_few}
-use Rattle.places_rules.specs.Places.{Placing, all_placed, placed_code, recoloured, rest_in_slots, last_resort, or_slot, ColoursLow}
+use Rattle.places_rules.specs.Places.{LocationAssignment, all_placed, placed_code, with_colouring, rest_in_slots, last_resort, or_slot, ColoursLow}
 use Rattle.places_rules.proofs.Open.{machine_open, slot_open, machine_slot, not_open}
 use Rattle.places_rules.proofs.Rest.{rest_keeps, rest_placed, rest_formed, rest_seated}
 use Rattle.reload_rules.specs.Kept.{with_copies}
@@ -34,7 +34,7 @@ use Rattle.reload_rules.proofs.Copies.{code_instrs, placed_others}
 use Rattle.reload_rules.proofs.Numbering.{numbering, numbered_same}
 use Rattle.reload_rules.proofs.Room.{with_more, with_both, small_both}
 use Rattle.reload_rules.proofs.Together.{reloaded_kept}
-use Rattle.rounds_rules.specs.Rounds.{IsRound, Asked, none_yet, one_more, most_rounds, allocated_size, Ends, asks_no_more, gives_up, IsAllocated, IsKept}
+use Rattle.rounds_rules.specs.Rounds.{IsRound, RoundsAsked, none_yet, one_more, most_rounds, allocated_size, EndsRounds, asks_no_more, gives_up, IsRegisterAllocated, IsAllocationKept}
 use Rattle.rounds_rules.proofs.Feeding.{MayStand, stays, in_colour, at_home, left_open, IsSound, IsHomed, stays_homed, AreHomed, none_homed, one_homed}
 use Rattle.rounds_rules.proofs.Grown.{HomedCode, no_code, homed_then, Grown, grown_first, grown_placed, grown_reloaded, grown_words, grown_points, grown_exits, grown_operands, Shallow, grown_shallow, Fit, grown_fit, ReturnsNothing, grown_ends}
 use Rattle.bs_words.proofs.Places.{same_slot}
@@ -58,10 +58,10 @@ homed_slot origin (loc.Slot k) = loc.Slot origin
 homed_slot origin (loc.Machine n) = loc.Unset
 homed_slot origin loc.Unset = loc.Unset
 
-abbrev by_colours : Colouring → Placing
+abbrev by_colours : Colouring → LocationAssignment
 by_colours place r = own_or r.loc (homed r.origin (place r.number))
 
-abbrev by_slots : Colouring → Placing
+abbrev by_slots : Colouring → LocationAssignment
 by_slots place r = own_or r.loc (homed_slot r.origin (place r.number))
 
 open_homed : (r : Reg) (l : Loc) → r.loc ≡ loc.Unset → MayStand r (homed r.origin l)
@@ -95,14 +95,14 @@ rest_sound r = by r.loc refl
 
 -- ---- on registers of the function they agree
 
-module _ (IsOne : Reg → Type 0) (AreJoined : ℕ → ℕ → Type 0) (place : Colouring) (c : IsColouring IsOne AreJoined place) (r : Reg) (one : IsOne r) where
+module _ (IsOne : Reg → Type 0) (AreJoined : ℕ → ℕ → Type 0) (place : Colouring) (c : IsProperColouring IsOne AreJoined place) (r : Reg) (one : IsOne r) where
   at_number : Loc
   at_number = place r.number
 
   is_homed_place : homed r.origin (place r.number) ≡ place r.number
   is_homed_place = by (c.places r one)
     where
-      by : IsPlaced (record r { loc = place r.number }) → homed r.origin (place r.number) ≡ place r.number
+      by : HasColourOrSlot (record r { loc = place r.number }) → homed r.origin (place r.number) ≡ place r.number
       by (placings.in_colour n d e) = ap (homed r.origin) e ∙ sym e
       by (placings.in_slot e) = ap (homed r.origin) e ∙ sym e
 
@@ -116,7 +116,7 @@ module _ (IsOne : Reg → Type 0) (AreJoined : ℕ → ℕ → Type 0) (place : 
   agrees : by_colours place r ≡ place r.number
   agrees = ap (own_or r.loc) is_homed_place ∙ same_own r.loc (place r.number) (c.fixed r one)
 
-  same_slot_own : (own l : Loc) → (own ≡ loc.Unset) ⊎ (l ≡ own) → IsPlaced (record r { loc = l }) → own_or own (homed_slot r.origin l) ≡ slot_or own l
+  same_slot_own : (own l : Loc) → (own ≡ loc.Unset) ⊎ (l ≡ own) → HasColourOrSlot (record r { loc = l }) → own_or own (homed_slot r.origin l) ≡ slot_or own l
   same_slot_own loc.Unset l d (placings.in_colour n m e) = ap (homed_slot r.origin) e ∙ sym (ap (slot_or loc.Unset) e)
   same_slot_own loc.Unset l d (placings.in_slot e) = ap (homed_slot r.origin) e ∙ sym (ap (slot_or loc.Unset) e)
   same_slot_own (loc.Machine n) l (inl u) p = cc
@@ -130,12 +130,12 @@ module _ (IsOne : Reg → Type 0) (AreJoined : ℕ → ℕ → Type 0) (place : 
   is_homed : IsHomed r
   is_homed k e = by (c.fixed r one) (c.places r one)
     where
-      by : (r.loc ≡ loc.Unset) ⊎ (place r.number ≡ r.loc) → IsPlaced (record r { loc = place r.number }) → k ≡ r.origin
+      by : (r.loc ≡ loc.Unset) ⊎ (place r.number ≡ r.loc) → HasColourOrSlot (record r { loc = place r.number }) → k ≡ r.origin
       by (inl u) p = absurd (slot_open e u)
       by (inr f) (placings.in_colour n d g) = absurd (machine_slot g (f ∙ e))
       by (inr f) (placings.in_slot g) = same_slot (f ∙ e) g
 
-lists_agree : (one other : Placing) (rs : List Reg) → ((r : Reg) → Contains rs r → one r ≡ other r) → all_placed one rs ≡ all_placed other rs
+lists_agree : (one other : LocationAssignment) (rs : List Reg) → ((r : Reg) → Contains rs r → one r ≡ other r) → all_placed one rs ≡ all_placed other rs
 lists_agree one other [] h = refl
 lists_agree one other (r ∷ rs) h =
     both (ap (λ l. record r { loc = l }) (h r (first_in r rs))) (lists_agree one other rs (λ q c. h q (later_in r q rs c)))
@@ -143,7 +143,7 @@ lists_agree one other (r ∷ rs) h =
     both : {x y : Reg} {xs ys : List Reg} → x ≡ y → xs ≡ ys → x ∷ xs ≡ y ∷ ys
     both e g = cc
 
-codes_agree : (one other : Placing) (code : List Instr) → ((r : Reg) → InCode r code → one r ≡ other r) → placed_code one code ≡ placed_code other code
+codes_agree : (one other : LocationAssignment) (code : List Instr) → ((r : Reg) → InCode r code → one r ≡ other r) → placed_code one code ≡ placed_code other code
 codes_agree one other [] h = refl
 codes_agree one other (i ∷ is) h =
     both (ap (λ rs. record i { args = rs; results = all_placed one i.results }) (lists_agree one other i.args (λ r c. h r (in_args c)))
@@ -155,7 +155,7 @@ codes_agree one other (i ∷ is) h =
 
 -- ---- a placed code is at home
 
-module _ (place : Placing) (sound : IsSound place) where
+module _ (place : LocationAssignment) (sound : IsSound place) where
   list_homed : (rs : List Reg) → ((r : Reg) → Contains rs r → IsHomed r) → AreHomed (all_placed place rs)
   list_homed [] h = none_homed
   list_homed (r ∷ rs) h =
@@ -168,11 +168,11 @@ module _ (place : Placing) (sound : IsSound place) where
 
 -- ---- from lists of facts and back
 
-shallow_of : (k : ℕ) (code : List Instr) → ((i : Instr) (next : List Instr) → Stands i next code → length (tries_at (i ∷ next)) ≤ k) → Shallow k code
+shallow_of : (k : ℕ) (code : List Instr) → ((i : Instr) (next : List Instr) → StandsAsInstr i next code → length (tries_at (i ∷ next)) ≤ k) → Shallow k code
 shallow_of k [] h = tt
 shallow_of k (i ∷ is) h = (h i is here, shallow_of k is (λ j next s. h j next (below s)))
 
-tries_of : (k : ℕ) (code : List Instr) → Shallow k code → (i : Instr) (next : List Instr) → Stands i next code → length (tries_at (i ∷ next)) ≤ k
+tries_of : (k : ℕ) (code : List Instr) → Shallow k code → (i : Instr) (next : List Instr) → StandsAsInstr i next code → length (tries_at (i ∷ next)) ≤ k
 tries_of k [] h i next s = elim s [ ]
 tries_of k (j ∷ is) h i next here = h.0
 tries_of k (j ∷ is) h i next (below s) = tries_of k is h.1 i next s
@@ -189,9 +189,9 @@ none_of : (rs : List Reg) → length rs ≡ 0 → rs ≡ []
 none_of [] e = refl
 none_of (r ∷ rs) e = absurd (omega (arith, e))
 
-nothing_returned : (code : List Instr) → All IsFormed code → ReturnsNothing code
+nothing_returned : (code : List Instr) → All IsFormedInstruction code → ReturnsNothing code
 nothing_returned [] all = tt
-nothing_returned (i ∷ is) all = (return_results (All-head IsFormed i is all), nothing_returned is (All-tail IsFormed i is all))
+nothing_returned (i ∷ is) all = (return_results (All-head IsFormedInstruction i is all), nothing_returned is (All-tail IsFormedInstruction i is all))
 
 -- ---- rounds
 
@@ -207,11 +207,11 @@ record Standing (first : Mach) (rounds : ℕ) (m : Mach) : Type 0 where
   instrs : length m.code ≤ length first.code + rounds * other_operands first.code
   size : (s : Size) → HasSize first s → HasSize m (with_copies (rounds * other_operands first.code) s)
 
-module _ (m : Mach) (place : Colouring) (colouring : IsColouring (IsRegister m) (Joined m) place) where
+module _ (m : Mach) (place : Colouring) (colouring : IsProperColouring (IsRegister m) (Joined m) place) where
   slots_agree : placed_code (by_slots place) m.code ≡ (in_slots place m).code
   slots_agree = codes_agree (by_slots place) (to_slots place) m.code (λ r c. agrees_in_slots (IsRegister m) (Joined m) place colouring r (is_in_code c))
 
-  colours_agree : placed_code (by_colours place) m.code ≡ (recoloured place m).code
+  colours_agree : placed_code (by_colours place) m.code ≡ (with_colouring place m).code
   colours_agree = codes_agree (by_colours place) (λ r. place r.number) m.code (λ r c. agrees (IsRegister m) (Joined m) place colouring r (is_in_code c))
 
   slots_homed : HomedCode (in_slots place m).code
@@ -226,20 +226,20 @@ module _ (m : Mach) (place : Colouring) (colouring : IsColouring (IsRegister m) 
     round_grown : (n : ℕ) → Grown first (reloaded_code n (in_slots place m).code)
     round_grown n = grown_reloaded slots_grown slots_homed n
 
-    last_grown : Grown first (recoloured place m).code
+    last_grown : Grown first (with_colouring place m).code
     last_grown = subst (Grown first) colours_agree (grown_placed (by_colours place) (colours_sound place) g)
 
-    last_words : code_words (recoloured place m).code ≤ code_words first + copy_words * other_operands first
+    last_words : code_words (with_colouring place m).code ≤ code_words first + copy_words * other_operands first
     last_words =
         subst (λ (code : List Instr). code_words code ≤ code_words first + copy_words * other_operands first) colours_agree
         (grown_words (by_colours place) (colours_sound place) g)
 
-reload_grown : {first : List Instr} {m q : Mach} (place : Colouring) → IsColouring (IsRegister m) (Joined m) place → Grown first m.code →
+reload_grown : {first : List Instr} {m q : Mach} (place : Colouring) → IsProperColouring (IsRegister m) (Joined m) place → Grown first m.code →
     {asks : Bool} → IsReloadedBy m place q asks → Grown first q.code
 reload_grown {m = m} place c g (is_coloured e) = last_grown m place c g
 reload_grown {m = m} place c g (asks_again {free = free} e h) = round_grown m place c g free
 
-reload_words : {first : List Instr} {m q : Mach} (place : Colouring) → IsColouring (IsRegister m) (Joined m) place → Grown first m.code →
+reload_words : {first : List Instr} {m q : Mach} (place : Colouring) → IsProperColouring (IsRegister m) (Joined m) place → Grown first m.code →
     IsReloadedBy m place q false → code_words q.code ≤ code_words first + copy_words * other_operands first
 reload_words {m = m} place c g (is_coloured e) = last_words m place c g
 
@@ -247,7 +247,7 @@ reload_labels : {m q : Mach} (place : Colouring) {asks : Bool} → IsReloadedBy 
 reload_labels place (is_coloured e) = refl
 reload_labels place (asks_again e h) = refl
 
-placed_long : (place : Placing) (code : List Instr) → length (placed_code place code) ≡ length code
+placed_long : (place : LocationAssignment) (code : List Instr) → length (placed_code place code) ≡ length code
 placed_long place [] = refl
 placed_long place (i ∷ is) = ap suc (placed_long place is)
 
@@ -261,13 +261,13 @@ reload_instrs {m} place (asks_again {free = free} e h) =
     omega (arith, text, long, same, count)
 
 module _ {alloc : Alloc} {fresh : ℕ} where
-  chosen : {m q : Mach} {asks : Bool} (r : IsRound alloc fresh m q asks) → IsColouring (IsRegister m) (Joined m) (place_in r.colours)
-  chosen {m} r = colouring_of m r.graph r.of_function (place_in r.colours) r.fine
+  chosen : {m q : Mach} {asks : Bool} (r : IsRound alloc fresh m q asks) → IsProperColouring (IsRegister m) (Joined m) (coloured_location r.colours)
+  chosen {m} r = colouring_of m r.graph r.of_function (coloured_location r.colours) r.fine
 
   module _ {first : Mach} (formed : WellFormed first) (well : WellPlaced first) (low : ColoursLow first) where
     next_round : {rounds : ℕ} {m q : Mach} → Standing first rounds m → IsRound alloc fresh m q true → Standing first (suc rounds) q
     next_round {rounds} {m} {q} s r =
-        let place : Colouring = place_in r.colours in
+        let place : Colouring = coloured_location r.colours in
         let kept = reloaded_kept m q place true s.formed s.well s.low (chosen r) r.reloaded in
         let long = reload_instrs place r.reloaded in
         let so_far = s.instrs in
@@ -294,7 +294,7 @@ module _ {alloc : Alloc} {fresh : ℕ} where
         by : (k c n t : ℕ) {a b o : ℕ} → a ≤ b + o → b ≤ c + k → o ≡ n → t ≡ k + n → a ≤ c + t
         by k c n t one two same all = omega (arith, one, two, same, all)
 
-    standing : {rounds : ℕ} {m : Mach} → Asked alloc fresh first rounds m → Standing first rounds m
+    standing : {rounds : ℕ} {m : Mach} → RoundsAsked alloc fresh first rounds m → Standing first rounds m
     standing none_yet = record {
       keeps = keeps_itself first;
       formed = formed;
@@ -309,19 +309,19 @@ module _ {alloc : Alloc} {fresh : ℕ} where
     standing (one_more a r) = next_round (standing a) r
 
     -- what a round needs of a function, after rounds that asked for another
-    pub still_formed : {rounds : ℕ} {m : Mach} → Asked alloc fresh first rounds m → WellFormed m
+    pub still_formed : {rounds : ℕ} {m : Mach} → RoundsAsked alloc fresh first rounds m → WellFormed m
     still_formed a = let s = standing a in s.formed
 
-    pub still_placed : {rounds : ℕ} {m : Mach} → Asked alloc fresh first rounds m → WellPlaced m
+    pub still_placed : {rounds : ℕ} {m : Mach} → RoundsAsked alloc fresh first rounds m → WellPlaced m
     still_placed a = let s = standing a in s.well
 
     -- how large it is
-    pub still_within : {rounds : ℕ} {m : Mach} → Asked alloc fresh first rounds m → (s : Size) → HasSize first s →
+    pub still_within : {rounds : ℕ} {m : Mach} → RoundsAsked alloc fresh first rounds m → (s : Size) → HasSize first s →
         HasSize m (with_copies (rounds * other_operands first.code) s)
     still_within a = let s = standing a in s.size
 
     -- and that there is room for one round more, if there is for all
-    pub still_room : {rounds : ℕ} {m : Mach} → Asked alloc fresh first rounds m → rounds < most_rounds → HasRoom allocated_size first →
+    pub still_room : {rounds : ℕ} {m : Mach} → RoundsAsked alloc fresh first rounds m → rounds < most_rounds → HasRoom allocated_size first →
         HasRoom (with_copies (other_operands m.code)) m
     still_room {rounds} {m} a few room =
         let s = standing a in
@@ -359,10 +359,10 @@ module _ {first : Mach} (formed : WellFormed first) where
     few_rounds : (n k : ℕ) → n ≤ most_rounds → n * k ≤ most_rounds * k
     few_rounds n k le = mul-le-mul_right k le
 
-    ended : {alloc : Alloc} {fresh : ℕ} {q : Mach} {rounds : ℕ} {rest : Bool} → Ends alloc fresh first q rounds rest → IsKept first q
+    ended : {alloc : Alloc} {fresh : ℕ} {q : Mach} {rounds : ℕ} {rest : Bool} → EndsRounds alloc fresh first q rounds rest → IsAllocationKept first q
     ended {q = q} (asks_no_more {rounds = rounds} {m = m} few a r) =
         let s = standing formed well low a in
-        let place : Colouring = place_in r.colours in
+        let place : Colouring = coloured_location r.colours in
         let kept = reloaded_kept m q place false s.formed s.well s.low (chosen r) r.reloaded in
         let full : FullyPlaced q = kept.all_placed refl in
         let long = reload_instrs place r.reloaded in
@@ -396,5 +396,5 @@ module _ {first : Mach} (formed : WellFormed first) where
         }
 
 -- What allocation makes of a function is kept.
-pub allocated_kept : {alloc : Alloc} (m q : Mach) → WellFormed m → WellPlaced m → ColoursLow m → IsAllocated alloc m q → IsKept m q
+pub allocated_kept : {alloc : Alloc} (m q : Mach) → WellFormed m → WellPlaced m → ColoursLow m → IsRegisterAllocated alloc m q → IsAllocationKept m q
 allocated_kept m q formed well low a = ended formed well low ((a.allocated).ends)

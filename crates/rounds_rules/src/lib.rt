@@ -14,18 +14,18 @@ ghost use Rattle.mach_ir.specs.declared.mach.Mach.{Mach};
 ghost use Rattle.pass_rules.specs.Measures.{other_operands};
 ghost use Rattle.places_rules.specs.Places.{ColoursLow};
 ghost use Rattle.reload_rules.specs.Kept.{with_copies};
-ghost use Rattle.rounds_rules.specs.Rounds.{Asked, most_rounds, allocated_size, IsAllocated, IsKept};
+ghost use Rattle.rounds_rules.specs.Rounds.{RoundsAsked, most_rounds, allocated_size, IsRegisterAllocated, IsAllocationKept};
 
 /// Law: whatever chooses, an allocated function does what it did, each of its registers has a place, and few
 /// words are new.
 pub fn allocations_are_kept()
     ensures { (alloc : Alloc) (m q : Mach) → WellFormed m → WellPlaced m → ColoursLow m →
-        IsAllocated alloc m q → IsKept m q }
+        IsRegisterAllocated alloc m q → IsAllocationKept m q }
 {}
 
 /// Law: by one choice allocation makes one function of each.
 pub fn allocations_are_one()
-    ensures { (alloc : Alloc) (m q k : Mach) → IsAllocated alloc m q → IsAllocated alloc m k →
+    ensures { (alloc : Alloc) (m q k : Mach) → IsRegisterAllocated alloc m q → IsRegisterAllocated alloc m k →
         q ≡ k }
 {}
 
@@ -34,10 +34,10 @@ pub fn allocations_are_one()
 /// is room for the next round where there is for all.
 pub fn rounds_have_room()
     ensures size { (alloc : Alloc) (fresh rounds : ℕ) (first m : Mach) → WellFormed first →
-        WellPlaced first → ColoursLow first → Asked alloc fresh first rounds m → (s : Size) →
+        WellPlaced first → ColoursLow first → RoundsAsked alloc fresh first rounds m → (s : Size) →
         HasSize first s → HasSize m (with_copies (rounds * other_operands first.code) s) }
     ensures room { (alloc : Alloc) (fresh rounds : ℕ) (first m : Mach) → WellFormed first →
-        WellPlaced first → ColoursLow first → Asked alloc fresh first rounds m →
+        WellPlaced first → ColoursLow first → RoundsAsked alloc fresh first rounds m →
         rounds < most_rounds → HasRoom allocated_size first →
         HasRoom (with_copies (other_operands m.code)) m }
 {}

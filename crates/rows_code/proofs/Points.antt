@@ -5,9 +5,9 @@ use Rattle.std.proofs.lemmas.List.Sums.{sum_by-append, sum_by-cons}
 use Rattle.cmm_tree.specs.Tree.{FileTree}
 use Rattle.image_form.specs.Image.{EachNext, IsEntry, IsNextEntry}
 use Rattle.layout_rules.proofs.Rules.{all_append}
-use Rattle.layout_rules.specs.Conditions.{IsDescriptor, AreDescriptors, IsNamed, weight, weight_of}
+use Rattle.layout_rules.specs.Conditions.{IsDescriptor, AreDescriptors, AreNamesPresent, piece_weight, weight_of}
 use Rattle.lin_ir.specs.declared.descr.Descr.{Descr}
-use Rattle.rows_code.specs.Points.{AreSlots, no_slot, one_slot, IsShort, ArePoints, no_point, one_point, CanStand}
+use Rattle.rows_code.specs.Points.{AreSlots, no_slot, one_slot, IsShortDescriptor, ArePointPieces, no_point, one_point, CanStand}
 use Rattle.rv_isa.specs.Encoding.{InstrFits}
 use Rattle.rv_isa.specs.declared.instr.Instr.{Instr}
 use Rattle.rv_pieces.specs.Named.{PieceFits, has_words, label_named, symbol_named, external_named}
@@ -48,7 +48,7 @@ slots_rise _ _ (one_slot n xs are) =
     next_append IsNextEntry xs (8 * n) (slots_rise n xs are)
     (all_weaken (IsBelow n) (λ y. IsNextEntry y (8 * n)) (λ y below. inl (omega (arith, below.0), below.1)) xs (slots_below n xs are))
 
-pub slots_describe : (d : Descr) (n : ℕ) → AreSlots n d.entries → n ≤ 2 ^ 20 → d.size ≡ 16 * (n / 2 + 1) → IsShort d
+pub slots_describe : (d : Descr) (n : ℕ) → AreSlots n d.entries → n ≤ 2 ^ 20 → d.size ≡ 16 * (n / 2 + 1) → IsShortDescriptor d
 unfolding IsBelow
 slots_describe d n are few size =
     let long = slots_long n d.entries are in
@@ -66,7 +66,7 @@ slots_describe d n are few size =
 
 -- ---- points
 
-begins : (n : ℕ) (code : List Piece) → ArePoints n code → (j : Instr) × ((tail : List Piece) × (code ≡ Known j ∷ tail))
+begins : (n : ℕ) (code : List Piece) → ArePointPieces n code → (j : Instr) × ((tail : List Piece) × (code ≡ Known j ∷ tail))
 begins _ _ (no_point j fits) = (j, ([], refl))
 begins _ _ (one_point n code i d are fits short) =
     let first = begins n code are in
@@ -78,14 +78,14 @@ one_word j ps =
     sum_by-cons (λ (q : Piece). cond (has_words q) 1 0) (Known j) ps in
     omega (arith, step)
 
-some_words : (n : ℕ) (code : List Piece) → ArePoints n code → 0 < count_by has_words code
+some_words : (n : ℕ) (code : List Piece) → ArePointPieces n code → 0 < count_by has_words code
 some_words n code are =
     let first = begins n code are in
     subst (λ (c : List Piece). 0 < count_by has_words c) (sym first.1.1) (one_word first.0 first.1.0)
 
 -- what every piece keeps
 every : (P : Piece → Type 0) → ((j : Instr) → InstrFits j → P (Known j)) → ((d : Descr) → P (Descriptor d)) →
-    (n : ℕ) (code : List Piece) → ArePoints n code → AllByRecursion P code
+    (n : ℕ) (code : List Piece) → ArePointPieces n code → AllByRecursion P code
 every P known mark _ _ (no_point j fits) = (known j fits, tt)
 every P known mark _ _ (one_point n code j d are fits short) =
     all_append P (code ++ Known j ∷ []) (Descriptor d ∷ [])
@@ -107,22 +107,22 @@ behind b (TailCall name ∷ ps) j d are keeps = behind true ps j d are keeps
 behind b (SymbolAddress r name ∷ ps) j d are keeps = behind true ps j d are keeps
 behind b (ExternalNumber r row ∷ ps) j d are keeps = behind true ps j d are keeps
 
-descriptors_keep : (n : ℕ) (code : List Piece) → ArePoints n code → AreDescriptors false code
+descriptors_keep : (n : ℕ) (code : List Piece) → ArePointPieces n code → AreDescriptors false code
 descriptors_keep _ _ (no_point j fits) = tt
 descriptors_keep _ _ (one_point n code j d are fits short) = behind false code j d (descriptors_keep n code are) short.keeps
 
-few_pieces : (n : ℕ) (code : List Piece) → ArePoints n code → weight_of code ≤ 1 + n * (2 + 2 ^ 20)
+few_pieces : (n : ℕ) (code : List Piece) → ArePointPieces n code → weight_of code ≤ 1 + n * (2 + 2 ^ 20)
 few_pieces _ _ (no_point j fits) = omega arith
 few_pieces _ _ (one_point n code j d are fits short) =
-    let known = sum_by-append weight code (Known j ∷ []) in
-    let mark = sum_by-append weight (code ++ Known j ∷ []) (Descriptor d ∷ []) in
+    let known = sum_by-append piece_weight code (Known j ∷ []) in
+    let mark = sum_by-append piece_weight (code ++ Known j ∷ []) (Descriptor d ∷ []) in
     let before = few_pieces n code are in
     omega (arith, known, mark, before, short.few)
 
 IsBare : Piece → Type 0
 IsBare p = (label_named p ≡ None) × (symbol_named p ≡ None) × (external_named p ≡ None)
 
-bare_is_named : (file : FileTree) (code : List Piece) (p : Piece) → IsBare p → IsNamed file code p
+bare_is_named : (file : FileTree) (code : List Piece) (p : Piece) → IsBare p → AreNamesPresent file code p
 unfolding IsBare
 bare_is_named file code p bare = record {
   label = λ l e. let not = bare.0 in absurd (cc);
@@ -130,13 +130,13 @@ bare_is_named file code p bare = record {
   external = λ row e. let not = bare.2 in absurd (cc);
 }
 
-pub points_stand : (p : Pieces) (n : ℕ) → ArePoints n p.code → n ≤ 2 ^ 20 → p.frame ≡ 16 → CanStand p
+pub points_stand : (p : Pieces) (n : ℕ) → ArePointPieces n p.code → n ≤ 2 ^ 20 → p.frame ≡ 16 → CanStand p
 unfolding IsBare
 points_stand p n are few frame = record {
   laid = λ file. record {
     nonempty = some_words n p.code are;
     fits = every PieceFits (λ j fits. fits) (λ d. tt) n p.code are;
-    named = all_weaken IsBare (IsNamed file p.code) (bare_is_named file p.code) p.code (every IsBare (λ j fits. (refl, refl, refl)) (λ d. (refl, refl, refl)) n p.code are);
+    named = all_weaken IsBare (AreNamesPresent file p.code) (bare_is_named file p.code) p.code (every IsBare (λ j fits. (refl, refl, refl)) (λ d. (refl, refl, refl)) n p.code are);
     frame = omega (arith, frame);
     frame_fits = omega (arith, frame);
     descriptors = descriptors_keep n p.code are;

@@ -15,18 +15,18 @@ pub data AreSlots : ℕ → List ℕ → Type 0 where
   one_slot : (n : ℕ) (offsets : List ℕ) → AreSlots n offsets → AreSlots (suc n) (offsets ++ 8 * n ∷ [])
 
 -- a descriptor that keeps the rules of images, and is not too long
-pub record IsShort (d : Descr) : Type 0 where
+pub record IsShortDescriptor (d : Descr) : Type 0 where
   pub keeps : IsDescriptor d
   pub few : length d.entries ≤ 2 ^ 20
 
 -- an instruction, and so often another and a descriptor
-pub data ArePoints : ℕ → List Piece → Type 0 where
-  no_point : (j : Instr) → InstrFits j → ArePoints 0 (piece.Known j ∷ [])
+pub data ArePointPieces : ℕ → List Piece → Type 0 where
+  no_point : (j : Instr) → InstrFits j → ArePointPieces 0 (piece.Known j ∷ [])
   one_point : (n : ℕ) (code : List Piece) (j : Instr) (d : Descr)
-      → ArePoints n code
+      → ArePointPieces n code
       → InstrFits j
-      → IsShort d
-      → ArePoints (suc n) ((code ++ piece.Known j ∷ []) ++ piece.Descriptor d ∷ [])
+      → IsShortDescriptor d
+      → ArePointPieces (suc n) ((code ++ piece.Known j ∷ []) ++ piece.Descriptor d ∷ [])
 
 -- pieces that may be in an image of any file
 pub record CanStand (p : Pieces) : Type 0 where

@@ -1,6 +1,6 @@
 //! From the pieces of a function to the forms in which they are laid, and to its words.
 ghost use Rattle.std.specs.Prelude.{IsTrue};
-ghost use Rattle.layout_rules.specs.Conditions.{LeadsTo};
+ghost use Rattle.layout_rules.specs.Conditions.{HasAlignedTarget};
 ghost use Rattle.rv_isa.specs.Encoding.{InstrFits};
 ghost use Rattle.rv_pieces.specs.Named.{PieceFits};
 
@@ -138,7 +138,7 @@ fn instr_fits(instr: Instr) -> bool
 
 /// Whether its numbers fit, and it leads to where an instruction may be.
 fn is_settled(piece: &Piece, to: u32) -> bool
-    ensures { IsTrue result → PieceFits piece.now × LeadsTo to piece.now }
+    ensures { IsTrue result → PieceFits piece.now × HasAlignedTarget to piece.now }
 {
     match piece {
         Piece::Known(instr) => instr_fits(*instr),

@@ -1,6 +1,6 @@
 //! Pieces with many frame descriptors.
 ghost use Rattle.std.specs.Prelude.{suc, ◌≤◌, ◌^◌, IfOk, OnOk, ℕ};
-ghost use Rattle.rows_code.specs.Points.{ArePoints, IsShort, CanStand};
+ghost use Rattle.rows_code.specs.Points.{ArePointPieces, IsShortDescriptor, CanStand};
 
 use lin_ir::Descr;
 use mach_ir::Seq;
@@ -32,7 +32,7 @@ pub(crate) fn pieces_of(alloc: Global, points: u32, entries: u32) -> Result<Piec
 
 fn points_of(alloc: Global, points: u32, entries: u32) -> Result<Vec<Piece>, AllocError>
     requires { entries ≤ 2 ^ 20 }
-    ensures { IfOk result (λ code. ArePoints points code.items) }
+    ensures { IfOk result (λ code. ArePointPieces points code.items) }
 {
     let mut code = Vec::new(alloc);
     code.push(Piece::Known(FILLING))?;
@@ -46,8 +46,8 @@ fn points_of(alloc: Global, points: u32, entries: u32) -> Result<Vec<Piece>, All
 
 fn put_point(alloc: Global, code: &mut Vec<Piece>, entries: u32) -> Result<(), AllocError>
     requires { entries ≤ 2 ^ 20 }
-    ensures { (n : ℕ) → ArePoints n code.old.items →
-        OnOk result (ArePoints (suc n) code.new.items) }
+    ensures { (n : ℕ) → ArePointPieces n code.old.items →
+        OnOk result (ArePointPieces (suc n) code.new.items) }
 {
     let descr = descriptor(alloc, entries)?;
     code.push(Piece::Known(FILLING))?;
@@ -58,7 +58,7 @@ fn put_point(alloc: Global, code: &mut Vec<Piece>, entries: u32) -> Result<(), A
 /// A descriptor of the first so many slots of a frame.
 fn descriptor(alloc: Global, entries: u32) -> Result<Descr, AllocError>
     requires { entries ≤ 2 ^ 20 }
-    ensures { IfOk result IsShort }
+    ensures { IfOk result IsShortDescriptor }
 {
     let mut offsets = Vec::new(alloc);
     let mut entry = 0;

@@ -4,7 +4,7 @@ use Rattle.std.proofs.lemmas.Grind.{common_steps}
 use Rattle.rv_isa.specs.declared.register.Register.{Register}
 use Rattle.rv_pieces.specs.declared.piece.Piece.{Piece}
 use Rattle.emit_rules.specs.Instructions.{low_12, addi}
-use Rattle.emit_rules.specs.Constants.{is_word_32, constant_32, higher, shifted, constant_shifted}
+use Rattle.emit_rules.specs.Constants.{is_word_32, constant_32, upper_constant, shifted, constant_shifted}
 
 on-true : (b : Bool) (x y : List Piece) → b ≡ true → cond b x y ≡ x
 on-true true x y e = refl
@@ -23,16 +23,16 @@ ends_at_zero zero r w amount h = refl
 ends_at_zero (suc n) r w amount h = absurd (omega arith)
 
 pub passes_zeros : (n k : ℕ) (r : Register) (w amount : ℕ) → n ≡ suc k → is_word_32 w ≡ false → low_12 w ≡ 0 →
-    constant_shifted n r w amount ≡ constant_shifted k r (higher w) (amount + 12)
+    constant_shifted n r w amount ≡ constant_shifted k r (upper_constant w) (amount + 12)
 passes_zeros n k r w amount e h z =
-    let Q : ℕ → Type 0 = λ m. constant_shifted m r w amount ≡ constant_shifted k r (higher w) (amount + 12) in
+    let Q : ℕ → Type 0 = λ m. constant_shifted m r w amount ≡ constant_shifted k r (upper_constant w) (amount + 12) in
     let t : nat_eq (low_12 w) 0 ≡ true = search rules in
     subst Q (sym e) (on-false (is_word_32 w) _ _ h ∙ on-true (nat_eq (low_12 w) 0) _ _ t)
 
 pub adds_bits : (n k : ℕ) (r : Register) (w amount : ℕ) → n ≡ suc k → is_word_32 w ≡ false → (low_12 w ≡ 0 → ⊥) →
-    constant_shifted n r w amount ≡ constant_shifted k r (higher w) 12 ++ addi r r w ∷ shifted r amount
+    constant_shifted n r w amount ≡ constant_shifted k r (upper_constant w) 12 ++ addi r r w ∷ shifted r amount
 adds_bits n k r w amount e h z =
-    let Q : ℕ → Type 0 = λ m. constant_shifted m r w amount ≡ constant_shifted k r (higher w) 12 ++ addi r r w ∷ shifted r amount in
+    let Q : ℕ → Type 0 = λ m. constant_shifted m r w amount ≡ constant_shifted k r (upper_constant w) 12 ++ addi r r w ∷ shifted r amount in
     let t : nat_eq (low_12 w) 0 ≡ false = search rules in
     subst Q (sym e) (on-false (is_word_32 w) _ _ h ∙ on-false (nat_eq (low_12 w) 0) _ _ t)
 

@@ -3,7 +3,7 @@ ghost use Rattle.std.specs.Prelude.{◌≡◌, [], ◌∷◌, map, IfOk};
 ghost use Rattle.emit_rules.specs.Tests.{constant_register, constant_words, right_register, right_words, signed_branch};
 ghost use Rattle.emit_rules.specs.Tests.{unsigned_branch, test_words, test_branch, branch_part, value_words};
 ghost use Rattle.emit_rules.specs.Tests.{tests_in_turn, table_of_jumps, switch_part};
-ghost use Rattle.rv_emit.specs.Outputs.{Adds};
+ghost use Rattle.rv_emit.specs.Outputs.{AddsPieces};
 
 use crate::output::Output;
 use crate::slots::{first, register_of, second};
@@ -36,7 +36,7 @@ fn constant_register(word: u64) -> Register
 
 impl Output {
     fn constant_words(&mut self, word: u64) -> Result<(), AllocError>
-        ensures { IfOk result (λ _. Adds self.old self.new (constant_words word)) }
+        ensures { IfOk result (λ _. AddsPieces self.old self.new (constant_words word)) }
     {
         if word == 0 {
             return Ok(());
@@ -46,7 +46,7 @@ impl Output {
 
     /// Brings a right operand into its register. The only error is want of memory.
     pub fn right_words(&mut self, traps: u32, right: Right, args: &[Spot]) -> Result<(), AllocError>
-        ensures { IfOk result (λ _. Adds self.old self.new (right_words traps right args.now)) }
+        ensures { IfOk result (λ _. AddsPieces self.old self.new (right_words traps right args.now)) }
     {
         match right {
             Right::Register => self.fetched(traps, Register::T2, second(args)),
@@ -62,7 +62,7 @@ impl Output {
         label: Label,
     ) -> Result<(), AllocError>
         ensures { IfOk result (λ _.
-            Adds self.old self.new (Piece.Branch condition left right label ∷ [])) }
+            AddsPieces self.old self.new (Piece.Branch condition left right label ∷ [])) }
     {
         self.put(Piece::Branch {
             condition,
@@ -80,7 +80,7 @@ impl Output {
         label: Label,
     ) -> Result<(), AllocError>
         ensures { IfOk result (λ _.
-            Adds self.old self.new (signed_branch op left right label ∷ [])) }
+            AddsPieces self.old self.new (signed_branch op left right label ∷ [])) }
     {
         match op {
             CmpOp::Eq => self.branch(Condition::Beq, left, right, label),
@@ -100,7 +100,7 @@ impl Output {
         label: Label,
     ) -> Result<(), AllocError>
         ensures { IfOk result (λ _.
-            Adds self.old self.new (unsigned_branch op left right label ∷ [])) }
+            AddsPieces self.old self.new (unsigned_branch op left right label ∷ [])) }
     {
         match op {
             CmpOp::Eq => self.branch(Condition::Beq, left, right, label),
@@ -113,7 +113,7 @@ impl Output {
     }
 
     fn test_words(&mut self, traps: u32, test: Test, args: &[Spot]) -> Result<(), AllocError>
-        ensures { IfOk result (λ _. Adds self.old self.new (test_words traps test args.now)) }
+        ensures { IfOk result (λ _. AddsPieces self.old self.new (test_words traps test args.now)) }
     {
         match test {
             Test::Holds => Ok(()),
@@ -131,7 +131,7 @@ impl Output {
         label: Label,
     ) -> Result<(), AllocError>
         ensures { IfOk result (λ _.
-            Adds self.old self.new (test_branch test args.now left label ∷ [])) }
+            AddsPieces self.old self.new (test_branch test args.now left label ∷ [])) }
     {
         match test {
             Test::Holds => self.branch(Condition::Bne, left, Register::Zero, label),
@@ -154,7 +154,7 @@ impl Output {
         args: &[Spot],
     ) -> Result<(), AllocError>
         ensures { IfOk result (λ _.
-            Adds self.old self.new (branch_part traps test label args.now)) }
+            AddsPieces self.old self.new (branch_part traps test label args.now)) }
     {
         let left = first(args);
         self.fetched(traps, Register::T1, left)?;
@@ -164,7 +164,7 @@ impl Output {
 
     /// What a location has becomes the value of t1. The only error is want of memory.
     pub fn value_words(&mut self, traps: u32, loc: Loc) -> Result<(), AllocError>
-        ensures { IfOk result (λ _. Adds self.old self.new (value_words traps loc)) }
+        ensures { IfOk result (λ _. AddsPieces self.old self.new (value_words traps loc)) }
     {
         match loc {
             Loc::Slot(_) => self.fetched(traps, Register::T1, loc),
@@ -175,7 +175,7 @@ impl Output {
 
     /// T1 is tested against 0, and lowered, until the last label is left.
     fn tests_in_turn(&mut self, labels: &[Label]) -> Result<(), AllocError>
-        ensures { IfOk result (λ _. Adds self.old self.new (tests_in_turn labels.now)) }
+        ensures { IfOk result (λ _. AddsPieces self.old self.new (tests_in_turn labels.now)) }
     {
         match labels {
             [] => Ok(()),
@@ -189,7 +189,7 @@ impl Output {
     }
 
     fn rows(&mut self, labels: &[Label]) -> Result<(), AllocError>
-        ensures { IfOk result (λ _. Adds self.old self.new (map Piece.Row labels.now)) }
+        ensures { IfOk result (λ _. AddsPieces self.old self.new (map Piece.Row labels.now)) }
     {
         for label in labels {
             self.put(Piece::Row(*label))?;
@@ -198,7 +198,7 @@ impl Output {
     }
 
     fn table_of_jumps(&mut self, labels: &[Label]) -> Result<(), AllocError>
-        ensures { IfOk result (λ _. Adds self.old self.new (table_of_jumps labels.now)) }
+        ensures { IfOk result (λ _. AddsPieces self.old self.new (table_of_jumps labels.now)) }
     {
         self.shift(ShiftOp::Slli, Register::T1, Register::T1, 3)?;
         self.auipc(Register::T2)?;
@@ -215,7 +215,7 @@ impl Output {
         args: &[Spot],
     ) -> Result<(), AllocError>
         ensures { IfOk result (λ _.
-            Adds self.old self.new (switch_part traps labels.now args.now)) }
+            AddsPieces self.old self.new (switch_part traps labels.now args.now)) }
     {
         self.value_words(traps, first(args))?;
         if labels.len() <= 4 {

@@ -1,8 +1,8 @@
 //! Calls, and the return from a function.
 ghost use Rattle.std.specs.Prelude.{◌≡◌, [], ◌∷◌, IfOk, option_copied};
 ghost use Rattle.emit_rules.specs.Calls.{mark_of, call_words, callee_words, goes_to_callee, tail_call_part, external_service, external_words, return_part};
-ghost use Rattle.rv_emit.specs.Outputs.{Adds};
-ghost use Rattle.rv_emit.specs.Frames.{form_of};
+ghost use Rattle.rv_emit.specs.Outputs.{AddsPieces};
+ghost use Rattle.rv_emit.specs.Frames.{frame_layout_of};
 
 use crate::form::FrameForm;
 use crate::output::Output;
@@ -57,7 +57,7 @@ impl Output {
     /// The mark of a return address, where it has a descriptor. The only error is want of memory.
     pub fn mark(&mut self, descriptor: Option<&Descr>) -> Result<(), AllocError>
         ensures { IfOk result (λ _.
-            Adds self.old self.new (mark_of (option_copied descriptor.entry))) }
+            AddsPieces self.old self.new (mark_of (option_copied descriptor.entry))) }
     {
         match descriptor {
             None => Ok(()),
@@ -70,7 +70,7 @@ impl Output {
 
     /// The value of a symbol becomes the register's value. The only error is want of memory.
     pub fn symbol_address(&mut self, to: Register, name: &Name) -> Result<(), AllocError>
-        ensures { IfOk result (λ _. Adds self.old self.new (Piece.SymbolAddress to name.now ∷ [])) }
+        ensures { IfOk result (λ _. AddsPieces self.old self.new (Piece.SymbolAddress to name.now ∷ [])) }
     {
         let name = copied_name(self.alloc, name)?;
         self.put(Piece::SymbolAddress { to, name })
@@ -83,7 +83,7 @@ impl Output {
         callee: &Callee,
         args: &[Spot],
     ) -> Result<(), AllocError>
-        ensures { IfOk result (λ _. Adds self.old self.new (call_words traps callee.now args.now)) }
+        ensures { IfOk result (λ _. AddsPieces self.old self.new (call_words traps callee.now args.now)) }
     {
         match callee {
             Callee::Symbol(name) => {
@@ -100,7 +100,7 @@ impl Output {
 
     fn callee_words(&mut self, traps: u32, callee: &Callee, args: &[Spot]) -> Result<(), AllocError>
         ensures { IfOk result (λ _.
-            Adds self.old self.new (callee_words traps callee.now args.now)) }
+            AddsPieces self.old self.new (callee_words traps callee.now args.now)) }
     {
         match callee {
             Callee::Symbol(_) => Ok(()),
@@ -109,7 +109,7 @@ impl Output {
     }
 
     fn goes_to_callee(&mut self, callee: &Callee) -> Result<(), AllocError>
-        ensures { IfOk result (λ _. Adds self.old self.new (goes_to_callee callee.now ∷ [])) }
+        ensures { IfOk result (λ _. AddsPieces self.old self.new (goes_to_callee callee.now ∷ [])) }
     {
         match callee {
             Callee::Symbol(name) => {
@@ -129,7 +129,7 @@ impl Output {
         args: &[Spot],
     ) -> Result<(), AllocError>
         ensures { IfOk result (λ _.
-            Adds self.old self.new (tail_call_part traps (form_of frame) callee.now args.now)) }
+            AddsPieces self.old self.new (tail_call_part traps (frame_layout_of frame) callee.now args.now)) }
     {
         self.callee_words(traps, callee, args)?;
         self.given_back(frame)?;
@@ -138,7 +138,7 @@ impl Output {
 
     /// An external call; `frame`: that it is a frame call. The only error is want of memory.
     pub fn external_words(&mut self, row: &External, frame: bool) -> Result<(), AllocError>
-        ensures { IfOk result (λ _. Adds self.old self.new (external_words row.now frame)) }
+        ensures { IfOk result (λ _. AddsPieces self.old self.new (external_words row.now frame)) }
     {
         let row = copied_row(self.alloc, row)?;
         self.put(Piece::ExternalNumber {
@@ -151,7 +151,7 @@ impl Output {
 
     /// The return from the function. The only error is want of memory.
     pub fn return_part(&mut self, frame: FrameForm) -> Result<(), AllocError>
-        ensures { IfOk result (λ _. Adds self.old self.new (return_part (form_of frame))) }
+        ensures { IfOk result (λ _. AddsPieces self.old self.new (return_part (frame_layout_of frame))) }
     {
         self.given_back(frame)?;
         self.goes_to(Register::Ra, 0)

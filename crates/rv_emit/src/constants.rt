@@ -1,8 +1,8 @@
 //! Constants, and sums of a register and a constant.
 ghost use Rattle.std.specs.Prelude.{◌≡◌, ◌+◌, ◌*◌, ◌++◌, ◌≤◌, IfOk};
 ghost use Rattle.mach_ir.specs.Forms.{is_immediate_12};
-ghost use Rattle.emit_rules.specs.Constants.{is_word_32, above_12, lower_part, constant_32, higher, shifted, constant_shifted, constant, sum_to, lowered};
-ghost use Rattle.rv_emit.specs.Outputs.{Adds};
+ghost use Rattle.emit_rules.specs.Constants.{is_word_32, above_12, lower_part, constant_32, upper_constant, shifted, constant_shifted, constant_pieces, sum_to, bytes_taken_off};
+ghost use Rattle.rv_emit.specs.Outputs.{AddsPieces};
 
 use crate::output::Output;
 use rv_isa::{AluOp, Register, ShiftOp};
@@ -31,7 +31,7 @@ pub fn above_12(word: u64) -> u64
 
 /// The word above the lowest 12 bits, rounded, with its sign.
 fn higher(word: u64) -> u64
-    ensures { result ≡ higher word }
+    ensures { result ≡ upper_constant word }
 {
     let upper = above_12(word) % 0x0010_0000_0000_0000;
     if upper < 0x0008_0000_0000_0000 {
@@ -43,7 +43,7 @@ fn higher(word: u64) -> u64
 
 impl Output {
     fn lower_part(&mut self, to: Register, word: u64) -> Result<(), AllocError>
-        ensures { IfOk result (λ _. Adds self.old self.new (lower_part to word)) }
+        ensures { IfOk result (λ _. AddsPieces self.old self.new (lower_part to word)) }
     {
         if word % 4096 == 0 {
             return Ok(());
@@ -52,7 +52,7 @@ impl Output {
     }
 
     fn constant_32(&mut self, to: Register, word: u64) -> Result<(), AllocError>
-        ensures { IfOk result (λ _. Adds self.old self.new (constant_32 to word)) }
+        ensures { IfOk result (λ _. AddsPieces self.old self.new (constant_32 to word)) }
     {
         if is_immediate_12(word) {
             self.addi(to, Register::Zero, word)
@@ -63,7 +63,7 @@ impl Output {
     }
 
     fn shifted(&mut self, to: Register, amount: u64) -> Result<(), AllocError>
-        ensures { IfOk result (λ _. Adds self.old self.new (shifted to amount)) }
+        ensures { IfOk result (λ _. AddsPieces self.old self.new (shifted to amount)) }
     {
         if amount == 0 {
             return Ok(());
@@ -74,7 +74,7 @@ impl Output {
     /// A word of 32 bits, shifted by so many bits to the left.
     fn ended(&mut self, to: Register, word: u64, amount: u64) -> Result<(), AllocError>
         ensures { IfOk result (λ _.
-            Adds self.old self.new (constant_32 to word ++ shifted to amount)) }
+            AddsPieces self.old self.new (constant_32 to word ++ shifted to amount)) }
     {
         self.constant_32(to, word)?;
         self.shifted(to, amount)
@@ -90,7 +90,7 @@ impl Output {
     ) -> Result<(), AllocError>
         requires { amount + 12 * steps ≤ 64 }
         ensures { IfOk result (λ _.
-            Adds self.old self.new (constant_shifted steps to word amount)) }
+            AddsPieces self.old self.new (constant_shifted steps to word amount)) }
     {
         if is_word_32(word) {
             return self.ended(to, word, amount);
@@ -107,9 +107,9 @@ impl Output {
     }
 
     /// The word becomes the register's value. The only error is want of memory.
-    #[tactic(auto, unfolding(emit_rules::specs::Constants::constant))]
+    #[tactic(auto, unfolding(emit_rules::specs::Constants::constant_pieces))]
     pub fn constant(&mut self, to: Register, word: u64) -> Result<(), AllocError>
-        ensures { IfOk result (λ _. Adds self.old self.new (constant to word)) }
+        ensures { IfOk result (λ _. AddsPieces self.old self.new (constant_pieces to word)) }
     {
         self.constant_shifted(3, to, word, 0)
     }
@@ -123,7 +123,7 @@ impl Output {
         from: Register,
         bytes: u64,
     ) -> Result<(), AllocError>
-        ensures { IfOk result (λ _. Adds self.old self.new (sum_to scratch to from bytes)) }
+        ensures { IfOk result (λ _. AddsPieces self.old self.new (sum_to scratch to from bytes)) }
     {
         if bytes < 2048 {
             self.addi(to, from, bytes)
@@ -140,7 +140,7 @@ impl Output {
         register: Register,
         bytes: u64,
     ) -> Result<(), AllocError>
-        ensures { IfOk result (λ _. Adds self.old self.new (lowered scratch register bytes)) }
+        ensures { IfOk result (λ _. AddsPieces self.old self.new (bytes_taken_off scratch register bytes)) }
     {
         if bytes <= 2048 {
             self.addi(register, register, 4096 - bytes % 4096)

@@ -1,14 +1,14 @@
 //! The pieces of a function: its entry, and a part for each line, in their order.
 ghost use Rattle.std.specs.Prelude.{◌≡◌, ◌≤◌, IfOk, option_copied, slice_index};
-ghost use Rattle.lin_ir.specs.Descriptors.{frame_bytes, IsWithin};
+ghost use Rattle.lin_ir.specs.Descriptors.{frame_bytes, FitsDescriptors};
 ghost use Rattle.lin_ir.specs.Formed.{AreLocated};
 ghost use Rattle.lin_ir.specs.Walks.{OneDepth};
 ghost use Rattle.emit_rules.specs.Calls.{mark_of};
 ghost use Rattle.emit_rules.specs.Emitted.{operator_part, pure_part, access_part, calling_part, leaving_part, op_part};
-ghost use Rattle.emit_rules.specs.Emitted.{flow_part, part_of, part_before, descriptor, left_after};
-ghost use Rattle.emit_rules.specs.Emitted.{parts, emitted, IsEmitted};
-ghost use Rattle.rv_emit.specs.Outputs.{Adds};
-ghost use Rattle.rv_emit.specs.Frames.{form_of};
+ghost use Rattle.emit_rules.specs.Emitted.{flow_part, part_of_line, part_before, descriptor, left_after};
+ghost use Rattle.emit_rules.specs.Emitted.{parts_of_lines, emitted, IsEmitted};
+ghost use Rattle.rv_emit.specs.Outputs.{AddsPieces};
+ghost use Rattle.rv_emit.specs.Frames.{frame_layout_of};
 
 use crate::form::FrameForm;
 use crate::frames::frame_of;
@@ -33,7 +33,7 @@ impl Output {
         results: &[Spot],
     ) -> Result<(), AllocError>
         ensures { IfOk result (λ _.
-            Adds self.old self.new (operator_part traps op right args.now results.now)) }
+            AddsPieces self.old self.new (operator_part traps op right args.now results.now)) }
     {
         let left = first(args);
         let to = first(results);
@@ -61,7 +61,7 @@ impl Output {
         results: &[Spot],
     ) -> Result<(), AllocError>
         ensures { IfOk result (λ _.
-            Adds self.old self.new (pure_part traps op.now args.now results.now)) }
+            AddsPieces self.old self.new (pure_part traps op.now args.now results.now)) }
     {
         let to = first(results);
         match op {
@@ -87,7 +87,7 @@ impl Output {
         results: &[Spot],
     ) -> Result<(), AllocError>
         ensures { IfOk result (λ _.
-            Adds self.old self.new
+            AddsPieces self.old self.new
             (access_part traps (mark_of (option_copied mark.entry)) op.now args.now results.now)) }
     {
         match op {
@@ -108,8 +108,8 @@ impl Output {
         args: &[Spot],
     ) -> Result<(), AllocError>
         ensures { IfOk result (λ _.
-            Adds self.old self.new
-            (calling_part traps (form_of frame)
+            AddsPieces self.old self.new
+            (calling_part traps (frame_layout_of frame)
             (mark_of (option_copied mark.entry)) op.now args.now)) }
     {
         match op {
@@ -135,7 +135,7 @@ impl Output {
         args: &[Spot],
     ) -> Result<(), AllocError>
         ensures { IfOk result (λ _.
-            Adds self.old self.new (leaving_part traps (form_of frame) op args.now)) }
+            AddsPieces self.old self.new (leaving_part traps (frame_layout_of frame) op args.now)) }
     {
         match op {
             Leaving::Checkbound(right) => self.check_part(traps, right, args),
@@ -154,8 +154,8 @@ impl Output {
         results: &[Spot],
     ) -> Result<(), AllocError>
         ensures { IfOk result (λ _.
-            Adds self.old self.new
-            (op_part traps (form_of frame)
+            AddsPieces self.old self.new
+            (op_part traps (frame_layout_of frame)
             (mark_of (option_copied mark.entry)) op.now args.now results.now)) }
     {
         match op {
@@ -174,7 +174,7 @@ impl Output {
         results: &[Spot],
     ) -> Result<(), AllocError>
         ensures { IfOk result (λ _.
-            Adds self.old self.new (flow_part traps flow.now args.now results.now)) }
+            AddsPieces self.old self.new (flow_part traps flow.now args.now results.now)) }
     {
         match flow {
             Flow::Label(label) => self.put(Piece::Label(*label)),
@@ -197,8 +197,8 @@ impl Output {
         line: &Line,
     ) -> Result<(), AllocError>
         ensures { IfOk result (λ _.
-            Adds self.old self.new
-            (part_of traps (form_of frame) (option_copied mark.entry) line.now)) }
+            AddsPieces self.old self.new
+            (part_of_line traps (frame_layout_of frame) (option_copied mark.entry) line.now)) }
     {
         let args = line.args.as_slice();
         let results = line.results.as_slice();
@@ -218,8 +218,8 @@ impl Output {
         next: &[Line],
     ) -> Result<(), AllocError>
         ensures { IfOk result (λ _.
-            Adds self.old self.new
-            (part_before traps (form_of frame) (option_copied mark.entry) line.now next.now)) }
+            AddsPieces self.old self.new
+            (part_before traps (frame_layout_of frame) (option_copied mark.entry) line.now next.now)) }
     {
         if is_free(&line.op, next) {
             return Ok(());
@@ -237,9 +237,9 @@ impl Output {
         code: &[Line],
     ) -> Result<(), AllocError>
         ensures { IfOk result (λ _.
-            Adds self.old self.new
-            (parts (λ left.
-            slice_index pushed.now left) (form_of frame) descriptors.now code.now)) }
+            AddsPieces self.old self.new
+            (parts_of_lines (λ left.
+            slice_index pushed.now left) (frame_layout_of frame) descriptors.now code.now)) }
     {
         let mut rest = code;
         let mut left = descriptors;
@@ -312,7 +312,7 @@ fn emit_with(
 pub fn emit(alloc: Global, lin: &Lin, descriptors: &[Descr]) -> Result<Pieces, AllocError>
     requires located { AreLocated lin.now }
     requires depth { OneDepth lin.now }
-    requires within { IsWithin lin.now }
+    requires within { FitsDescriptors lin.now }
     ensures { IfOk result (λ pieces. IsEmitted lin.now descriptors.now pieces) }
 {
     let pushed = pushed_traps(alloc, lin)?;

@@ -1,8 +1,8 @@
 //! Instructions over registers.
 ghost use Rattle.std.specs.Prelude.{◌≡◌, ◌<◌, [], ◌∷◌, IfOk};
-ghost use Rattle.emit_rules.specs.Instructions.{low_12, with_immediate, addi, mv, operation, add, shift};
-ghost use Rattle.emit_rules.specs.Instructions.{lui, addiw, auipc, load, store, skip, goes_to, calls_at, ecall};
-ghost use Rattle.rv_emit.specs.Outputs.{Adds};
+ghost use Rattle.emit_rules.specs.Instructions.{low_12, with_immediate, addi, mv, alu_operation, add, shift_piece};
+ghost use Rattle.emit_rules.specs.Instructions.{lui, addiw, auipc, load_piece, store_piece, skip, goes_to_address, calls_at, ecall};
+ghost use Rattle.rv_emit.specs.Outputs.{AddsPieces};
 
 use crate::output::Output;
 use rv_isa::{AluImmOp, AluOp, Condition, Instr, LoadWidth, Register, ShiftOp, StoreWidth};
@@ -26,7 +26,7 @@ impl Output {
         from: Register,
         word: u64,
     ) -> Result<(), AllocError>
-        ensures { IfOk result (λ _. Adds self.old self.new (with_immediate op to from word ∷ [])) }
+        ensures { IfOk result (λ _. AddsPieces self.old self.new (with_immediate op to from word ∷ [])) }
     {
         self.known(Instr::OpImm {
             op,
@@ -39,14 +39,14 @@ impl Output {
     /// A register and a constant, of which the low 12 bits are taken as a signed number: their sum.
     /// The only error is want of memory.
     pub fn addi(&mut self, to: Register, from: Register, word: u64) -> Result<(), AllocError>
-        ensures { IfOk result (λ _. Adds self.old self.new (addi to from word ∷ [])) }
+        ensures { IfOk result (λ _. AddsPieces self.old self.new (addi to from word ∷ [])) }
     {
         self.with_immediate(AluImmOp::Addi, to, from, word)
     }
 
     /// The value of one register in another. The only error is want of memory.
     pub fn mv(&mut self, to: Register, from: Register) -> Result<(), AllocError>
-        ensures { IfOk result (λ _. Adds self.old self.new (mv to from ∷ [])) }
+        ensures { IfOk result (λ _. AddsPieces self.old self.new (mv to from ∷ [])) }
     {
         self.addi(to, from, 0)
     }
@@ -59,7 +59,7 @@ impl Output {
         left: Register,
         right: Register,
     ) -> Result<(), AllocError>
-        ensures { IfOk result (λ _. Adds self.old self.new (operation op to left right ∷ [])) }
+        ensures { IfOk result (λ _. AddsPieces self.old self.new (alu_operation op to left right ∷ [])) }
     {
         self.known(Instr::Op {
             op,
@@ -71,7 +71,7 @@ impl Output {
 
     /// The sum of two registers. The only error is want of memory.
     pub fn add(&mut self, to: Register, left: Register, right: Register) -> Result<(), AllocError>
-        ensures { IfOk result (λ _. Adds self.old self.new (add to left right ∷ [])) }
+        ensures { IfOk result (λ _. AddsPieces self.old self.new (add to left right ∷ [])) }
     {
         self.operation(AluOp::Add, to, left, right)
     }
@@ -84,7 +84,7 @@ impl Output {
         from: Register,
         amount: u64,
     ) -> Result<(), AllocError>
-        ensures { IfOk result (λ _. Adds self.old self.new (shift op to from amount ∷ [])) }
+        ensures { IfOk result (λ _. AddsPieces self.old self.new (shift_piece op to from amount ∷ [])) }
     {
         self.known(Instr::Shift {
             op,
@@ -97,7 +97,7 @@ impl Output {
     /// `upper`: the upper bits; the field takes the lowest 20 of them.
     /// The only error is want of memory.
     pub fn lui(&mut self, to: Register, upper: u64) -> Result<(), AllocError>
-        ensures { IfOk result (λ _. Adds self.old self.new (lui to upper ∷ [])) }
+        ensures { IfOk result (λ _. AddsPieces self.old self.new (lui to upper ∷ [])) }
     {
         self.known(Instr::Lui {
             rd: to.number(),
@@ -108,7 +108,7 @@ impl Output {
     /// As `addi`, on words of 32 bits, whose sum is extended by its sign.
     /// The only error is want of memory.
     pub fn addiw(&mut self, to: Register, from: Register, word: u64) -> Result<(), AllocError>
-        ensures { IfOk result (λ _. Adds self.old self.new (addiw to from word ∷ [])) }
+        ensures { IfOk result (λ _. AddsPieces self.old self.new (addiw to from word ∷ [])) }
     {
         self.known(Instr::Addiw {
             rd: to.number(),
@@ -119,7 +119,7 @@ impl Output {
 
     /// The instruction's own address. The only error is want of memory.
     pub fn auipc(&mut self, to: Register) -> Result<(), AllocError>
-        ensures { IfOk result (λ _. Adds self.old self.new (auipc to ∷ [])) }
+        ensures { IfOk result (λ _. AddsPieces self.old self.new (auipc to ∷ [])) }
     {
         self.known(Instr::Auipc {
             rd: to.number(),
@@ -136,7 +136,7 @@ impl Output {
         address: Register,
         offset: u64,
     ) -> Result<(), AllocError>
-        ensures { IfOk result (λ _. Adds self.old self.new (load width to address offset ∷ [])) }
+        ensures { IfOk result (λ _. AddsPieces self.old self.new (load_piece width to address offset ∷ [])) }
     {
         self.known(Instr::Load {
             width,
@@ -155,7 +155,7 @@ impl Output {
         address: Register,
         offset: u64,
     ) -> Result<(), AllocError>
-        ensures { IfOk result (λ _. Adds self.old self.new (store width from address offset ∷ [])) }
+        ensures { IfOk result (λ _. AddsPieces self.old self.new (store_piece width from address offset ∷ [])) }
     {
         self.known(Instr::Store {
             width,
@@ -174,7 +174,7 @@ impl Output {
         right: Register,
         bytes: u64,
     ) -> Result<(), AllocError>
-        ensures { IfOk result (λ _. Adds self.old self.new (skip condition left right bytes ∷ [])) }
+        ensures { IfOk result (λ _. AddsPieces self.old self.new (skip condition left right bytes ∷ [])) }
     {
         self.known(Instr::Branch {
             condition,
@@ -186,7 +186,7 @@ impl Output {
 
     /// Goes to the address in a register and so many bytes more. The only error is want of memory.
     pub fn goes_to(&mut self, address: Register, offset: u64) -> Result<(), AllocError>
-        ensures { IfOk result (λ _. Adds self.old self.new (goes_to address offset ∷ [])) }
+        ensures { IfOk result (λ _. AddsPieces self.old self.new (goes_to_address address offset ∷ [])) }
     {
         self.known(Instr::Jalr {
             rd: Register::Zero.number(),
@@ -197,7 +197,7 @@ impl Output {
 
     /// Calls the address in a register. The only error is want of memory.
     pub fn calls_at(&mut self, address: Register) -> Result<(), AllocError>
-        ensures { IfOk result (λ _. Adds self.old self.new (calls_at address ∷ [])) }
+        ensures { IfOk result (λ _. AddsPieces self.old self.new (calls_at address ∷ [])) }
     {
         self.known(Instr::Jalr {
             rd: Register::Ra.number(),
@@ -208,7 +208,7 @@ impl Output {
 
     /// A call of the service whose number is in t2. The only error is want of memory.
     pub fn ecall(&mut self) -> Result<(), AllocError>
-        ensures { IfOk result (λ _. Adds self.old self.new (ecall ∷ [])) }
+        ensures { IfOk result (λ _. AddsPieces self.old self.new (ecall ∷ [])) }
     {
         self.known(Instr::Ecall)
     }

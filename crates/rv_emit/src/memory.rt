@@ -1,12 +1,12 @@
 //! Loads, stores and allocations.
 ghost use Rattle.std.specs.Prelude.{◌≡◌, ◌<◌, ◌^◌, ◌++◌, IfOk, option_copied};
-ghost use Rattle.mach_ir.specs.Blocks.{bytes_of};
+ghost use Rattle.mach_ir.specs.Blocks.{total_block_bytes};
 ghost use Rattle.emit_rules.specs.Memory.{address_words, address_register, address_offset, load_width, load_from};
 ghost use Rattle.emit_rules.specs.Memory.{load_part, store_width, store_part, ask, reserved, addresses, alloc_part};
 ghost use Rattle.emit_rules.specs.Constants.{sum_to};
-ghost use Rattle.emit_rules.specs.Slots.{target, kept};
+ghost use Rattle.emit_rules.specs.Slots.{target, keep_pieces};
 ghost use Rattle.emit_rules.specs.Calls.{mark_of};
-ghost use Rattle.rv_emit.specs.Outputs.{Adds};
+ghost use Rattle.rv_emit.specs.Outputs.{AddsPieces};
 
 use crate::constants::is_immediate_12;
 use crate::output::Output;
@@ -68,7 +68,7 @@ fn store_width(chunk: Chunk) -> StoreWidth
 
 impl Output {
     fn address_words(&mut self, base: Register, offset: u64) -> Result<(), AllocError>
-        ensures { IfOk result (λ _. Adds self.old self.new (address_words base offset)) }
+        ensures { IfOk result (λ _. AddsPieces self.old self.new (address_words base offset)) }
     {
         if is_immediate_12(offset) {
             return Ok(());
@@ -84,7 +84,7 @@ impl Output {
         base: Register,
         to: Register,
     ) -> Result<(), AllocError>
-        ensures { IfOk result (λ _. Adds self.old self.new (load_from chunk offset base to)) }
+        ensures { IfOk result (λ _. AddsPieces self.old self.new (load_from chunk offset base to)) }
     {
         self.address_words(base, offset)?;
         let address = address_register(base, offset);
@@ -102,7 +102,7 @@ impl Output {
         results: &[Spot],
     ) -> Result<(), AllocError>
         ensures { IfOk result (λ _.
-            Adds self.old self.new (load_part traps chunk offset args.now results.now)) }
+            AddsPieces self.old self.new (load_part traps chunk offset args.now results.now)) }
     {
         let from = first(args);
         let to = first(results);
@@ -121,7 +121,7 @@ impl Output {
         args: &[Spot],
     ) -> Result<(), AllocError>
         ensures { IfOk result (λ _.
-            Adds self.old self.new (store_part traps chunk offset args.now)) }
+            AddsPieces self.old self.new (store_part traps chunk offset args.now)) }
     {
         let base = register_of(Register::T1, first(args));
         let value = second(args);
@@ -135,7 +135,7 @@ impl Output {
 
     /// Asks the allocation service for so many bytes.
     fn ask(&mut self, bytes: u64) -> Result<(), AllocError>
-        ensures { IfOk result (λ _. Adds self.old self.new (ask bytes)) }
+        ensures { IfOk result (λ _. AddsPieces self.old self.new (ask bytes)) }
     {
         self.constant(Register::T0, bytes)?;
         self.constant(Register::T2, 3)?;
@@ -144,7 +144,7 @@ impl Output {
 
     /// Puts these pieces after those that are there.
     fn append(&mut self, mut pieces: Vec<Piece>) -> Result<(), AllocError>
-        ensures { IfOk result (λ _. Adds self.old self.new pieces.items) }
+        ensures { IfOk result (λ _. AddsPieces self.old self.new pieces.items) }
     {
         self.pieces.append(&mut pieces)?;
         Ok(())
@@ -162,7 +162,7 @@ impl Output {
 
     /// Takes so many bytes off s10, and asks for them where s10 is then below the limit word.
     fn reserved(&mut self, bytes: u64) -> Result<(), AllocError>
-        ensures { IfOk result (λ _. Adds self.old self.new (reserved bytes)) }
+        ensures { IfOk result (λ _. AddsPieces self.old self.new (reserved bytes)) }
     {
         let pieces = self.asking(bytes)?;
         let over = 4 * (1 + pieces.len() as u64);
@@ -175,8 +175,8 @@ impl Output {
     /// So many bytes above s10 becomes the value of a location.
     fn address(&mut self, traps: u32, to: Loc, bytes: u64) -> Result<(), AllocError>
         ensures { IfOk result (λ _.
-            Adds self.old self.new (sum_to Register.T1 (target to) Register.S10 bytes
-            ++ kept traps to)) }
+            AddsPieces self.old self.new (sum_to Register.T1 (target to) Register.S10 bytes
+            ++ keep_pieces traps to)) }
     {
         self.sum_to(Register::T1, target(to), Register::S10, bytes)?;
         self.kept(traps, to)
@@ -190,10 +190,10 @@ impl Output {
         results: &[Spot],
         bytes: u64,
     ) -> Result<(), AllocError>
-        requires exact { bytes ≡ bytes_of blocks.now }
+        requires exact { bytes ≡ total_block_bytes blocks.now }
         requires below { bytes < 2 ^ 32 }
         ensures { IfOk result (λ _.
-            Adds self.old self.new (addresses traps blocks.now results.now)) }
+            AddsPieces self.old self.new (addresses traps blocks.now results.now)) }
     {
         match blocks.split_first() {
             None => Ok(()),
@@ -219,7 +219,7 @@ impl Output {
         results: &[Spot],
     ) -> Result<(), AllocError>
         ensures { IfOk result (λ _.
-            Adds self.old self.new
+            AddsPieces self.old self.new
             (alloc_part traps (mark_of (option_copied mark.entry)) blocks.now results.now)) }
     {
         let bytes = u64::from(blocks.bytes());

@@ -1,7 +1,7 @@
 //! Integer operators, comparisons that give 1 or 0 among them.
 ghost use Rattle.std.specs.Prelude.{[], ◌∷◌, IfOk};
 ghost use Rattle.emit_rules.specs.Operators.{opposed, is_none, is_some, compared, operated, operated_far, compared_with, operated_with};
-ghost use Rattle.rv_emit.specs.Outputs.{Adds};
+ghost use Rattle.rv_emit.specs.Outputs.{AddsPieces};
 
 use crate::output::Output;
 use bs_words::{CmpOp, IntOp};
@@ -10,19 +10,19 @@ use std::alloc::AllocError;
 
 impl Output {
     fn opposed(&mut self, to: Register) -> Result<(), AllocError>
-        ensures { IfOk result (λ _. Adds self.old self.new (opposed to ∷ [])) }
+        ensures { IfOk result (λ _. AddsPieces self.old self.new (opposed to ∷ [])) }
     {
         self.with_immediate(AluImmOp::Xori, to, to, 1)
     }
 
     fn is_none(&mut self, to: Register) -> Result<(), AllocError>
-        ensures { IfOk result (λ _. Adds self.old self.new (is_none to ∷ [])) }
+        ensures { IfOk result (λ _. AddsPieces self.old self.new (is_none to ∷ [])) }
     {
         self.with_immediate(AluImmOp::Sltiu, to, to, 1)
     }
 
     fn is_some(&mut self, to: Register) -> Result<(), AllocError>
-        ensures { IfOk result (λ _. Adds self.old self.new (is_some to ∷ [])) }
+        ensures { IfOk result (λ _. AddsPieces self.old self.new (is_some to ∷ [])) }
     {
         self.operation(AluOp::Sltu, to, Register::Zero, to)
     }
@@ -36,7 +36,7 @@ impl Output {
         left: Register,
         right: Register,
     ) -> Result<(), AllocError>
-        ensures { IfOk result (λ _. Adds self.old self.new (compared less op to left right)) }
+        ensures { IfOk result (λ _. AddsPieces self.old self.new (compared less op to left right)) }
     {
         match op {
             CmpOp::Eq => {
@@ -68,7 +68,7 @@ impl Output {
         left: Register,
         right: Register,
     ) -> Result<(), AllocError>
-        ensures { IfOk result (λ _. Adds self.old self.new (operated op to left right)) }
+        ensures { IfOk result (λ _. AddsPieces self.old self.new (operated op to left right)) }
     {
         match op {
             IntOp::Add => self.operation(AluOp::Add, to, left, right),
@@ -97,7 +97,7 @@ impl Output {
         left: Register,
         word: u64,
     ) -> Result<(), AllocError>
-        ensures { IfOk result (λ _. Adds self.old self.new (operated_far op to left word)) }
+        ensures { IfOk result (λ _. AddsPieces self.old self.new (operated_far op to left word)) }
     {
         self.constant(Register::T2, word)?;
         self.operated(op, to, left, Register::T2)
@@ -114,7 +114,7 @@ impl Output {
         word: u64,
     ) -> Result<(), AllocError>
         ensures { IfOk result (λ _.
-            Adds self.old self.new (compared_with less far op to left word)) }
+            AddsPieces self.old self.new (compared_with less far op to left word)) }
     {
         match op {
             CmpOp::Eq => {
@@ -149,7 +149,7 @@ impl Output {
         left: Register,
         word: u64,
     ) -> Result<(), AllocError>
-        ensures { IfOk result (λ _. Adds self.old self.new (operated_with op to left word)) }
+        ensures { IfOk result (λ _. AddsPieces self.old self.new (operated_with op to left word)) }
     {
         match op {
             IntOp::Add => self.addi(to, left, word),

@@ -1,6 +1,6 @@
 //! Pieces while they are made.
 ghost use Rattle.std.specs.Prelude.{◌≡◌, [], ◌∷◌, IfOk};
-ghost use Rattle.rv_emit.specs.Outputs.{Adds};
+ghost use Rattle.rv_emit.specs.Outputs.{AddsPieces};
 
 use rv_isa::Instr;
 use rv_pieces::Piece;
@@ -28,7 +28,7 @@ impl Output {
 
     /// One piece. The only error is want of memory.
     pub fn put(&mut self, piece: Piece) -> Result<(), AllocError>
-        ensures { IfOk result (λ _. Adds self.old self.new (piece ∷ [])) }
+        ensures { IfOk result (λ _. AddsPieces self.old self.new (piece ∷ [])) }
     {
         self.pieces.push(piece)?;
         Ok(())
@@ -36,7 +36,7 @@ impl Output {
 
     /// An instruction whose numbers are all known. The only error is want of memory.
     pub fn known(&mut self, instr: Instr) -> Result<(), AllocError>
-        ensures { IfOk result (λ _. Adds self.old self.new (Piece.Known instr ∷ [])) }
+        ensures { IfOk result (λ _. AddsPieces self.old self.new (Piece.Known instr ∷ [])) }
     {
         self.pieces.push(Piece::Known(instr))?;
         Ok(())

@@ -1,7 +1,7 @@
 //! Slots, where operands are read and results are made, and copies.
 ghost use Rattle.std.specs.Prelude.{◌≡◌, IfOk};
-ghost use Rattle.emit_rules.specs.Slots.{far_stack, stack_load, stack_store, slot_offset, first, second, register_of, fetched, target, kept, copied, moved};
-ghost use Rattle.rv_emit.specs.Outputs.{Adds};
+ghost use Rattle.emit_rules.specs.Slots.{far_stack, stack_load, stack_store, slot_offset, first_location, second, register_of, fetch_pieces, target, keep_pieces, copy_pieces, move_pieces};
+ghost use Rattle.rv_emit.specs.Outputs.{AddsPieces};
 
 use crate::constants::above_12;
 use crate::output::Output;
@@ -19,7 +19,7 @@ fn slot_offset(traps: u32, slot: u32) -> u64
 
 /// The location of the first of these operands or results.
 pub fn first(spots: &[Spot]) -> Loc
-    ensures { result ≡ first spots.now }
+    ensures { result ≡ first_location spots.now }
 {
     match spots {
         [spot, ..] => spot.loc,
@@ -58,7 +58,7 @@ pub fn target(loc: Loc) -> Register
 
 impl Output {
     fn far_stack(&mut self, scratch: Register, offset: u64) -> Result<(), AllocError>
-        ensures { IfOk result (λ _. Adds self.old self.new (far_stack scratch offset)) }
+        ensures { IfOk result (λ _. AddsPieces self.old self.new (far_stack scratch offset)) }
     {
         self.lui(scratch, above_12(offset))?;
         self.add(scratch, scratch, Register::Sp)
@@ -71,7 +71,7 @@ impl Output {
         to: Register,
         offset: u64,
     ) -> Result<(), AllocError>
-        ensures { IfOk result (λ _. Adds self.old self.new (stack_load scratch to offset)) }
+        ensures { IfOk result (λ _. AddsPieces self.old self.new (stack_load scratch to offset)) }
     {
         if offset < 2048 {
             self.load(LoadWidth::Ld, to, Register::Sp, offset)
@@ -88,7 +88,7 @@ impl Output {
         from: Register,
         offset: u64,
     ) -> Result<(), AllocError>
-        ensures { IfOk result (λ _. Adds self.old self.new (stack_store scratch from offset)) }
+        ensures { IfOk result (λ _. AddsPieces self.old self.new (stack_store scratch from offset)) }
     {
         if offset < 2048 {
             self.store(StoreWidth::Sd, from, Register::Sp, offset)
@@ -100,7 +100,7 @@ impl Output {
 
     /// Brings what a slot has into the scratch register. The only error is want of memory.
     pub fn fetched(&mut self, traps: u32, scratch: Register, loc: Loc) -> Result<(), AllocError>
-        ensures { IfOk result (λ _. Adds self.old self.new (fetched traps scratch loc)) }
+        ensures { IfOk result (λ _. AddsPieces self.old self.new (fetch_pieces traps scratch loc)) }
     {
         match loc {
             Loc::Machine(_) => Ok(()),
@@ -111,7 +111,7 @@ impl Output {
 
     /// Takes a result that was made in t1 to its slot. The only error is want of memory.
     pub fn kept(&mut self, traps: u32, loc: Loc) -> Result<(), AllocError>
-        ensures { IfOk result (λ _. Adds self.old self.new (kept traps loc)) }
+        ensures { IfOk result (λ _. AddsPieces self.old self.new (keep_pieces traps loc)) }
     {
         match loc {
             Loc::Machine(_) => Ok(()),
@@ -125,7 +125,7 @@ impl Output {
     }
 
     fn copied_from_register(&mut self, traps: u32, number: u8, to: Loc) -> Result<(), AllocError>
-        ensures { IfOk result (λ _. Adds self.old self.new (copied traps (Loc.Machine number) to)) }
+        ensures { IfOk result (λ _. AddsPieces self.old self.new (copy_pieces traps (Loc.Machine number) to)) }
     {
         match to {
             Loc::Slot(slot) => {
@@ -137,7 +137,7 @@ impl Output {
     }
 
     fn copied(&mut self, traps: u32, from: Loc, to: Loc) -> Result<(), AllocError>
-        ensures { IfOk result (λ _. Adds self.old self.new (copied traps from to)) }
+        ensures { IfOk result (λ _. AddsPieces self.old self.new (copy_pieces traps from to)) }
     {
         match from {
             Loc::Slot(slot) => {
@@ -151,7 +151,7 @@ impl Output {
 
     /// A copy, which is nothing from a location to itself. The only error is want of memory.
     pub fn moved(&mut self, traps: u32, from: Loc, to: Loc) -> Result<(), AllocError>
-        ensures { IfOk result (λ _. Adds self.old self.new (moved traps from to)) }
+        ensures { IfOk result (λ _. AddsPieces self.old self.new (move_pieces traps from to)) }
     {
         if same_loc(from, to) {
             return Ok(());

@@ -2,7 +2,7 @@
 ghost use Rattle.std.specs.Prelude.{◌≡◌};
 ghost use Rattle.lin_ir.specs.Formed.{is_label};
 ghost use Rattle.lin_ir.specs.Meaning.{has_label};
-ghost use Rattle.emit_rules.specs.Units.{is_branch, tests_first, falls_to, is_free};
+ghost use Rattle.emit_rules.specs.Units.{is_branch, tests_first, falls_to, is_free_exit};
 
 use lin_ir::{Flow, LinOp, Line};
 use mach_ir::Label;
@@ -83,7 +83,7 @@ fn falls_to(label: Label, code: &[Line]) -> bool
 /// Whether an operation, before this code, is an exit that needs no words: the branch to which it
 /// goes comes next, and answers for its unit.
 pub fn is_free(op: &LinOp, next: &[Line]) -> bool
-    ensures { result ≡ is_free op.now next.now }
+    ensures { result ≡ is_free_exit op.now next.now }
 {
     match op {
         LinOp::Op(_) => false,

@@ -19,7 +19,7 @@ use Rattle.rv_isa.specs.declared.instr.StoreWidth.TheVariants.{Sb}
 use Rattle.rv_isa.specs.declared.instr.Condition.{Condition}
 use Rattle.rv_isa.specs.declared.instr.Condition.TheVariants.{Beq}
 use Rattle.rv_isa.specs.Rows.{BRANCH, JAL, opcode_bits, alu_bits, alu_rows, alu_word_bits, alu_word_rows, alu_imm_bits, alu_imm_rows, shift_bits, shift_rows, shift_word_bits, shift_word_rows, load_bits, load_rows, store_bits, store_rows, condition_bits, condition_rows}
-use Rattle.rv_isa.specs.Decoding.{decoded, row, row_with, row_with2}
+use Rattle.rv_isa.specs.Decoding.{decoded, row_of_fields, row_with, row_with2}
 use Rattle.rv_isa.specs.Encoding.{InstrFits, encoded, fields_of, b_type, j_type}
 use Rattle.rv_isa.specs.Word.{FieldsFit}
 use Rattle.rv_isa.proofs.WordLaws.{split-joined, joined-below}
@@ -87,7 +87,7 @@ j_raw-j_type :
 j_raw-j_type opcode rd offset small even = omega arith
 
 -- the fields of an instruction have its row
-pub row-fields_of : (i : Instr) → InstrFits i → row (fields_of i) ≡ Some i
+pub row-fields_of : (i : Instr) → InstrFits i → row_of_fields (fields_of i) ≡ Some i
 row-fields_of (Lui rd imm) fits = ap (λ x. Some (Lui rd x)) (upper_parts imm)
 row-fields_of (Auipc rd imm) fits = ap (λ x. Some (Auipc rd x)) (upper_parts imm)
 row-fields_of (Jal rd offset) fits = ap (λ x. Some (Jal rd x)) (j_raw-j_type (opcode_bits JAL) rd offset fits.1 fits.2)
@@ -172,7 +172,7 @@ FieldsFit-fields_of Ecall fits = (lit< tt, lit< tt, lit< tt, lit< tt, lit< tt, l
 -- the word of an instruction decodes to it
 pub decoded-encoded : (i : Instr) → InstrFits i → decoded (encoded i) ≡ Some i
 unfolding decoded encoded
-decoded-encoded i fits = ap row (split-joined (fields_of i) (FieldsFit-fields_of i fits)) ∙ row-fields_of i fits
+decoded-encoded i fits = ap row_of_fields (split-joined (fields_of i) (FieldsFit-fields_of i fits)) ∙ row-fields_of i fits
 
 -- and is a word of 32 bits
 pub encoded-below : (i : Instr) → InstrFits i → encoded i < 2 ^ 32

@@ -1,7 +1,7 @@
 -- A word and its fields determine each other.
 use Rattle.std.proofs.Common.{◌≡◌, ℕ, ◌<◌, ◌^◌, arith}
 use Rattle.rv_isa.specs.declared.word.Fields.{Fields}
-use Rattle.rv_isa.specs.Word.{split, joined, FieldsFit}
+use Rattle.rv_isa.specs.Word.{split, word_of_fields, FieldsFit}
 
 -- fields are equal by their parts
 pub fields_by_parts :
@@ -19,12 +19,12 @@ fields_by_parts f g opcode rd funct3 rs1 rs2 funct7 =
         a ≡ a' → b ≡ b' → c ≡ c' → d ≡ d' → e ≡ e' → h ≡ h' → made a b c d e h ≡ made a' b' c' d' e' h'
     parts a a' b b' c c' d d' e e' h h' p q r s t u = cc
 
-pub split-joined : (f : Fields) → FieldsFit f → split (joined f) ≡ f
+pub split-joined : (f : Fields) → FieldsFit f → split (word_of_fields f) ≡ f
 split-joined f fit =
-    fields_by_parts (split (joined f)) f (omega arith) (omega arith) (omega arith) (omega arith) (omega arith) (omega arith)
+    fields_by_parts (split (word_of_fields f)) f (omega arith) (omega arith) (omega arith) (omega arith) (omega arith) (omega arith)
 
-pub joined-split : (w : ℕ) → joined (split w) ≡ w
+pub joined-split : (w : ℕ) → word_of_fields (split w) ≡ w
 joined-split w = omega arith
 
-pub joined-below : (f : Fields) → FieldsFit f → joined f < 2 ^ 32
+pub joined-below : (f : Fields) → FieldsFit f → word_of_fields f < 2 ^ 32
 joined-below f fit = omega arith

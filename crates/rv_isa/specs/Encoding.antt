@@ -4,7 +4,7 @@ use Rattle.rv_isa.specs.declared.word.Fields.{Fields}
 use Rattle.rv_isa.specs.declared.instr.Instr.{Instr}
 use Rattle.rv_isa.specs.declared.instr.Instr.TheVariants.{Lui, Auipc, Jal, Jalr, Branch, Load, Store, OpImm, Shift, Op, Addiw, ShiftWord, OpWord, Ecall}
 use Rattle.rv_isa.specs.Rows.{LOAD, OP-IMM, AUIPC, OP-IMM-32, STORE, OP, LUI, OP-32, BRANCH, JALR, JAL, SYSTEM, opcode_bits, alu_bits, alu_word_bits, alu_imm_bits, shift_bits, shift_word_bits, load_bits, store_bits, condition_bits}
-use Rattle.rv_isa.specs.Word.{joined}
+use Rattle.rv_isa.specs.Word.{word_of_fields}
 
 -- the manual's formats: where each puts the bits of its immediate, an unsigned number
 
@@ -67,4 +67,4 @@ InstrFits Ecall = Unit {0}
 
 -- the word of an instruction
 unfoldable pub encoded : Instr → ℕ
-encoded i = joined (fields_of i)
+encoded i = word_of_fields (fields_of i)

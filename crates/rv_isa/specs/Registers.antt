@@ -7,39 +7,39 @@ use Rattle.rv_isa.specs.declared.register.Register.{Register}
 use Rattle.rv_isa.specs.declared.register.Register.TheVariants.{Zero, Ra, Sp, Gp, Tp, T0, T1, T2, S0, S1, A0, A1, A2, A3, A4, A5, A6, A7, S2, S3, S4, S5, S6, S7, S8, S9, S10, S11, T3, T4, T5, T6}
 
 -- the register's number, as the fields of an instruction have it
-abbrev pub number : Register → ℕ
-number Zero = 0
-number Ra = 1
-number Sp = 2
-number Gp = 3
-number Tp = 4
-number T0 = 5
-number T1 = 6
-number T2 = 7
-number S0 = 8
-number S1 = 9
-number A0 = 10
-number A1 = 11
-number A2 = 12
-number A3 = 13
-number A4 = 14
-number A5 = 15
-number A6 = 16
-number A7 = 17
-number S2 = 18
-number S3 = 19
-number S4 = 20
-number S5 = 21
-number S6 = 22
-number S7 = 23
-number S8 = 24
-number S9 = 25
-number S10 = 26
-number S11 = 27
-number T3 = 28
-number T4 = 29
-number T5 = 30
-number T6 = 31
+abbrev pub register_number : Register → ℕ
+register_number Zero = 0
+register_number Ra = 1
+register_number Sp = 2
+register_number Gp = 3
+register_number Tp = 4
+register_number T0 = 5
+register_number T1 = 6
+register_number T2 = 7
+register_number S0 = 8
+register_number S1 = 9
+register_number A0 = 10
+register_number A1 = 11
+register_number A2 = 12
+register_number A3 = 13
+register_number A4 = 14
+register_number A5 = 15
+register_number A6 = 16
+register_number A7 = 17
+register_number S2 = 18
+register_number S3 = 19
+register_number S4 = 20
+register_number S5 = 21
+register_number S6 = 22
+register_number S7 = 23
+register_number S8 = 24
+register_number S9 = 25
+register_number S10 = 26
+register_number S11 = 27
+register_number T3 = 28
+register_number T4 = 29
+register_number T5 = 30
+register_number T6 = 31
 
 -- all of them, by their numbers
 abbrev pub registers : List Register
@@ -47,13 +47,13 @@ registers =
     Zero ∷ Ra ∷ Sp ∷ Gp ∷ Tp ∷ T0 ∷ T1 ∷ T2 ∷ S0 ∷ S1 ∷ A0 ∷ A1 ∷ A2 ∷ A3 ∷ A4 ∷ A5 ∷ A6 ∷ A7
     ∷ S2 ∷ S3 ∷ S4 ∷ S5 ∷ S6 ∷ S7 ∷ S8 ∷ S9 ∷ S10 ∷ S11 ∷ T3 ∷ T4 ∷ T5 ∷ T6 ∷ []
 
-abbrev pub or_zero : Option Register → Register
-or_zero (Some r) = r
-or_zero None = Zero
+abbrev pub register_or_zero : Option Register → Register
+register_or_zero (Some r) = r
+register_or_zero None = Zero
 
 -- the register of a number; x0 where no register has it
 abbrev pub register_at : ℕ → Register
-register_at n = or_zero (slice_get registers n)
+register_at n = register_or_zero (slice_get registers n)
 
 -- its name
 abbrev pub machine_name : Register → List ℕ
@@ -94,35 +94,35 @@ machine_name T6 = codes "t6"
 
 -- the return address, and the stack pointer
 abbrev pub ra : ℕ
-ra = number Ra
+ra = register_number Ra
 
 abbrev pub sp : ℕ
-sp = number Sp
+sp = register_number Sp
 
 -- scratch registers: t0 has the number of an external call or the bytes asked for, t2 the service
 abbrev pub t0 : ℕ
-t0 = number T0
+t0 = register_number T0
 
 abbrev pub t1 : ℕ
-t1 = number T1
+t1 = register_number T1
 
 abbrev pub t2 : ℕ
-t2 = number T2
+t2 = register_number T2
 
 -- the trap pointer: the address of the innermost trap frame
 abbrev pub s1 : ℕ
-s1 = number S1
+s1 = register_number S1
 
 -- the first argument, the result, and the value that is raised
 abbrev pub a0 : ℕ
-a0 = number A0
+a0 = register_number A0
 
 -- the allocation pointer, and the address of the domain page
 abbrev pub s10 : ℕ
-s10 = number S10
+s10 = register_number S10
 
 abbrev pub s11 : ℕ
-s11 = number S11
+s11 = register_number S11
 
 -- ---- sets of registers
 

@@ -14,8 +14,8 @@ split w = record {
 }
 
 -- the word with these fields
-abbrev pub joined : Fields → ℕ
-joined f = f.opcode + 128 * (f.rd + 32 * (f.funct3 + 8 * (f.rs1 + 32 * (f.rs2 + 32 * f.funct7))))
+abbrev pub word_of_fields : Fields → ℕ
+word_of_fields f = f.opcode + 128 * (f.rd + 32 * (f.funct3 + 8 * (f.rs1 + 32 * (f.rs2 + 32 * f.funct7))))
 
 -- each field is below its power of two
 abbrev pub FieldsFit : Fields → Type 0

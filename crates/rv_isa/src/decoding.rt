@@ -4,7 +4,7 @@ ghost use Rattle.std.specs.Prelude.{◌≡◌, IfSome};
 ghost use Rattle.rv_isa.specs.Word.{FieldsFit};
 ghost use Rattle.rv_isa.specs.Immediate.{i_raw, s_raw, b_raw, u_raw, j_raw};
 ghost use Rattle.rv_isa.specs.Encoding.{InstrFits, encoded};
-ghost use Rattle.rv_isa.specs.Decoding.{decoded, row, row_of};
+ghost use Rattle.rv_isa.specs.Decoding.{decoded, row_of_fields, opcode_row};
 ghost use Rattle.rv_isa.specs.Rows.{OP-IMM, OP-IMM-32};
 
 use crate::instr::{
@@ -28,7 +28,7 @@ pub fn decode(word: u32) -> Option<Instr>
 /// The instruction that has these fields.
 fn row(f: Fields) -> Option<Instr>
     requires { FieldsFit f }
-    ensures { result ≡ row f }
+    ensures { result ≡ row_of_fields f }
 {
     match f.opcode {
         LUI => Some(Instr::Lui {
@@ -107,7 +107,7 @@ fn row(f: Fields) -> Option<Instr>
 /// The rows of OP-IMM.
 fn op_imm(f: Fields) -> Option<Instr>
     requires { FieldsFit f }
-    ensures { result ≡ row_of OP-IMM f }
+    ensures { result ≡ opcode_row OP-IMM f }
 {
     if let Some(op) = AluImmOp::from_bits(f.funct3) {
         return Some(Instr::OpImm {
@@ -129,7 +129,7 @@ fn op_imm(f: Fields) -> Option<Instr>
 /// The rows of OP-IMM-32.
 fn op_imm_32(f: Fields) -> Option<Instr>
     requires { FieldsFit f }
-    ensures { result ≡ row_of OP-IMM-32 f }
+    ensures { result ≡ opcode_row OP-IMM-32 f }
 {
     if f.funct3 == 0b000 {
         return Some(Instr::Addiw {

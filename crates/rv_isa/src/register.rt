@@ -158,7 +158,7 @@ pub const COLOURS: [u8; 21] = [
 
 impl Register {
     ghost use Rattle.std.specs.Prelude.{◌≡◌, ◌<◌};
-    ghost use Rattle.rv_isa.specs.Registers.{machine_name, number, register_at};
+    ghost use Rattle.rv_isa.specs.Registers.{machine_name, register_number, register_at};
 
     /// The register of a number; x0 where no register has it.
     pub fn at(number: u8) -> Self
@@ -172,7 +172,7 @@ impl Register {
 
     /// Its number, as the fields of an instruction have it.
     pub fn number(self) -> u8
-        ensures exact { result ≡ number self }
+        ensures exact { result ≡ register_number self }
         ensures below { result < 32 }
     {
         self as u8

@@ -24,7 +24,7 @@ pub struct Fields {
 }
 
 impl Fields {
-    ghost use Rattle.rv_isa.specs.Word.{FieldsFit, joined, split};
+    ghost use Rattle.rv_isa.specs.Word.{FieldsFit, word_of_fields, split};
 
     /// The fields of `word`.
     pub fn split(word: u32) -> Fields
@@ -44,7 +44,7 @@ impl Fields {
     /// The word with these fields.
     pub fn join(self) -> u32
         requires { FieldsFit self }
-        ensures { result ≡ joined self }
+        ensures { result ≡ word_of_fields self }
     {
         self.opcode as u32
             + 128

@@ -3,8 +3,8 @@ use Rattle.std.proofs.Common.{◌≡◌, ℕ, zero, suc, ◌+◌, ◌≤◌, ◌
 use Rattle.std.proofs.lemmas.List.{drop_all, append-nil}
 use Rattle.layout_rules.specs.declared.form.Form.{Form}
 use Rattle.layout_rules.specs.declared.form.Form.TheVariants.{Near}
-use Rattle.layout_rules.specs.Forms.{words_of, none_far, needed, longer, grown_from, AllNear, ranks}
-use Rattle.layout_rules.specs.Laid.{desc_at, descs_in}
+use Rattle.layout_rules.specs.Forms.{piece_words, none_far, needed_form, longer, grown_from, AllNear, ranks}
+use Rattle.layout_rules.specs.Laid.{descriptor_laid_at, descs_in}
 use Rattle.rv_layout.specs.Descs.{desc_in}
 use Rattle.rv_layout.specs.Tables.{LabelBelow, LabelsBelow}
 use Rattle.rv_pieces.specs.declared.piece.Piece.{Piece}
@@ -23,7 +23,7 @@ below_step c i ps p h e own rest = subst (LabelsBelow c) (sym (drop_step ps i p 
 
 -- ---- forms
 
-pub needed_same : (places places' : ℕ → ℕ) (at : ℕ) (p : Piece) → ((l : ℕ) → places l ≡ places' l) → needed none_far places at p ≡ needed none_far places' at p
+pub needed_same : (places places' : ℕ → ℕ) (at : ℕ) (p : Piece) → ((l : ℕ) → places l ≡ places' l) → needed_form none_far places at p ≡ needed_form none_far places' at p
 needed_same places places' at (Known i) e = refl
 needed_same places places' at (Label k) e = refl
 needed_same places places' at (Branch c a b k) e = rw (e k) refl
@@ -41,18 +41,18 @@ grown_same places places' at [] fs e = refl
 grown_same places places' at (p ∷ ps) [] e = refl
 grown_same places places' at (p ∷ ps) (f ∷ fs) e =
     let own = needed_same places places' at p e in
-    let rest = grown_same places places' (at + words_of p f) ps fs e in
+    let rest = grown_same places places' (at + piece_words p f) ps fs e in
     rw (own, rest) refl
 
 pub grown_step : (places : ℕ → ℕ) (code : List Piece) (forms next all : List Form) (i at : ℕ) (p : Piece) (d : Form) →
     i < length code → p ≡ get_or code i p → i < length forms →
     next ++ grown_from none_far places at (drop i code) (drop i forms) ≡ all →
-    (next ++ longer (get_or forms i d) (needed none_far places at p) ∷ []) ++ grown_from none_far places (at + words_of p (get_or forms i d)) (drop (i + 1) code) (drop (i + 1) forms) ≡ all
+    (next ++ longer (get_or forms i d) (needed_form none_far places at p) ∷ []) ++ grown_from none_far places (at + piece_words p (get_or forms i d)) (drop (i + 1) code) (drop (i + 1) forms) ≡ all
 grown_step places code forms next all i at p d h e k so_far =
     let f = get_or forms i d in
-    let here : grown_from none_far places at (drop i code) (drop i forms) ≡ longer f (needed none_far places at p) ∷ grown_from none_far places (at + words_of p f) (drop (i + 1) code) (drop (i + 1) forms) =
+    let here : grown_from none_far places at (drop i code) (drop i forms) ≡ longer f (needed_form none_far places at p) ∷ grown_from none_far places (at + piece_words p f) (drop (i + 1) code) (drop (i + 1) forms) =
     rw (drop_step code i p h e, drop_from forms i d k) refl in
-    append_assoc next (longer f (needed none_far places at p) ∷ []) (grown_from none_far places (at + words_of p f) (drop (i + 1) code) (drop (i + 1) forms))
+    append_assoc next (longer f (needed_form none_far places at p) ∷ []) (grown_from none_far places (at + piece_words p f) (drop (i + 1) code) (drop (i + 1) forms))
     ∙ (ap (λ rest. next ++ rest) (sym here) ∙ so_far)
 
 pub grown_end : (places : ℕ → ℕ) (code : List Piece) (forms next all : List Form) (i at : ℕ) → length code ≤ i →
@@ -71,7 +71,7 @@ ranks_near (suc n) = let e = ranks_near n in omega (arith, e)
 
 -- ---- descriptors
 
-pub descs_step : (at : ℕ) (p : Piece) (f : Form) (ps : List Piece) (fs : List Form) → descs_in at (p ∷ ps) (f ∷ fs) ≡ desc_in at p ++ descs_in (at + words_of p f) ps fs
+pub descs_step : (at : ℕ) (p : Piece) (f : Form) (ps : List Piece) (fs : List Form) → descs_in at (p ∷ ps) (f ∷ fs) ≡ desc_in at p ++ descs_in (at + piece_words p f) ps fs
 descs_step at (Known i) f ps fs = refl
 descs_step at (Label k) f ps fs = refl
 descs_step at (Branch c a b k) f ps fs = refl
@@ -84,4 +84,4 @@ descs_step at (SymbolAddress r name) f ps fs = refl
 descs_step at (ExternalNumber r row) f ps fs = refl
 descs_step at (Descriptor d) f ps fs =
     let same : at ≡ at + 0 = omega arith in
-    ap (λ n. desc_at at d ∷ descs_in n ps fs) same
+    ap (λ n. descriptor_laid_at at d ∷ descs_in n ps fs) same

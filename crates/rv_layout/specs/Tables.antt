@@ -8,26 +8,26 @@ use Rattle.rv_pieces.specs.declared.piece.Piece.{Piece}
 use Rattle.rv_pieces.specs.declared.piece.Piece.TheVariants.{Label}
 
 -- the place of a label, if there is one
-abbrev pub place_in : List (Option ℕ) → ℕ → Option ℕ
-place_in places l = slice_index_or places l None
+abbrev pub word_of_label : List (Option ℕ) → ℕ → Option ℕ
+word_of_label places l = slice_index_or places l None
 
 -- the first of two
-abbrev pub or_else : Option ℕ → Option ℕ → Option ℕ
-or_else None later = later
-or_else (Some place) later = Some place
+abbrev pub first_of_two : Option ℕ → Option ℕ → Option ℕ
+first_of_two None later = later
+first_of_two (Some place) later = Some place
 
 -- the table with the place of a label that is here, where it had none
-abbrev pub noted : List (Option ℕ) → Piece → (at : ℕ) → List (Option ℕ)
-noted places (Label l) at = slice_set places l (or_else (place_in places l) (Some at))
-noted places _ at = places
+abbrev pub label_noted : List (Option ℕ) → Piece → (at : ℕ) → List (Option ℕ)
+label_noted places (Label l) at = slice_set places l (first_of_two (word_of_label places l) (Some at))
+label_noted places _ at = places
 
 -- its place, or the entry
-abbrev pub places_of : Labels → ℕ → ℕ
-places_of table l = place_or_entry (place_in table.places.items l)
+abbrev pub words_of_labels : Labels → ℕ → ℕ
+words_of_labels table l = place_or_entry (word_of_label table.places.items l)
 
 -- The table has the labels of these pieces in these forms.
-pub record IsTableOf (ps : List Piece) (forms : List Form) (table : Labels) : Type 0 where
-  pub each : (l : ℕ) → place_in table.places.items l ≡ label_from l 0 ps forms
+pub record IsLabelTable (ps : List Piece) (forms : List Form) (table : Labels) : Type 0 where
+  pub each : (l : ℕ) → word_of_label table.places.items l ≡ label_from l 0 ps forms
 
 -- a label that is here is below this number
 abbrev pub LabelBelow : ℕ → Piece → Type 0

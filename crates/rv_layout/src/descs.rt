@@ -2,7 +2,7 @@
 ghost use Rattle.std.specs.Prelude.{◌≡◌, ◌+◌, ◌*◌, ◌<◌, ◌^◌, ◌++◌, length, map, IfOk, OnOk};
 ghost use Rattle.image_form.specs.Tables.{desc};
 ghost use Rattle.layout_rules.specs.Forms.{total_words};
-ghost use Rattle.layout_rules.specs.Laid.{desc_at, descs_in};
+ghost use Rattle.layout_rules.specs.Laid.{descriptor_laid_at, descs_in};
 ghost use Rattle.rv_layout.specs.Descs.{desc_in};
 
 use crate::forms::words_of;
@@ -16,7 +16,7 @@ use std::alloc::{AllocError, Global};
 /// The row of a descriptor whose mark is at this word of the code: there the call returns.
 fn row(alloc: Global, descr: &Descr, at: u64) -> Result<DescRow, AllocError>
     requires { 4 * at < 2 ^ 32 }
-    ensures { IfOk result (λ row. desc row ≡ desc_at at descr.now) }
+    ensures { IfOk result (λ row. desc row ≡ descriptor_laid_at at descr.now) }
 {
     let entries = descr.entries.as_slice().to_vec(alloc)?;
     Ok(DescRow {

@@ -1,9 +1,9 @@
 //! The forms in which the pieces of a function are laid.
 ghost use Rattle.std.specs.Prelude.{◌≡◌, ◌*◌, ◌<◌, ◌≤◌, ◌^◌, length, IfOk};
-ghost use Rattle.layout_rules.specs.Forms.{branch_words, jump_words, call_words, words_of, branch_reaches, jal_reaches};
-ghost use Rattle.layout_rules.specs.Forms.{branch_form, jump_form, none_far, needed, rank, ranks, longer, grown_from};
+ghost use Rattle.layout_rules.specs.Forms.{branch_words, jump_words, call_words, piece_words, branch_reaches, jal_reaches};
+ghost use Rattle.layout_rules.specs.Forms.{branch_form, jump_form, none_far, needed_form, form_rank, ranks, longer, grown_from};
 ghost use Rattle.layout_rules.specs.Forms.{AreForms};
-ghost use Rattle.rv_layout.specs.Tables.{places_of};
+ghost use Rattle.rv_layout.specs.Tables.{words_of_labels};
 
 use crate::labels::{Labels, label_bound};
 use layout_rules::Form;
@@ -45,7 +45,7 @@ fn call_words(form: Form) -> u64
 
 /// The words of a piece in a form.
 pub fn words_of(piece: &Piece, form: Form) -> u64
-    ensures exact { result ≡ words_of piece.now form }
+    ensures exact { result ≡ piece_words piece.now form }
     ensures most { result ≤ 3 }
 {
     match piece {
@@ -69,7 +69,7 @@ pub fn words_of(piece: &Piece, form: Form) -> u64
 }
 
 fn rank(form: Form) -> u64
-    ensures exact { result ≡ rank form }
+    ensures exact { result ≡ form_rank form }
     ensures most { result ≤ 2 }
 {
     match form {
@@ -137,7 +137,7 @@ fn jump_form(from: u64, to: u64) -> Form
 /// The shortest form in which a piece at this word reaches its label. In an image no callee is far.
 fn needed(labels: &Labels, at: u64, piece: &Piece) -> Form
     requires { at < 2 ^ 59 }
-    ensures { result ≡ needed none_far (places_of labels.now) at piece.now }
+    ensures { result ≡ needed_form none_far (words_of_labels labels.now) at piece.now }
 {
     match piece {
         Piece::Branch {
@@ -171,7 +171,7 @@ fn grow(alloc: Global, code: &[Piece], forms: &[Form], labels: &Labels) -> Resul
     requires few { length code.now < 2 ^ 48 }
     requires same { length forms.now ≡ length code.now }
     ensures grown { IfOk result (λ grown.
-        grown.forms.items ≡ grown_from none_far (places_of labels.now) 0 code.now forms.now) }
+        grown.forms.items ≡ grown_from none_far (words_of_labels labels.now) 0 code.now forms.now) }
     ensures ranks { IfOk result (λ grown. grown.ranks ≡ ranks grown.forms.items) }
 {
     let mut next = Vec::new(alloc);

@@ -1,12 +1,12 @@
 //! The words of pieces, once it is known where everything lies.
 ghost use Rattle.std.specs.Prelude.{◌≡◌, ◌+◌, ◌%◌, ◌<◌, ◌^◌, [], ◌∷◌, ◌++◌, map, OnOk};
-ghost use Rattle.layout_rules.specs.Conditions.{LeadsTo};
+ghost use Rattle.layout_rules.specs.Conditions.{HasAlignedTarget};
 ghost use Rattle.rv_pieces.specs.Named.{PieceFits};
 ghost use Rattle.layout_rules.specs.Words.{distance, branch_offset, jal_offset, upper, inverted, far_jump};
 ghost use Rattle.emit_rules.specs.Instructions.{low_12};
 ghost use Rattle.layout_rules.specs.Words.{number_into, address_into, branch_code, jump_code, call_code, code_to};
 ghost use Rattle.rv_isa.specs.Encoding.{encoded, InstrFits};
-ghost use Rattle.rv_isa.specs.Registers.{number};
+ghost use Rattle.rv_isa.specs.Registers.{register_number};
 
 use layout_rules::Form;
 use rv_isa::{AluImmOp, Condition, Instr, Register, encode};
@@ -60,7 +60,7 @@ fn near_branch(condition: Condition, left: Register, right: Register, at: u64, t
     requires from_aligned { at % 4 ≡ 0 }
     requires to_aligned { to % 4 ≡ 0 }
     ensures exact { result
-        ≡ Instr.Branch condition (number left) (number right) (branch_offset at to) }
+        ≡ Instr.Branch condition (register_number left) (register_number right) (branch_offset at to) }
     ensures fits { InstrFits result }
 {
     Instr::Branch {
@@ -74,7 +74,7 @@ fn near_branch(condition: Condition, left: Register, right: Register, at: u64, t
 /// A branch over so many bytes, where its condition does not hold.
 fn over(condition: Condition, left: Register, right: Register, bytes: u16) -> Instr
     requires { (bytes % 4 ≡ 0) × (bytes < 4096) }
-    ensures exact { result ≡ Instr.Branch (inverted condition) (number left) (number right) bytes }
+    ensures exact { result ≡ Instr.Branch (inverted condition) (register_number left) (register_number right) bytes }
     ensures fits { InstrFits result }
 {
     Instr::Branch {
@@ -118,7 +118,7 @@ fn far_jump(
     requires from_fits { at < 2 ^ 32 }
     requires to_fits { to < 2 ^ 32 }
     ensures { OnOk result (words.new.items
-        ≡ words.old.items ++ map encoded (far_jump (number link) (number through) at to)) }
+        ≡ words.old.items ++ map encoded (far_jump (register_number link) (register_number through) at to)) }
 {
     let bytes = distance(at, to);
     put(
@@ -141,7 +141,7 @@ fn far_jump(
 /// A number of 32 bits into a register.
 fn number_into(words: &mut Vec<u32>, register: Register, value: u32) -> Result<(), AllocError>
     ensures { OnOk result (words.new.items
-        ≡ words.old.items ++ map encoded (number_into (number register) value)) }
+        ≡ words.old.items ++ map encoded (number_into (register_number register) value)) }
 {
     put(
         words,
@@ -156,7 +156,7 @@ fn number_into(words: &mut Vec<u32>, register: Register, value: u32) -> Result<(
 /// Adds the lower part of a number to a register.
 fn add(register: Register, addend: u32) -> Instr
     ensures exact { result
-        ≡ Instr.OpImm AluImmOp.Addi (number register) (number register) (low_12 addend) }
+        ≡ Instr.OpImm AluImmOp.Addi (register_number register) (register_number register) (low_12 addend) }
     ensures fits { InstrFits result }
 {
     Instr::OpImm {
@@ -176,7 +176,7 @@ fn address_into(
     requires from_fits { at < 2 ^ 32 }
     requires to_fits { to < 2 ^ 32 }
     ensures { OnOk result (words.new.items
-        ≡ words.old.items ++ map encoded (address_into (number register) at to)) }
+        ≡ words.old.items ++ map encoded (address_into (register_number register) at to)) }
 {
     let bytes = distance(at, to);
     put(
@@ -251,7 +251,7 @@ fn call(
 ) -> Result<(), AllocError>
     requires from_fits { at < 2 ^ 32 }
     ensures { OnOk result (words.new.items ≡ words.old.items
-        ++ map encoded (call_code form (number link) (number through) at to)) }
+        ++ map encoded (call_code form (register_number link) (register_number through) at to)) }
 {
     match form {
         Form::Near => far_jump(words, link, through, at, u64::from(to)),
@@ -268,8 +268,8 @@ fn address_jump(
     to: u32,
 ) -> Result<(), AllocError>
     ensures { OnOk result (words.new.items ≡ words.old.items
-        ++ map encoded (number_into (number through) to
-        ++ Instr.Jalr (number link) (number through) 0 ∷ [])) }
+        ++ map encoded (number_into (register_number through) to
+        ++ Instr.Jalr (register_number link) (register_number through) 0 ∷ [])) }
 {
     number_into(words, through, to)?;
     put(
@@ -294,7 +294,7 @@ pub fn put_piece(
     requires fits { PieceFits piece.now }
     requires from_fits { at + 4 < 2 ^ 32 }
     requires from_aligned { at % 4 ≡ 0 }
-    requires to_aligned { LeadsTo to piece.now }
+    requires to_aligned { HasAlignedTarget to piece.now }
     ensures { OnOk result (words.new.items
         ≡ words.old.items ++ map encoded (code_to at to piece.now form)) }
 {

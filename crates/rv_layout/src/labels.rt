@@ -1,6 +1,6 @@
 //! Where the labels of a function lie.
 ghost use Rattle.std.specs.Prelude.{◌≡◌, ℕ, ◌<◌, ◌≤◌, ◌^◌, length, IfOk};
-ghost use Rattle.rv_layout.specs.Tables.{noted, places_of, IsTableOf, LabelBelow, LabelsBelow};
+ghost use Rattle.rv_layout.specs.Tables.{label_noted, words_of_labels, IsLabelTable, LabelBelow, LabelsBelow};
 
 use crate::forms::words_of;
 use layout_rules::Form;
@@ -56,7 +56,7 @@ impl Labels {
         requires few { length code.now < 2 ^ 48 }
         requires same { length forms.now ≡ length code.now }
         requires below { LabelsBelow bound code.now }
-        ensures { IfOk result (IsTableOf code.now forms.now) }
+        ensures { IfOk result (IsLabelTable code.now forms.now) }
     {
         let mut places: Vec<Option<u64>> = vec![in alloc; None; bound]?;
         let mut at: u64 = 0;
@@ -69,7 +69,7 @@ impl Labels {
 
     /// The words before a label. One that occurs nowhere counts as being at the entry.
     pub fn place(&self, label: Label) -> u64
-        ensures { result ≡ places_of self.now label }
+        ensures { result ≡ words_of_labels self.now label }
     {
         match self.places.get(label.0 as usize) {
             Some(Some(place)) => *place,
@@ -81,7 +81,7 @@ impl Labels {
 /// Notes the place of a label that is here, where it has none yet.
 fn note(places: &mut Vec<Option<u64>>, piece: &Piece, at: u64)
     requires { LabelBelow (length places.old.items) piece.now }
-    ensures { places.new.items ≡ noted places.old.items piece.now at }
+    ensures { places.new.items ≡ label_noted places.old.items piece.now at }
 {
     if let Piece::Label(label) = piece {
         let index = label.0 as usize;

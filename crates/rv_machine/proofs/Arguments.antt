@@ -6,10 +6,10 @@ use Rattle.std.proofs.lemmas.List.{drop-set-lt, drop_all}
 use Rattle.bs_words.specs.declared.types.Comp.{Comp}
 use Rattle.image_form.specs.Tables.{Tables}
 use Rattle.rv_machine.specs.Start.{padded}
-use Rattle.rv_machine.specs.Loading.{words_of_args, before, suited}
+use Rattle.rv_machine.specs.Loading.{words_of_args, before_words, suited}
 use Rattle.rv_machine.specs.declared.setup.Arg.{Arg}
 
-before_none : (word : Option ℕ) → before word None ≡ None
+before_none : (word : Option ℕ) → before_words word None ≡ None
 before_none None = refl
 before_none (Some w) = refl
 
@@ -19,7 +19,7 @@ words_of_other_length image [] (arg ∷ args) h = refl
 words_of_other_length image (comp ∷ comps) [] h = refl
 words_of_other_length image (comp ∷ comps) (arg ∷ args) h =
     let rest : words_of_args image comps args ≡ None = words_of_other_length image comps args (λ e. h (ap suc e)) in
-    ap (before (suited image comp arg)) rest ∙ before_none (suited image comp arg)
+    ap (before_words (suited image comp arg)) rest ∙ before_none (suited image comp arg)
 
 -- ---- one word more
 
@@ -27,7 +27,7 @@ at : {X : Type 0} (xs : List X) (i : ℕ) (x : X) → i < length xs → x ≡ ge
 at xs i x h e = drop-cons xs i x h ∙ ap (λ y. y ∷ drop (suc i) xs) (sym e)
 
 moved : (found : List ℕ) (w : ℕ) (rest : Option (List ℕ))
-    → option_map (λ (ws : List ℕ). found ++ ws) (before (Some w) rest) ≡ option_map (λ (ws : List ℕ). (found ++ w ∷ []) ++ ws) rest
+    → option_map (λ (ws : List ℕ). found ++ ws) (before_words (Some w) rest) ≡ option_map (λ (ws : List ℕ). (found ++ w ∷ []) ++ ws) rest
 moved found w None = refl
 moved found w (Some r) = ap Some (sym (append_assoc found (w ∷ []) r))
 
@@ -40,7 +40,7 @@ next_word image comps args words k w comp arg ha hc hw ec ea s =
     let n : suc k ≡ k + 1 = omega arith in
     ap (λ (cs : List Comp). option_map (λ (ws : List ℕ). take k words ++ ws) (words_of_args image cs (drop k args))) (at comps k comp hc ec)
     ∙ ap (λ (as' : List Arg). option_map (λ (ws : List ℕ). take k words ++ ws) (words_of_args image (comp ∷ drop (suc k) comps) as')) (at args k arg ha ea)
-    ∙ ap (λ (o : Option ℕ). option_map (λ (ws : List ℕ). take k words ++ ws) (before o (words_of_args image (drop (suc k) comps) (drop (suc k) args)))) s
+    ∙ ap (λ (o : Option ℕ). option_map (λ (ws : List ℕ). take k words ++ ws) (before_words o (words_of_args image (drop (suc k) comps) (drop (suc k) args)))) s
     ∙ moved (take k words) w (words_of_args image (drop (suc k) comps) (drop (suc k) args))
     ∙ ap (λ (t : List ℕ). option_map (λ (ws : List ℕ). t ++ ws) (words_of_args image (drop (suc k) comps) (drop (suc k) args))) (sym (take-suc-set words k w hw))
     ∙ ap (λ (m : ℕ). option_map (λ (ws : List ℕ). take m (set words k w) ++ ws) (words_of_args image (drop m comps) (drop m args))) n

@@ -1,9 +1,9 @@
 -- Bytes as words of 64 bits.
 use Rattle.std.proofs.Common.{◌≡◌, ℕ, zero, suc, ◌*◌, ◌<◌, ◌≤◌, List, [], ◌∷◌, ◌++◌, length, take, drop, refl, ap, arith, ◌∙◌, sym, append_assoc}
-use Rattle.rv_machine.specs.Memory.{number_of, words_of_bytes}
+use Rattle.rv_machine.specs.Memory.{number_from_bytes, words_of_bytes}
 
 -- eight bytes and what comes after them
-pub words_of_eight : (xs : List ℕ) → 8 ≤ length xs → words_of_bytes xs ≡ number_of (take 8 xs) ∷ words_of_bytes (drop 8 xs)
+pub words_of_eight : (xs : List ℕ) → 8 ≤ length xs → words_of_bytes xs ≡ number_from_bytes (take 8 xs) ∷ words_of_bytes (drop 8 xs)
 words_of_eight [] h = absurd (omega arith)
 words_of_eight (a ∷ []) h = absurd (omega arith)
 words_of_eight (a ∷ b ∷ []) h = absurd (omega arith)
@@ -15,7 +15,7 @@ words_of_eight (a ∷ b ∷ c ∷ d ∷ e ∷ f ∷ g ∷ []) h = absurd (omega 
 words_of_eight (a ∷ b ∷ c ∷ d ∷ e ∷ f ∷ g ∷ i ∷ rest) h = refl
 
 -- the last bytes, fewer than eight
-pub words_of_few : (xs : List ℕ) → 0 < length xs → length xs < 8 → words_of_bytes xs ≡ number_of xs ∷ []
+pub words_of_few : (xs : List ℕ) → 0 < length xs → length xs < 8 → words_of_bytes xs ≡ number_from_bytes xs ∷ []
 words_of_few [] p h = absurd (omega arith)
 words_of_few (a ∷ []) p h = refl
 words_of_few (a ∷ b ∷ []) p h = refl
@@ -28,8 +28,8 @@ words_of_few (a ∷ b ∷ c ∷ d ∷ e ∷ f ∷ g ∷ i ∷ rest) p h = absurd
 
 -- a word read, before what is left
 pub words_step : (words xs : List ℕ) → 8 ≤ length xs
-    → (words ++ number_of (take 8 xs) ∷ []) ++ words_of_bytes (drop 8 xs) ≡ words ++ words_of_bytes xs
-words_step words xs h = append_assoc words (number_of (take 8 xs) ∷ []) (words_of_bytes (drop 8 xs)) ∙ ap (λ t. words ++ t) (sym (words_of_eight xs h))
+    → (words ++ number_from_bytes (take 8 xs) ∷ []) ++ words_of_bytes (drop 8 xs) ≡ words ++ words_of_bytes xs
+words_step words xs h = append_assoc words (number_from_bytes (take 8 xs) ∷ []) (words_of_bytes (drop 8 xs)) ∙ ap (λ t. words ++ t) (sym (words_of_eight xs h))
 
 -- there are words for all bytes
 pub words_cover : (n : ℕ) (xs : List ℕ) → length xs ≤ n → length xs ≤ 8 * length (words_of_bytes xs)

@@ -9,7 +9,7 @@ use Rattle.std.proofs.Math.Pow.{mod-mod-pow, pow_mono}
 use Rattle.std.proofs.Math.Nat.{mod-lt, mod-mod, mod-eq_of_lt}
 use Rattle.bs_words.specs.Word.{word_of, signed_of, signed_in, sar_word, shl_word, shr_word, mul_word, div_word, rem_word, sext_word}
 use Rattle.bs_words.proofs.Word.{word_of-bits, div_euclid-shr, high_below, again128}
-use Rattle.rv_machine.specs.Arithmetic.{low, extended, low_signed, sar_low}
+use Rattle.rv_machine.specs.Arithmetic.{low, sign_extended, low_signed, sar_low}
 
 -- a number of so many bits, extended by its sign
 abbrev pub with_sign : ℕ → ℕ → ℕ
@@ -33,7 +33,7 @@ sext_small bits x few some small =
     let within : 2 ^ (bits - 1) ≤ 2 ^ bits = (let le : bits - 1 ≤ bits = omega arith in pow_mono le) in
     sext_is bits x few (omega arith) ∙ cond-true _ _ _ (lt-ltb x (2 ^ (bits - 1)) small)
 
-extended_is : (a : ℕ) → extended a ≡ with_sign 32 (low a)
+extended_is : (a : ℕ) → sign_extended a ≡ with_sign 32 (low a)
 unfolding sext_word
 extended_is a =
     let some : 0 < 2 ^ 32 = omega arith in
@@ -44,45 +44,45 @@ signed_sext : (x : ℕ) → x < 2 ^ 32 → signed_of (with_sign 32 x) ≡ signed
 unfolding signed_of signed_in
 signed_sext x h = grind arith
 
-pub signed_low : (a : ℕ) → signed_of (extended a) ≡ low_signed a
+pub signed_low : (a : ℕ) → signed_of (sign_extended a) ≡ low_signed a
 signed_low a = let some : 0 < 2 ^ 32 = omega arith in ap signed_of (extended_is a) ∙ signed_sext (a % 2 ^ 32) (mod-lt a some)
 
 -- a low half is 0 where its extension is
 with_sign_zero : (x : ℕ) → x < 2 ^ 32 → with_sign 32 x ≡ 0 → x ≡ 0
 with_sign_zero x small h = grind arith
 
-pub low_zero : (a : ℕ) → extended a ≡ 0 → low a ≡ 0
+pub low_zero : (a : ℕ) → sign_extended a ≡ 0 → low a ≡ 0
 low_zero a h = let some : 0 < 2 ^ 32 = omega arith in with_sign_zero (low a) (mod-lt a some) (sym (extended_is a) ∙ h)
 
-pub low_nonzero : (a : ℕ) → extended a ≢ 0 → low a ≢ 0
+pub low_nonzero : (a : ℕ) → sign_extended a ≢ 0 → low a ≢ 0
 low_nonzero a h e = h (extended_is a ∙ ap (with_sign 32) e)
 
-pub shl_extended : (a k : ℕ) → extended (shl_word a k) ≡ extended (a * 2 ^ k)
+pub shl_extended : (a k : ℕ) → sign_extended (shl_word a k) ≡ sign_extended (a * 2 ^ k)
 unfolding shl_word sext_word
 shl_extended a k = ap (λ n. word_of (signed_in 32 n)) (mod-mod-pow (a * 2 ^ k) 32 32)
 
-pub mul_extended : (a b : ℕ) → extended (mul_word a b) ≡ extended (a * b)
+pub mul_extended : (a b : ℕ) → sign_extended (mul_word a b) ≡ sign_extended (a * b)
 unfolding mul_word sext_word
 mul_extended a b = ap (λ n. word_of (signed_in 32 n)) (mod-mod-pow (a * b) 32 32)
 
-pub shr_extended : (a k : ℕ) → extended (shr_word (low a) k) ≡ extended (low a / 2 ^ k)
+pub shr_extended : (a k : ℕ) → sign_extended (shr_word (low a) k) ≡ sign_extended (low a / 2 ^ k)
 unfolding shr_word
 shr_extended a k = refl
 
-pub sar_extended : (a k : ℕ) → sar_word (extended a) k ≡ sar_low a k
+pub sar_extended : (a k : ℕ) → sar_word (sign_extended a) k ≡ sar_low a k
 unfolding sar_word
 sar_extended a k = ap (λ z. word_of (int_div_euclid z (pos (2 ^ k)))) (signed_low a)
 
-pub div_extended : (a b : ℕ) → div_word (extended a) (extended b) ≡ word_of (int_div (low_signed a) (low_signed b))
+pub div_extended : (a b : ℕ) → div_word (sign_extended a) (sign_extended b) ≡ word_of (int_div (low_signed a) (low_signed b))
 unfolding div_word
 div_extended a b =
-    ap (λ z. word_of (int_div z (signed_of (extended b)))) (signed_low a)
+    ap (λ z. word_of (int_div z (signed_of (sign_extended b)))) (signed_low a)
     ∙ ap (λ z. word_of (int_div (low_signed a) z)) (signed_low b)
 
-pub rem_extended : (a b : ℕ) → rem_word (extended a) (extended b) ≡ word_of (int_rem (low_signed a) (low_signed b))
+pub rem_extended : (a b : ℕ) → rem_word (sign_extended a) (sign_extended b) ≡ word_of (int_rem (low_signed a) (low_signed b))
 unfolding rem_word
 rem_extended a b =
-    ap (λ z. word_of (int_rem z (signed_of (extended b)))) (signed_low a)
+    ap (λ z. word_of (int_rem z (signed_of (sign_extended b)))) (signed_low a)
     ∙ ap (λ z. word_of (int_rem (low_signed a) z)) (signed_low b)
 
 -- ---- the high half of a product of one signed word

@@ -2,7 +2,7 @@
 use Rattle.std.proofs.Common.{◌≡◌, ℕ, ◌+◌, ◌-◌, ◌/◌, ◌%◌, ◌<◌, ◌≤◌, ◌≢◌, ◌⊎◌, inl, inr, Bool, true, false, cond, ◌==◌, List, length, Option, Some, None, slice_set, refl, ap, ◌∙◌, arith, eq-eqb, get_or-set_other, get_or-set_same}
 use Rattle.std.proofs.lemmas.Bool.{eqb-true}
 use Rattle.std.proofs.lemmas.Bool.Decides.{nat_tests}
-use Rattle.rv_machine.specs.Marks.{is_between, mark_at, mark_by, place_of}
+use Rattle.rv_machine.specs.Marks.{is_between, mark_at, mark_by, mark_index}
 use Rattle.rv_machine.specs.Observation.{young_start}
 use Rattle.rv_machine.specs.Places.{half_start}
 
@@ -26,7 +26,7 @@ InPart heap a i =
 between : (from bytes a : ℕ) → is_between from bytes a ≡ true → (from ≤ a) × (a < from + bytes)
 between from bytes a h = (grind (arith, nat_tests), grind (arith, nat_tests))
 
-pub place_parts : (heap a i : ℕ) → place_of heap a ≡ Some i → (a % 8 ≡ 0) × InPart heap a i
+pub place_parts : (heap a i : ℕ) → mark_index heap a ≡ Some i → (a % 8 ≡ 0) × InPart heap a i
 place_parts heap a i e =
     let p = picked (a % 8 == 0) (is_between young_start 65536 a) (is_between (half_start 1) heap a) (is_between (half_start 0) heap a) _ _ _ i e in
     (eqb-true (a % 8) 0 p.0, parts p.1)
@@ -53,7 +53,7 @@ same_by heap a b i h m x y (inr (inr p)) (inr (inl q)) = absurd (omega arith)
 same_by heap a b i h m x y (inr (inr p)) (inr (inr q)) = omega arith
 
 pub same_place :
-    (heap a b i : ℕ) → heap % 16 ≡ 0 → heap ≤ 67108864 → place_of heap a ≡ Some i → place_of heap b ≡ Some i → a ≡ b
+    (heap a b i : ℕ) → heap % 16 ≡ 0 → heap ≤ 67108864 → mark_index heap a ≡ Some i → mark_index heap b ≡ Some i → a ≡ b
 same_place heap a b i h m e k =
     let p = place_parts heap a i e in
     let q = place_parts heap b i k in
@@ -67,20 +67,20 @@ set_by marks i v None h = refl
 set_by marks i v (Some j) h = get_or-set_other marks i j v 0 (λ e. h (ap Some e))
 
 set_one :
-    (heap i v a other : ℕ) (marks : List ℕ) (t : Bool) → heap % 16 ≡ 0 → heap ≤ 67108864 → i < length marks → place_of heap a ≡ Some i →
+    (heap i v a other : ℕ) (marks : List ℕ) (t : Bool) → heap % 16 ≡ 0 → heap ≤ 67108864 → i < length marks → mark_index heap a ≡ Some i →
     (other == a) ≡ t →
-    mark_by (slice_set marks i v) (place_of heap other) ≡ cond t v (mark_by marks (place_of heap other))
+    mark_by (slice_set marks i v) (mark_index heap other) ≡ cond t v (mark_by marks (mark_index heap other))
 set_one heap i v a other marks true h m l e k =
-    ap (λ n. mark_by (slice_set marks i v) (place_of heap n)) (eqb-true other a k)
+    ap (λ n. mark_by (slice_set marks i v) (mark_index heap n)) (eqb-true other a k)
     ∙ ap (mark_by (slice_set marks i v)) e ∙ get_or-set_same marks i v 0 l
 set_one heap i v a other marks false h m l e k =
-    set_by marks i v (place_of heap other) (λ s. not_both (same_place heap other a i h m s e) k)
+    set_by marks i v (mark_index heap other) (λ s. not_both (same_place heap other a i h m s e) k)
   where
     not_both : other ≡ a → (other == a) ≡ false → ⊥
     not_both s f = let t = eq-eqb other a s in cc
 
 pub marked :
-    (heap i v a other : ℕ) (marks : List ℕ) → heap % 16 ≡ 0 → heap ≤ 67108864 → i < length marks → place_of heap a ≡ Some i →
+    (heap i v a other : ℕ) (marks : List ℕ) → heap % 16 ≡ 0 → heap ≤ 67108864 → i < length marks → mark_index heap a ≡ Some i →
     mark_at (record { heap = heap; marks = slice_set marks i v }) other
     ≡ cond (other == a) v (mark_at (record { heap = heap; marks = marks }) other)
 unfolding mark_at

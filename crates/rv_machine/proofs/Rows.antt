@@ -8,7 +8,7 @@ use Rattle.rv_isa.specs.declared.instr.ShiftOp.TheVariants.{Slli, Srai}
 use Rattle.rv_isa.specs.declared.instr.ShiftWordOp.TheVariants.{Slliw, Srliw, Sraiw}
 use Rattle.rv_isa.specs.declared.instr.Condition.TheVariants.{Blt, Bge, Bltu, Bgeu}
 use Rattle.rv_machine.specs.Arithmetic.{imm_i, imm_b, imm_j, imm_u, alu, alu_imm, shift, alu_word, shift_word, is_taken}
-use Rattle.rv_machine.specs.Memory.{Region, loaded, stored}
+use Rattle.rv_machine.specs.Memory.{Region, loaded_number, stored_number}
 
 -- the word of -n, the least number, and the least number of 32 bits
 abbrev minus : ℕ → ℕ
@@ -250,52 +250,52 @@ holding word =
 abbrev regions : List Region
 regions = holding 0x0807060504030201
 
-lowest_byte_first : loaded regions 0x1000 1 ≡ Some 1
+lowest_byte_first : loaded_number regions 0x1000 1 ≡ Some 1
 lowest_byte_first = refl
 
-highest_byte_last : loaded regions 0x1007 1 ≡ Some 8
+highest_byte_last : loaded_number regions 0x1007 1 ≡ Some 8
 highest_byte_last = refl
 
-half_word : loaded regions 0x1006 2 ≡ Some 0x0807
+half_word : loaded_number regions 0x1006 2 ≡ Some 0x0807
 half_word = refl
 
-low_word : loaded regions 0x1008 4 ≡ Some 0xF4F3F2F1
+low_word : loaded_number regions 0x1008 4 ≡ Some 0xF4F3F2F1
 low_word = refl
 
-whole_word : loaded regions 0x2000 8 ≡ Some 7
+whole_word : loaded_number regions 0x2000 8 ≡ Some 7
 whole_word = refl
 
-misaligned : loaded regions 0x1002 4 ≡ None
+misaligned : loaded_number regions 0x1002 4 ≡ None
 misaligned = refl
 
 -- an access lies whole inside one region
-past_a_region : loaded regions 0x1008 8 ≡ None
+past_a_region : loaded_number regions 0x1008 8 ≡ None
 past_a_region = refl
 
-last_byte : loaded regions 0x100B 1 ≡ Some 0xF4
+last_byte : loaded_number regions 0x100B 1 ≡ Some 0xF4
 last_byte = refl
 
-behind_a_region : loaded regions 0x100C 1 ≡ None
+behind_a_region : loaded_number regions 0x100C 1 ≡ None
 behind_a_region = refl
 
-before_a_region : loaded regions 0x0FFF 1 ≡ None
+before_a_region : loaded_number regions 0x0FFF 1 ≡ None
 before_a_region = refl
 
-last_address : loaded regions (minus 8) 8 ≡ None
+last_address : loaded_number regions (minus 8) 8 ≡ None
 last_address = refl
 
 -- a store takes the lowest bytes and leaves the others
-byte_stored : stored regions 0x1007 1 0x12FF ≡ Some (holding 0xFF07060504030201)
+byte_stored : stored_number regions 0x1007 1 0x12FF ≡ Some (holding 0xFF07060504030201)
 byte_stored = refl
 
-half_stored : stored regions 0x1002 2 0xABCDEF ≡ Some (holding 0x08070605CDEF0201)
+half_stored : stored_number regions 0x1002 2 0xABCDEF ≡ Some (holding 0x08070605CDEF0201)
 half_stored = refl
 
-word_stored : stored regions 0x1004 4 0x11223344AABBCCDD ≡ Some (holding 0xAABBCCDD04030201)
+word_stored : stored_number regions 0x1004 4 0x11223344AABBCCDD ≡ Some (holding 0xAABBCCDD04030201)
 word_stored = refl
 
-double_stored : stored regions 0x1000 8 9 ≡ Some (holding 9)
+double_stored : stored_number regions 0x1000 8 9 ≡ Some (holding 9)
 double_stored = refl
 
-stored_nowhere : stored regions 0x1008 8 9 ≡ None
+stored_nowhere : stored_number regions 0x1008 8 9 ≡ None
 stored_nowhere = refl

@@ -7,7 +7,7 @@ use Rattle.std.proofs.lemmas.Bool.{ne_eqb}
 use Rattle.std.proofs.lemmas.List.{reverse-append}
 use Rattle.rv_machine.specs.Hart.{Placed}
 use Rattle.rv_machine.specs.Memory.{Region, read}
-use Rattle.rv_machine.specs.Observation.{young_top, cells_of, block_then, blocks_from, or_none, serial_from, passed}
+use Rattle.rv_machine.specs.Observation.{young_top, cells_of_header, block_then, blocks_from, or_none, serial_from, passed}
 
 -- ---- serials in lists
 
@@ -110,12 +110,12 @@ found_all address (Some bs) = above address [] bs
 pub at_top : (most : ℕ) (memory : List Region) (at : ℕ) → 0 < most → at ≡ young_top → blocks_from most memory at ≡ Some []
 at_top zero memory at h e = absurd (omega arith)
 at_top (suc most) memory at h e =
-    ap (λ t. cond t (Some []) (option_and_then (λ header. block_then (cells_of header) at (blocks_from most memory (at + 8 + 8 * cells_of header))) (read memory at 8)))
+    ap (λ t. cond t (Some []) (option_and_then (λ header. block_then (cells_of_header header) at (blocks_from most memory (at + 8 + 8 * cells_of_header header))) (read memory at 8)))
     (eq-eqb at young_top e)
 
 -- what follows a header
 abbrev pub headed : ℕ → List Region → ℕ → ℕ → Option (List Placed)
-headed most memory at header = block_then (cells_of header) at (blocks_from most memory (at + 8 + 8 * cells_of header))
+headed most memory at header = block_then (cells_of_header header) at (blocks_from most memory (at + 8 + 8 * cells_of_header header))
 
 below_top : (most : ℕ) (memory : List Region) (at : ℕ) → 0 < most → (at ≡ young_top → ⊥)
     → blocks_from most memory at ≡ option_and_then (headed (most - 1) memory at) (read memory at 8)
@@ -130,17 +130,17 @@ pub no_header : (most : ℕ) (memory : List Region) (at : ℕ) → 0 < most → 
 no_header most memory at h e r = below_top most memory at h e ∙ ap (option_and_then (headed (most - 1) memory at)) r
 
 pub not_whole : (most : ℕ) (memory : List Region) (at header : ℕ) → 0 < most → (at ≡ young_top → ⊥) → read memory at 8 ≡ Some header
-    → (nat_le 1 (cells_of header) && nat_le (cells_of header) 256) ≡ false → blocks_from most memory at ≡ None
+    → (nat_le 1 (cells_of_header header) && nat_le (cells_of_header header) 256) ≡ false → blocks_from most memory at ≡ None
 not_whole most memory at header h e r t =
     below_top most memory at h e ∙ ap (option_and_then (headed (most - 1) memory at)) r
-    ∙ ap (λ b. cond b (option_map (λ bs. record { start = at + 8; words = cells_of header } ∷ bs) (blocks_from (most - 1) memory (at + 8 + 8 * cells_of header))) None) t
+    ∙ ap (λ b. cond b (option_map (λ bs. record { start = at + 8; words = cells_of_header header } ∷ bs) (blocks_from (most - 1) memory (at + 8 + 8 * cells_of_header header))) None) t
 
 pub one_block : (most : ℕ) (memory : List Region) (at header : ℕ) → 0 < most → (at ≡ young_top → ⊥) → read memory at 8 ≡ Some header
-    → (nat_le 1 (cells_of header) && nat_le (cells_of header) 256) ≡ true
-    → blocks_from most memory at ≡ option_map (λ bs. record { start = at + 8; words = cells_of header } ∷ bs) (blocks_from (most - 1) memory (at + 8 + 8 * cells_of header))
+    → (nat_le 1 (cells_of_header header) && nat_le (cells_of_header header) 256) ≡ true
+    → blocks_from most memory at ≡ option_map (λ bs. record { start = at + 8; words = cells_of_header header } ∷ bs) (blocks_from (most - 1) memory (at + 8 + 8 * cells_of_header header))
 one_block most memory at header h e r t =
     below_top most memory at h e ∙ ap (option_and_then (headed (most - 1) memory at)) r
-    ∙ ap (λ b. cond b (option_map (λ bs. record { start = at + 8; words = cells_of header } ∷ bs) (blocks_from (most - 1) memory (at + 8 + 8 * cells_of header))) None) t
+    ∙ ap (λ b. cond b (option_map (λ bs. record { start = at + 8; words = cells_of_header header } ∷ bs) (blocks_from (most - 1) memory (at + 8 + 8 * cells_of_header header))) None) t
 
 pub whole_bounds : (words : ℕ) → (nat_le 1 words && nat_le words 256) ≡ true → (1 ≤ words) × (words ≤ 256)
 whole_bounds words h = (grind arith, grind arith)

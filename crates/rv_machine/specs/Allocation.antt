@@ -7,7 +7,7 @@ use Rattle.bs_words.specs.Word.{add_word}
 use Rattle.rv_isa.specs.Registers.{s10, t0}
 use Rattle.rv_machine.specs.Hart.{Hart, Placed, past_ecall, register}
 use Rattle.rv_machine.specs.Observation.{blocks_at}
-use Rattle.rv_machine.specs.Relocation.{Serviced, Goes, and_then, emptied, with_blocks}
+use Rattle.rv_machine.specs.Relocation.{Serviced, Goes, serve_then, emptied, with_blocks}
 
 abbrev pub bytes_asked : Hart → ℕ
 bytes_asked h = register h t0
@@ -27,6 +27,6 @@ blocks_at_request h = cond (is_request (bytes_asked h)) (blocks_at h (young_from
 abbrev pub after_request : ℕ → Hart → Serviced
 after_request bytes h = Goes (past_ecall (emptied bytes h))
 
-unfoldable pub allocated : (List Placed → List ℕ) → Hart → Serviced
-allocated plan h =
-    and_then (after_request (bytes_asked h)) (with_blocks plan h (blocks_at_request h))
+unfoldable pub allocation_served : (List Placed → List ℕ) → Hart → Serviced
+allocation_served plan h =
+    serve_then (after_request (bytes_asked h)) (with_blocks plan h (blocks_at_request h))

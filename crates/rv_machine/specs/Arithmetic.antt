@@ -85,8 +85,8 @@ abbrev pub low : ℕ → ℕ
 low a = a % 2 ^ 32
 
 -- the lowest 32 bits of a number, extended by their sign
-abbrev pub extended : ℕ → ℕ
-extended n = sext_word n 32
+abbrev pub sign_extended : ℕ → ℕ
+sign_extended n = sext_word n 32
 
 -- the low half, read with its sign
 abbrev pub low_signed : ℕ → ℤ
@@ -97,22 +97,22 @@ abbrev pub sar_low : ℕ → ℕ → ℕ
 sar_low a k = word_of (int_div_euclid (low_signed a) (pos (2 ^ k)))
 
 abbrev pub alu_word : AluWordOp → ℕ → ℕ → ℕ
-alu_word Addw a b = extended (add_word a b)
-alu_word Subw a b = extended (sub_word a b)
-alu_word Sllw a b = extended (a * 2 ^ (b % 32))
-alu_word Srlw a b = extended (low a / 2 ^ (b % 32))
+alu_word Addw a b = sign_extended (add_word a b)
+alu_word Subw a b = sign_extended (sub_word a b)
+alu_word Sllw a b = sign_extended (a * 2 ^ (b % 32))
+alu_word Srlw a b = sign_extended (low a / 2 ^ (b % 32))
 alu_word Sraw a b = sar_low a (b % 32)
-alu_word Mulw a b = extended (a * b)
+alu_word Mulw a b = sign_extended (a * b)
 alu_word Divw a b =
-    cond (low b == 0) ones (extended (word_of (int_div (low_signed a) (low_signed b))))
-alu_word Divuw a b = cond (low b == 0) ones (extended (low a / low b))
+    cond (low b == 0) ones (sign_extended (word_of (int_div (low_signed a) (low_signed b))))
+alu_word Divuw a b = cond (low b == 0) ones (sign_extended (low a / low b))
 alu_word Remw a b =
-    cond (low b == 0) (extended a) (extended (word_of (int_rem (low_signed a) (low_signed b))))
-alu_word Remuw a b = cond (low b == 0) (extended a) (extended (low a % low b))
+    cond (low b == 0) (sign_extended a) (sign_extended (word_of (int_rem (low_signed a) (low_signed b))))
+alu_word Remuw a b = cond (low b == 0) (sign_extended a) (sign_extended (low a % low b))
 
 abbrev pub shift_word : ShiftWordOp → ℕ → ℕ → ℕ
-shift_word Slliw a amount = extended (a * 2 ^ amount)
-shift_word Srliw a amount = extended (low a / 2 ^ amount)
+shift_word Slliw a amount = sign_extended (a * 2 ^ amount)
+shift_word Srliw a amount = sign_extended (low a / 2 ^ amount)
 shift_word Sraiw a amount = sar_low a amount
 
 -- ---- branches

@@ -4,15 +4,15 @@ use Rattle.bs_words.specs.declared.types.Ret.{Ret}
 use Rattle.bs_words.specs.declared.types.Ret.TheVariants as returns
 use Rattle.rv_isa.specs.Registers.{a0, s1, s10, sp}
 use Rattle.rv_machine.specs.Hart.{Hart, Placed, past_ecall, register, with_register}
-use Rattle.rv_machine.specs.Memory.{word}
+use Rattle.rv_machine.specs.Memory.{memory_word}
 use Rattle.rv_machine.specs.Observation.{blocks_at}
 use Rattle.rv_machine.specs.Places.{stack_end}
-use Rattle.rv_machine.specs.Relocation.{Serviced, Goes, and_then, emptied, with_blocks}
+use Rattle.rv_machine.specs.Relocation.{Serviced, Goes, serve_then, emptied, with_blocks}
 
 -- The blocks move, and the young area is then empty. The ECALL has not retired yet.
 abbrev pub collected : (List Placed → List ℕ) → Hart → Serviced
 collected plan h =
-    and_then (λ g. Goes (emptied 0 g)) (with_blocks plan h (blocks_at h (register h s10)))
+    serve_then (λ g. Goes (emptied 0 g)) (with_blocks plan h (blocks_at h (register h s10)))
 
 -- s1 is a multiple of 8, and the two words of a trap frame lie in the stack's region there
 abbrev pub has_trap_frame : Hart → Bool
@@ -31,8 +31,8 @@ abbrev pub raised : ℕ → Hart → Hart
 raised value h =
     let at = register h s1 in
     record (past_ecall h) {
-      pc = word h.memory at;
+      pc = memory_word h.memory at;
       registers =
           with_register a0 value
-          (with_register s1 (word h.memory (at + 8)) (with_register sp (at + 16) h.registers));
+          (with_register s1 (memory_word h.memory (at + 8)) (with_register sp (at + 16) h.registers));
     }

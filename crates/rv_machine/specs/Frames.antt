@@ -5,7 +5,7 @@ use Rattle.bs_words.specs.Word.{add_word}
 use Rattle.image_form.specs.Tables.{Desc}
 use Rattle.rv_isa.specs.Registers.{sp}
 use Rattle.rv_machine.specs.Hart.{Hart, register}
-use Rattle.rv_machine.specs.Memory.{Region, word, code_start}
+use Rattle.rv_machine.specs.Memory.{Region, memory_word, code_start}
 use Rattle.rv_machine.specs.Places.{stack_end}
 
 -- A frame: its lowest address, and the descriptor of the place to which its callee returns.
@@ -65,7 +65,7 @@ frames_from zero descs base memory first address at = None
 frames_from (suc most) descs base memory first address at =
     cond (address == code_start) (Some [])
     (option_and_then
-    (λ d. frame_then (is_frame first base at d) at d (frames_from most descs base memory false (word memory (return_slot at d)) (add_word at d.size)))
+    (λ d. frame_then (is_frame first base at d) at d (frames_from most descs base memory false (memory_word memory (return_slot at d)) (add_word at d.size)))
     (descriptor_at descs address))
 
 -- the most frames that a stack holds, and one

@@ -10,8 +10,8 @@ use Rattle.rv_isa.specs.declared.instr.LoadWidth.{LoadWidth}
 use Rattle.rv_isa.specs.declared.instr.LoadWidth.TheVariants.{Lb, Lh, Lw, Ld, Lbu, Lhu, Lwu}
 use Rattle.rv_isa.specs.declared.instr.StoreWidth.{StoreWidth}
 use Rattle.rv_isa.specs.declared.instr.StoreWidth.TheVariants.{Sb, Sh, Sw, Sd}
-use Rattle.rv_machine.specs.Arithmetic.{imm_i, imm_b, imm_j, imm_u, alu, alu_imm, alu_word, shift, shift_word, extended, is_taken}
-use Rattle.rv_machine.specs.Memory.{Region, loaded, stored, code_region, code_start}
+use Rattle.rv_machine.specs.Arithmetic.{imm_i, imm_b, imm_j, imm_u, alu, alu_imm, alu_word, shift, shift_word, sign_extended, is_taken}
+use Rattle.rv_machine.specs.Memory.{Region, loaded_number, stored_number, code_region, code_start}
 use Rattle.rv_machine.specs.declared.cause.Cause.{Cause}
 use Rattle.rv_machine.specs.declared.cause.Cause.TheVariants.{BadFetch, BadWord, BadAccess}
 
@@ -76,8 +76,8 @@ sets rd value address h =
     (goes_to address (record h { registers = with_register rd value h.registers }))
 
 -- a taken target is a multiple of 4; else the machine stops at the jump
-abbrev pub jumps : ℕ → Next → Next
-jumps target next = cond (target % 4 == 0) next (Stopped BadFetch)
+abbrev pub jumps_if_aligned : ℕ → Next → Next
+jumps_if_aligned target next = cond (target % 4 == 0) next (Stopped BadFetch)
 
 -- ---- loads and stores
 
@@ -123,23 +123,23 @@ readable h = code_region h.image.code ∷ h.memory
 abbrev pub executed : Instr → Hart → Next
 executed (Lui rd imm) h = sets rd (imm_u imm) (h.pc + 4) h
 executed (Auipc rd imm) h = sets rd (add_word h.pc (imm_u imm)) (h.pc + 4) h
-executed (Jal rd offset) h = let target = add_word h.pc (imm_j offset) in jumps target (sets rd (h.pc + 4) target h)
+executed (Jal rd offset) h = let target = add_word h.pc (imm_j offset) in jumps_if_aligned target (sets rd (h.pc + 4) target h)
 executed (Jalr rd rs1 imm) h =
     let sum = add_word (register h rs1) (imm_i imm) in
     let target = sum - sum % 2 in
-    jumps target (sets rd (h.pc + 4) target h)
+    jumps_if_aligned target (sets rd (h.pc + 4) target h)
 executed (Branch condition rs1 rs2 offset) h =
     let target = add_word h.pc (imm_b offset) in
-    cond (is_taken condition (register h rs1) (register h rs2)) (jumps target (goes_to target h)) (goes_to (h.pc + 4) h)
+    cond (is_taken condition (register h rs1) (register h rs2)) (jumps_if_aligned target (goes_to target h)) (goes_to (h.pc + 4) h)
 executed (Load width rd rs1 imm) h =
-    loads (loaded (readable h) (add_word (register h rs1) (imm_i imm)) (bytes_loaded width)) width rd h
+    loads (loaded_number (readable h) (add_word (register h rs1) (imm_i imm)) (bytes_loaded width)) width rd h
 executed (Store width rs1 rs2 imm) h =
-    stores (stored h.memory (add_word (register h rs1) (imm_i imm)) (bytes_stored width) (register h rs2)) h
+    stores (stored_number h.memory (add_word (register h rs1) (imm_i imm)) (bytes_stored width) (register h rs2)) h
 executed (OpImm op rd rs1 imm) h = sets rd (alu_imm op (register h rs1) imm) (h.pc + 4) h
 executed (Shift op rd rs1 amount) h = sets rd (shift op (register h rs1) amount) (h.pc + 4) h
 executed (Op op rd rs1 rs2) h = sets rd (alu op (register h rs1) (register h rs2)) (h.pc + 4) h
 executed (Addiw rd rs1 imm) h =
-    sets rd (extended (add_word (register h rs1) (imm_i imm))) (h.pc + 4) h
+    sets rd (sign_extended (add_word (register h rs1) (imm_i imm))) (h.pc + 4) h
 executed (ShiftWord op rd rs1 amount) h =
     sets rd (shift_word op (register h rs1) amount) (h.pc + 4) h
 executed (OpWord op rd rs1 rs2) h =

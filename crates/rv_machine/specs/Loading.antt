@@ -31,8 +31,8 @@ word_of_arg image (Word word) = Some word
 word_of_arg image (Symbol name) = address_of (sym_named name image.syms)
 
 -- a parameter of this type takes the word
-abbrev pub takes : Tables → Comp → ℕ → Bool
-takes image comp word = fits (data_start + length image.bytes) (type_of_comp comp) (value.Word word)
+abbrev pub takes_word : Tables → Comp → ℕ → Bool
+takes_word image comp word = fits (data_start + length image.bytes) (type_of_comp comp) (value.Word word)
 
 -- a word where the test holds of it
 abbrev pub only : (ℕ → Bool) → Option ℕ → Option ℕ
@@ -41,12 +41,12 @@ only test (Some word) = cond (test word) (Some word) None
 
 -- the argument's word, where it has one that its parameter takes
 abbrev pub suited : Tables → Comp → Arg → Option ℕ
-suited image comp arg = only (takes image comp) (word_of_arg image arg)
+suited image comp arg = only (takes_word image comp) (word_of_arg image arg)
 
 -- a word before the others, where there are all of them
-abbrev pub before : Option ℕ → Option (List ℕ) → Option (List ℕ)
-before None words = None
-before (Some word) words = option_map (λ ws. word ∷ ws) words
+abbrev pub before_words : Option ℕ → Option (List ℕ) → Option (List ℕ)
+before_words None words = None
+before_words (Some word) words = option_map (λ ws. word ∷ ws) words
 
 -- the words of the arguments, where there is one for each parameter and each has a word that its
 -- parameter takes
@@ -55,7 +55,7 @@ words_of_args image [] [] = Some []
 words_of_args image [] (arg ∷ args) = None
 words_of_args image (comp ∷ comps) [] = None
 words_of_args image (comp ∷ comps) (arg ∷ args) =
-    before (suited image comp arg) (words_of_args image comps args)
+    before_words (suited image comp arg) (words_of_args image comps args)
 
 abbrev pub begins_with : Tables → Setup → Func → Option (List ℕ) → Result Hart LoadError
 begins_with image setup entry None = Err ArgumentUnfit

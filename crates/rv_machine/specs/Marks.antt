@@ -14,8 +14,8 @@ abbrev pub is_between : ℕ → ℕ → ℕ → Bool
 is_between from bytes address = nat_le from address && nat_lt address (from + bytes)
 
 -- the place in the table of an address
-abbrev pub place_of : ℕ → ℕ → Option ℕ
-place_of heap address =
+abbrev pub mark_index : ℕ → ℕ → Option ℕ
+mark_index heap address =
     cond (address % 8 == 0)
     (cond (is_between young_start 65536 address) (Some ((address - young_start) / 8))
     (cond (is_between (half_start 1) heap address) (Some (8192 + (address - half_start 1) / 8))
@@ -28,7 +28,7 @@ mark_by marks (Some i) = slice_index marks i
 
 -- what the table has for an address; 0 where it has nothing
 unfoldable pub mark_at : Marks → ℕ → ℕ
-mark_at table address = mark_by table.marks (place_of table.heap address)
+mark_at table address = mark_by table.marks (mark_index table.heap address)
 
 abbrev pub IsClean : Marks → Type 0
 IsClean table = (address : ℕ) → mark_at table address ≡ 0

@@ -45,22 +45,22 @@ written (r ∷ rs) address width value =
 
 -- ---- aligned accesses
 
-abbrev pub loaded : List Region → ℕ → ℕ → Option ℕ
-loaded regions address width = cond (address % width == 0) (read regions address width) None
+abbrev pub loaded_number : List Region → ℕ → ℕ → Option ℕ
+loaded_number regions address width = cond (address % width == 0) (read regions address width) None
 
-abbrev pub stored : List Region → ℕ → ℕ → ℕ → Option (List Region)
-stored regions address width value =
+abbrev pub stored_number : List Region → ℕ → ℕ → ℕ → Option (List Region)
+stored_number regions address width value =
     cond (address % width == 0) (written regions address width value) None
 
 -- ---- words at multiples of 8
 
 abbrev pub or_zero : Option ℕ → ℕ
 or_zero None = 0
-or_zero (Some word) = word
+or_zero (Some memory_word) = memory_word
 
 -- the word at an address; 0 where there is none
-unfoldable pub word : List Region → ℕ → ℕ
-word m address = or_zero (loaded m address 8)
+unfoldable pub memory_word : List Region → ℕ → ℕ
+memory_word m address = or_zero (loaded_number m address 8)
 
 abbrev pub memory_or : List Region → Option (List Region) → List Region
 memory_or old None = old
@@ -68,12 +68,12 @@ memory_or old (Some new) = new
 
 -- the memory with a word written at an address; nothing changes where there is no word
 unfoldable pub write : List Region → ℕ → ℕ → List Region
-write m address value = memory_or m (stored m address 8 value)
+write m address value = memory_or m (stored_number m address 8 value)
 
 -- so many words from an address on
 abbrev pub words_at : List Region → ℕ → ℕ → List ℕ
 words_at m address zero = []
-words_at m address (suc n) = word m address ∷ words_at m (address + 8) n
+words_at m address (suc n) = memory_word m address ∷ words_at m (address + 8) n
 
 -- the memory with those words written from an address on
 abbrev pub put : List Region → ℕ → List ℕ → List Region
@@ -83,16 +83,16 @@ put m address (w ∷ ws) = put (write m address w) (address + 8) ws
 -- ---- words of bytes, and of instruction words
 
 -- the number of bytes, the lowest first
-abbrev pub number_of : List ℕ → ℕ
-number_of [] = 0
-number_of (b ∷ bs) = b + 256 * number_of bs
+abbrev pub number_from_bytes : List ℕ → ℕ
+number_from_bytes [] = 0
+number_from_bytes (b ∷ bs) = b + 256 * number_from_bytes bs
 
 -- the 64-bit words of bytes; past the end the last one has zeros
 abbrev pub words_of_bytes : List ℕ → List ℕ
 words_of_bytes [] = []
 words_of_bytes (a ∷ b ∷ c ∷ d ∷ e ∷ f ∷ g ∷ h ∷ rest) =
-    number_of (a ∷ b ∷ c ∷ d ∷ e ∷ f ∷ g ∷ h ∷ []) ∷ words_of_bytes rest
-words_of_bytes bytes = number_of bytes ∷ []
+    number_from_bytes (a ∷ b ∷ c ∷ d ∷ e ∷ f ∷ g ∷ h ∷ []) ∷ words_of_bytes rest
+words_of_bytes bytes = number_from_bytes bytes ∷ []
 
 -- the 64-bit words of words of 32 bits
 abbrev pub words_of_halves : List ℕ → List ℕ

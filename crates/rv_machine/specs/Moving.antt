@@ -2,8 +2,8 @@
 -- read from the old state.
 use Rattle.std.specs.Prelude.{ℕ, suc, ◌%◌, ◌^◌, Bool, true, false, cond, ◌==◌, nat_lt, List, [], ◌∷◌, map, replicate, slice_index}
 use Rattle.rv_machine.specs.Hart.{Placed, with_register}
-use Rattle.rv_machine.specs.Memory.{Region, word, write, words_at, put}
-use Rattle.rv_machine.specs.Placement.{header_at}
+use Rattle.rv_machine.specs.Memory.{Region, memory_word, write, words_at, put}
+use Rattle.rv_machine.specs.Placement.{header_address}
 use Rattle.rv_machine.specs.Places.{filler}
 
 -- what a word becomes: a block's old start its new start, and every other word stays
@@ -23,25 +23,25 @@ rewritten_cells false f cells = cells
 -- the words of a block, its header first, as they are copied
 abbrev pub rewritten_block : (ℕ → ℕ) → List Region → Placed → List ℕ
 rewritten_block f m b =
-    let header = word m (header_at b) in
+    let header = memory_word m (header_address b) in
     header ∷ rewritten_cells (is_scanned header) f (words_at m b.start b.words)
 
 -- bytes that were a block's hold nothing
 abbrev pub vacated : List Region → List Placed → List Region
 vacated m [] = m
-vacated m (b ∷ bs) = vacated (put m (header_at b) (replicate (suc b.words) filler)) bs
+vacated m (b ∷ bs) = vacated (put m (header_address b) (replicate (suc b.words) filler)) bs
 
 -- each block is copied from the old memory to its new place
 abbrev pub copied : (ℕ → ℕ) → List Region → List Region → List Placed → List Placed → List Region
 copied f old m [] news = m
 copied f old m (o ∷ os) [] = m
 copied f old m (o ∷ os) (n ∷ ns) =
-    copied f old (put m (header_at n) (rewritten_block f old o)) os ns
+    copied f old (put m (header_address n) (rewritten_block f old o)) os ns
 
 -- the words at these addresses are rewritten
 abbrev pub redirected : (ℕ → ℕ) → List Region → List Region → List ℕ → List Region
 redirected f old m [] = m
-redirected f old m (a ∷ as') = redirected f old (write m a (f (word old a))) as'
+redirected f old m (a ∷ as') = redirected f old (write m a (f (memory_word old a))) as'
 
 -- the memory in which the words at the places are rewritten and the blocks have moved
 unfoldable pub moved_memory : List Placed → List Placed → List Region → List ℕ → List Region

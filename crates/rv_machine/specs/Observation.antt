@@ -16,8 +16,8 @@ abbrev pub young_top : ℕ
 young_top = 0x38010000
 
 -- the number of cells that a header word says
-abbrev pub cells_of : ℕ → ℕ
-cells_of header = header / 2 ^ 10
+abbrev pub cells_of_header : ℕ → ℕ
+cells_of_header header = header / 2 ^ 10
 
 -- a block of so many cells whose header is at an address, before the rest
 abbrev pub block_then : ℕ → ℕ → Option (List Placed) → Option (List Placed)
@@ -30,7 +30,7 @@ abbrev pub blocks_from : ℕ → List Region → ℕ → Option (List Placed)
 blocks_from zero memory address = None
 blocks_from (suc most) memory address =
     cond (address == young_top) (Some [])
-    (option_and_then (λ header. block_then (cells_of header) address (blocks_from most memory (address + 8 + 8 * cells_of header)))
+    (option_and_then (λ header. block_then (cells_of_header header) address (blocks_from most memory (address + 8 + 8 * cells_of_header header)))
     (read memory address 8))
 
 -- the blocks from an address that is a multiple of 8 in the young area or its top
@@ -66,11 +66,11 @@ block_or_word None word = Word word
 block_or_word (Some serial) word = Block serial
 
 -- a word of type val that is a block's start is that block, and every other word is itself
-abbrev pub observed : Hart → Comp → ℕ → Obs
-observed h Val word = block_or_word (serial_from 0 (all_blocks h) word) word
-observed h Int word = Word word
-observed h Addr word = Word word
-observed h Float word = Word word
+abbrev pub observed_word : Hart → Comp → ℕ → Obs
+observed_word h Val word = block_or_word (serial_from 0 (all_blocks h) word) word
+observed_word h Int word = Word word
+observed_word h Addr word = Word word
+observed_word h Float word = Word word
 
 -- the serial of the block at an address, among blocks that were passed from the lowest on: a block above
 -- them comes before them

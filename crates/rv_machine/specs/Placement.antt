@@ -7,12 +7,12 @@ use Rattle.rv_machine.specs.Places.{half_start}
 -- ---- one block
 
 -- the address of its header
-abbrev pub header_at : Placed → ℕ
-header_at b = b.start - 8
+abbrev pub header_address : Placed → ℕ
+header_address b = b.start - 8
 
 -- the address after its last cell
-abbrev pub end_of : Placed → ℕ
-end_of b = b.start + 8 * b.words
+abbrev pub block_end : Placed → ℕ
+block_end b = b.start + 8 * b.words
 
 -- its bytes, with those of its header
 abbrev pub bytes_of : Placed → ℕ
@@ -44,14 +44,14 @@ packed number blocks = spaced 0 (half_start (number % 2)) blocks
 
 -- a block lies inside one half, header and all
 abbrev pub is_in_half : ℕ → ℕ → Placed → Bool
-is_in_half heap k b = nat_le (half_start k + 8) b.start && nat_le (end_of b) (half_start k + heap)
+is_in_half heap k b = nat_le (half_start k + 8) b.start && nat_le (block_end b) (half_start k + heap)
 
 abbrev pub is_in_heap : ℕ → Placed → Bool
 is_in_heap heap b = (b.start % 8 == 0) && (is_in_half heap 0 b || is_in_half heap 1 b)
 
 -- no byte is of both blocks
 abbrev pub is_apart : Placed → Placed → Bool
-is_apart a b = nat_le (end_of a + 8) b.start || nat_le (end_of b + 8) a.start
+is_apart a b = nat_le (block_end a + 8) b.start || nat_le (block_end b + 8) a.start
 
 abbrev pub are_apart : List Placed → Bool
 are_apart [] = true
@@ -69,12 +69,12 @@ new_places heap number blocks plan =
 
 -- ---- the plan that is drawn from a random word
 
-abbrev pub in_order : Bool → ℕ → ℕ → List Placed → List ℕ
-in_order true gap at blocks = spaced gap at blocks
-in_order false gap at blocks = reverse (spaced gap at (reverse blocks))
+abbrev pub starts_in_order : Bool → ℕ → ℕ → List Placed → List ℕ
+starts_in_order true gap at blocks = spaced gap at blocks
+starts_in_order false gap at blocks = reverse (spaced gap at (reverse blocks))
 
 -- the lowest bit has the half, the next one whether serials rise or fall from the half's start on, and the
 -- two from the third on the words of the gap before each block
 abbrev pub drawn_plan : ℕ → List Placed → List ℕ
 drawn_plan drawn blocks =
-    in_order (drawn / 2 % 2 == 0) (8 * (drawn / 4 % 4)) (half_start (drawn % 2)) blocks
+    starts_in_order (drawn / 2 % 2 == 0) (8 * (drawn / 4 % 4)) (half_start (drawn % 2)) blocks

@@ -5,7 +5,7 @@ use Rattle.image_form.specs.Tables.{Tables}
 use Rattle.rv_isa.specs.Registers.{s10}
 use Rattle.rv_machine.specs.Frames.{Frame, frames, registers_of, slots_of}
 use Rattle.rv_machine.specs.Hart.{Hart, Placed, register, with_register}
-use Rattle.rv_machine.specs.Memory.{word, write, code_start}
+use Rattle.rv_machine.specs.Memory.{memory_word, write, code_start}
 use Rattle.rv_machine.specs.Moving.{rewritten, moved_memory, redirected_registers}
 use Rattle.rv_machine.specs.Observation.{young_top}
 use Rattle.rv_machine.specs.Placement.{bytes_used, new_places}
@@ -20,10 +20,10 @@ pub data Serviced : Type 0 where
   NoHeap : Serviced
   Refused : (cause : Cause) → Serviced
 
-abbrev pub and_then : (Hart → Serviced) → Serviced → Serviced
-and_then next (Goes h) = next h
-and_then next NoHeap = NoHeap
-and_then next (Refused cause) = Refused cause
+abbrev pub serve_then : (Hart → Serviced) → Serviced → Serviced
+serve_then next (Goes h) = next h
+serve_then next NoHeap = NoHeap
+serve_then next (Refused cause) = Refused cause
 
 -- ---- what a named location may hold
 
@@ -37,27 +37,27 @@ is_in_data image w = nat_le data_start w && nat_le w (data_start + length image.
 abbrev pub is_in_code : Tables → ℕ → Bool
 is_in_code image w = nat_le code_start w && nat_lt w (code_start + 4 * length image.code)
 
-abbrev pub is_root : Tables → List Placed → ℕ → Bool
-is_root image blocks w =
+abbrev pub is_root_word : Tables → List Placed → ℕ → Bool
+is_root_word image blocks w =
     (w % 2 == 1) || is_start blocks w || is_in_data image w || is_in_code image w
 
 abbrev pub are_roots : Hart → List Frame → Bool
 are_roots h fs =
-    list_all (λ r. is_root h.image h.blocks (register h r)) (registers_of fs)
-    && list_all (λ a. is_root h.image h.blocks (word h.memory a)) (slots_of fs)
+    list_all (λ r. is_root_word h.image h.blocks (register h r)) (registers_of fs)
+    && list_all (λ a. is_root_word h.image h.blocks (memory_word h.memory a)) (slots_of fs)
 
 -- ---- the move
 
 -- the addresses of the root cells
-abbrev pub root_cells : Tables → List ℕ
-root_cells image = map (λ offset. data_start + offset) image.roots
+abbrev pub root_addresses : Tables → List ℕ
+root_addresses image = map (λ offset. data_start + offset) image.roots
 
 -- The blocks have moved. Named registers, named slots, root cells and the cells of scanned blocks have the
 -- new starts. The bytes that the blocks have left are filler, and no other word has changed.
 abbrev pub relocated : List Placed → List Frame → Hart → Hart
 relocated news fs h =
     let f = rewritten h.blocks news in
-    let places = slots_of fs ++ root_cells h.image in
+    let places = slots_of fs ++ root_addresses h.image in
     record h {
       registers = redirected_registers f h.registers (registers_of fs) h.registers;
       memory = moved_memory h.blocks news h.memory places;

@@ -51,10 +51,10 @@ abbrev pub one : Schedule → Machine → Now
 one schedule m = after_next schedule (hart (perhaps_asked schedule m.hart)) m
 
 -- so many instructions more; a run that is over stays over
-abbrev pub after : Schedule → ℕ → Now → Now
-after schedule zero now = now
-after schedule (suc n) (Going m) = after schedule n (one schedule m)
-after schedule (suc n) (Over calls end) = Over calls end
+abbrev pub now_after : Schedule → ℕ → Now → Now
+now_after schedule zero now = now
+now_after schedule (suc n) (Going m) = now_after schedule n (one schedule m)
+now_after schedule (suc n) (Over calls end) = Over calls end
 
 -- What is reported of a run: the external calls so far, first to last, and whether it goes on or how it ended.
 pub record Seen : Type 0 where
@@ -73,4 +73,4 @@ begun image entry args answers stack heap =
 -- the run after m instructions
 abbrev pub machine_run : Tables → Func → List ℕ → List ℕ → ℕ → ℕ → Schedule → ℕ → Seen
 machine_run image entry args answers stack heap schedule m =
-    seen (after schedule m (begun image entry args answers stack heap))
+    seen (now_after schedule m (begun image entry args answers stack heap))

@@ -7,11 +7,11 @@ use Rattle.bs_words.specs.declared.types.Comp.TheVariants.{Val}
 use Rattle.bs_words.specs.declared.types.Ret.{Ret}
 use Rattle.bs_words.specs.declared.types.Ret.TheVariants as returns
 use Rattle.bs_words.specs.declared.values.Obs.{Obs}
-use Rattle.rv_isa.specs.Registers.{a0, destroyed_by_external, number, t0, t2}
-use Rattle.rv_machine.specs.Allocation.{allocated}
+use Rattle.rv_isa.specs.Registers.{a0, destroyed_by_external, register_number, t0, t2}
+use Rattle.rv_machine.specs.Allocation.{allocation_served}
 use Rattle.rv_machine.specs.FrameCalls.{collected, has_trap_frame, raised, with_answer}
 use Rattle.rv_machine.specs.Hart.{Hart, Placed, past_ecall, register, with_register}
-use Rattle.rv_machine.specs.Observation.{observed}
+use Rattle.rv_machine.specs.Observation.{observed_word}
 use Rattle.rv_machine.specs.Places.{filler}
 use Rattle.rv_machine.specs.Relocation.{Serviced, Goes, NoHeap, Refused}
 use Rattle.rv_machine.specs.declared.cause.Cause.{Cause}
@@ -46,7 +46,7 @@ pub data Now : Type 0 where
 
 abbrev pub value_returned : Ret → Hart → Option Obs
 value_returned returns.Unit h = None
-value_returned (returns.Comp c) h = Some (observed h c (register h a0))
+value_returned (returns.Comp c) h = Some (observed_word h c (register h a0))
 
 -- ---- external calls
 
@@ -54,18 +54,18 @@ value_returned (returns.Comp c) h = Some (observed h c (register h a0))
 -- x10 to x25, one after the other.
 abbrev pub arguments_from : ℕ → List Comp → Hart → List Obs
 arguments_from r [] h = []
-arguments_from r (c ∷ cs) h = observed h c (register h r) ∷ arguments_from (suc r) cs h
+arguments_from r (c ∷ cs) h = observed_word h c (register h r) ∷ arguments_from (suc r) cs h
 
 abbrev pub call_made : External → Hart → Made
 call_made e h = record { name = e.name; shown = arguments_from a0 e.params h }
 
-abbrev pub filled : List ℕ → List ℕ → List ℕ
-filled [] registers = registers
-filled (r ∷ rs) registers = filled rs (with_register r filler registers)
+abbrev pub filled_registers : List ℕ → List ℕ → List ℕ
+filled_registers [] registers = registers
+filled_registers (r ∷ rs) registers = filled_registers rs (with_register r filler registers)
 
 -- the registers that an external call destroys
 abbrev pub destroyed : List ℕ
-destroyed = map number destroyed_by_external
+destroyed = map register_number destroyed_by_external
 
 -- the call was made, and the run goes on so, with these answers left
 abbrev pub called : Made → Hart → List ℕ → Machine → Now
@@ -77,16 +77,16 @@ abbrev pub returned_with : List ℕ → Hart → Hart
 returned_with registers h = past_ecall (record h { registers = registers })
 
 -- the answer that a call with this result takes
-abbrev pub answered : Ret → Made → List ℕ → Machine → Now
-answered returns.Unit call answers m =
-    called call (returned_with (filled destroyed m.hart.registers) m.hart) answers m
-answered (returns.Comp c) call [] m = Over m.calls (Asks call)
-answered (returns.Comp c) call (a ∷ answers) m =
-    called call (returned_with (with_register a0 a (filled destroyed m.hart.registers)) m.hart) answers m
+abbrev pub machine_answered : Ret → Made → List ℕ → Machine → Now
+machine_answered returns.Unit call answers m =
+    called call (returned_with (filled_registers destroyed m.hart.registers) m.hart) answers m
+machine_answered (returns.Comp c) call [] m = Over m.calls (Asks call)
+machine_answered (returns.Comp c) call (a ∷ answers) m =
+    called call (returned_with (with_register a0 a (filled_registers destroyed m.hart.registers)) m.hart) answers m
 
 abbrev pub external : Option External → Machine → Now
 external None m = Over m.calls (Stopped BadService)
-external (Some e) m = answered e.result (call_made e m.hart) m.answers m
+external (Some e) m = machine_answered e.result (call_made e m.hart) m.answers m
 
 -- ---- allocation
 
@@ -99,13 +99,13 @@ after_allocation (Refused cause) m = Over m.calls (Stopped cause)
 
 -- what a frame call destroys
 abbrev pub cleared : Hart → Hart
-cleared h = record h { registers = filled destroyed h.registers }
+cleared h = record h { registers = filled_registers destroyed h.registers }
 
 -- The call has two answers. Where the first is 0 the second is its value; else the second is raised, where
 -- there is a trap frame.
 abbrev pub concluded : Ret → Made → ℕ → ℕ → List ℕ → Hart → Machine → Now
 concluded result call zero value answers h m =
-    called call (returned_with (with_answer result value (filled destroyed h.registers)) h) answers m
+    called call (returned_with (with_answer result value (filled_registers destroyed h.registers)) h) answers m
 concluded result call (suc first) value answers h m =
     cond (has_trap_frame h) (called call (raised value (cleared h)) answers m) (Over m.calls (Stopped BadFrame))
 
@@ -117,15 +117,15 @@ after_collection result call first value answers NoHeap m = Over m.calls HeapOut
 after_collection result call first value answers (Refused cause) m = Over m.calls (Stopped cause)
 
 -- a frame call takes two answers; where they are not left it takes none, and no block moves
-abbrev pub frame_answered : (List Placed → List ℕ) → Ret → Made → List ℕ → Machine → Now
-frame_answered plan result call [] m = Over m.calls (Asks call)
-frame_answered plan result call (first ∷ []) m = Over m.calls (Asks call)
-frame_answered plan result call (first ∷ value ∷ answers) m =
+abbrev pub machine_frame_answered : (List Placed → List ℕ) → Ret → Made → List ℕ → Machine → Now
+machine_frame_answered plan result call [] m = Over m.calls (Asks call)
+machine_frame_answered plan result call (first ∷ []) m = Over m.calls (Asks call)
+machine_frame_answered plan result call (first ∷ value ∷ answers) m =
     after_collection result call first value answers (collected plan m.hart) m
 
 abbrev pub frame_call : (List Placed → List ℕ) → Option External → Machine → Now
 frame_call plan None m = Over m.calls (Stopped BadService)
-frame_call plan (Some e) m = frame_answered plan e.result (call_made e m.hart) m.answers m
+frame_call plan (Some e) m = machine_frame_answered plan e.result (call_made e m.hart) m.answers m
 
 -- ---- by the number in t2; t0 has the number of the external call, or the bytes asked for
 
@@ -136,9 +136,9 @@ external_at h = slice_get h.image.extcs (register h t0)
 -- each of these is to start.
 abbrev pub served : (ℕ → List Placed → List ℕ) → ℕ → Machine → Now
 served plan zero m = Over m.calls (Returned (value_returned m.result m.hart))
-served plan (suc zero) m = Over m.calls (Raised (observed m.hart Val (register m.hart a0)))
+served plan (suc zero) m = Over m.calls (Raised (observed_word m.hart Val (register m.hart a0)))
 served plan (suc (suc zero)) m = external (external_at m.hart) m
-served plan (suc (suc (suc zero))) m = after_allocation (allocated (plan m.hart.services) m.hart) m
+served plan (suc (suc (suc zero))) m = after_allocation (allocation_served (plan m.hart.services) m.hart) m
 served plan (suc (suc (suc (suc zero)))) m =
     frame_call (plan m.hart.services) (external_at m.hart) m
 served plan _ m = Over m.calls (Stopped BadService)

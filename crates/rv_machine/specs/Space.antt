@@ -25,7 +25,7 @@ abbrev pub HasCells : Placed → Type 0
 HasCells b = 1 ≤ b.words
 
 -- A block of the table: it has a cell, and lies in the heap.
-pub record IsKept (heap : ℕ) (b : Placed) : Type 0 where
+pub record IsHeapBlock (heap : ℕ) (b : Placed) : Type 0 where
   pub some : 1 ≤ b.words
   pub inside : is_in_heap heap b ≡ true
 
@@ -33,5 +33,5 @@ pub record IsKept (heap : ℕ) (b : Placed) : Type 0 where
 pub record IsHeap (heap : ℕ) (blocks : List Placed) : Type 0 where
   pub aligned : heap % 16 ≡ 0
   pub most : heap ≤ most_room
-  pub each : AllByRecursion (IsKept heap) blocks
+  pub each : AllByRecursion (IsHeapBlock heap) blocks
   pub fits : bytes_used blocks ≤ heap

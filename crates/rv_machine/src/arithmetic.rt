@@ -1,7 +1,7 @@
 //! What the rows of the instruction table compute (RISC-V Unprivileged ISA manual, "RV64I" and "M").
 //! Nothing here takes memory or fails.
 ghost use Rattle.std.specs.Prelude.{◌≡◌, ◌*◌, ◌/◌, ◌<◌, ◌^◌};
-ghost use Rattle.rv_machine.specs.Arithmetic.{imm_i, imm_b, imm_j, imm_u, alu, alu_imm, alu_word, shift, shift_word, extended, low, is_less, is_taken, sar_low};
+ghost use Rattle.rv_machine.specs.Arithmetic.{imm_i, imm_b, imm_j, imm_u, alu, alu_imm, alu_word, shift, shift_word, sign_extended, low, is_less, is_taken, sar_low};
 ghost use Rattle.rv_machine.specs.Hart.{register_loaded, bytes_loaded, bytes_stored};
 ghost use Rattle.bs_words.specs.Memory.{IsWidth};
 
@@ -160,7 +160,7 @@ fn low(a: u64) -> u64
 
 /// The lowest 32 bits of a word, extended by their sign.
 pub fn extended(a: u64) -> u64
-    ensures exact { result ≡ extended a }
+    ensures exact { result ≡ sign_extended a }
 {
     bs_words::sext(a, 32)
 }
@@ -185,14 +185,14 @@ pub fn alu_word(op: AluWordOp, a: u64, b: u64) -> u64
 
 fn shl_low(a: u64, k: u32) -> u64
     requires { k < 32 }
-    ensures { result ≡ extended (a * 2 ^ k) }
+    ensures { result ≡ sign_extended (a * 2 ^ k) }
 {
     extended(bs_words::shl(a, k))
 }
 
 fn shr_low(a: u64, k: u32) -> u64
     requires { k < 32 }
-    ensures { result ≡ extended (low a / 2 ^ k) }
+    ensures { result ≡ sign_extended (low a / 2 ^ k) }
 {
     extended(bs_words::shr(low(a), k))
 }

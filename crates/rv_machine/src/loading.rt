@@ -7,7 +7,7 @@ ghost use Rattle.image_form.specs.Image.{IsImage};
 ghost use Rattle.image_form.specs.Tables.{tables, func, sym};
 ghost use Rattle.rv_machine.specs.Start.{start_memory, padded};
 ghost use Rattle.rv_machine.specs.Loading.{IsRoom, beginning, func_named, sym_named, address_of, word_of_arg, suited};
-ghost use Rattle.rv_machine.specs.Loading.{takes, words_of_args, AreStartRegisters, IsStart};
+ghost use Rattle.rv_machine.specs.Loading.{takes_word, words_of_args, AreStartRegisters, IsStart};
 
 use crate::code::CODE_START;
 use crate::machine::{Machine, Room};
@@ -60,7 +60,7 @@ pub fn word_of_arg(image: &Image, arg: &Arg) -> Option<u64>
 // Whether a parameter of this type takes a word.
 fn takes(image: &Image, comp: Comp, word: u64) -> bool
     requires { length (contents image.now.bytes) ≤ data_limit }
-    ensures { result ≡ takes (tables image.now) comp word }
+    ensures { result ≡ takes_word (tables image.now) comp word }
 {
     match comp {
         Comp::Int | Comp::Addr => true,

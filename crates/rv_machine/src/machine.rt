@@ -4,12 +4,12 @@ ghost use Rattle.image_form.specs.Image.{IsImage};
 ghost use Rattle.image_form.specs.Tables.{tables};
 ghost use Rattle.rv_machine.specs.Hart.{Hart, register, fetch, readable, sets, goes_to};
 ghost use Rattle.rv_machine.specs.Loading.{IsRoom};
-ghost use Rattle.rv_machine.specs.Memory.{loaded, stored};
+ghost use Rattle.rv_machine.specs.Memory.{loaded_number, stored_number};
 ghost use Rattle.rv_machine.specs.Space.{IsSpace};
 ghost use Rattle.rv_machine.specs.Start.{idle};
 ghost use Rattle.std.specs.Vec.{vec_capacity};
 ghost use Rattle.bs_words.specs.Memory.{IsWidth};
-ghost use Rattle.rv_machine.specs.Step.{counted, counted_next, next_of, Keeps, Stores, registers_after};
+ghost use Rattle.rv_machine.specs.Step.{with_retired_counted, counted_next, next_of, StaysUnlessRetired, Stores, registers_after};
 ghost use Rattle.rv_machine.specs.Services.{cleared, returned_with};
 ghost use Rattle.rv_machine.specs.FrameCalls.{has_trap_frame, raised};
 ghost use Rattle.rv_machine.specs.Run.{asked};
@@ -170,7 +170,7 @@ impl<'a> Machine<'a> {
     // The next instruction is at `address`, and nothing else changes.
     pub(crate) fn go_to(&mut self, address: u64) -> StepEnd
         ensures exact { next_of result self.new ≡ counted_next (goes_to address self.old) }
-        ensures kept { Keeps result self.old self.new }
+        ensures kept { StaysUnlessRetired result self.old self.new }
     {
         self.pc = address;
         self.retired = self.retired.saturating_add(1);
@@ -181,7 +181,7 @@ impl<'a> Machine<'a> {
     pub(crate) fn set(&mut self, rd: u8, value: u64, address: u64) -> StepEnd
         requires number { rd < 32 }
         ensures exact { next_of result self.new ≡ counted_next (sets rd value address self.old) }
-        ensures kept { Keeps result self.old self.new }
+        ensures kept { StaysUnlessRetired result self.old self.new }
     {
         if rd == Register::Sp as u8 && value < self.stack_base {
             return StepEnd::StackOut;
@@ -197,7 +197,7 @@ impl<'a> Machine<'a> {
     // The number in `width` bytes at an address, where that is aligned and may be read.
     pub(crate) fn loaded(&self, address: u64, width: u64) -> Option<u64>
         requires { IsWidth width }
-        ensures exact { result ≡ loaded (readable self.now) address width }
+        ensures exact { result ≡ loaded_number (readable self.now) address width }
         ensures below { IfSome result (λ n. n < 2 ^ (8 * width)) }
     {
         if !is_aligned(address, width) {
@@ -213,7 +213,7 @@ impl<'a> Machine<'a> {
     // written.
     pub(crate) fn stored(&mut self, address: u64, width: u64, value: u64) -> bool
         requires { IsWidth width }
-        ensures { Stores result (stored self.old.memory address width value) self.old self.new }
+        ensures { Stores result (stored_number self.old.memory address width value) self.old self.new }
     {
         self.memory.store(address, width, value)
     }
@@ -249,7 +249,7 @@ impl<'a> Machine<'a> {
     pub fn finish_call(&mut self, answer: Option<u64>)
         requires near { self.old.pc < 2 ^ 32 }
         ensures { self.new
-            ≡ counted (returned_with (registers_after answer self.old.registers) self.old) }
+            ≡ with_retired_counted (returned_with (registers_after answer self.old.registers) self.old) }
     {
         destroy(&mut self.registers);
         if let Some(answer) = answer {
@@ -270,7 +270,7 @@ impl<'a> Machine<'a> {
     /// Goes on after a frame call that raises a value, at the address in the innermost trap frame.
     pub fn raise(&mut self, value: u64)
         requires { has_trap_frame self.old ≡ true }
-        ensures { self.new ≡ counted (raised value (cleared self.old)) }
+        ensures { self.new ≡ with_retired_counted (raised value (cleared self.old)) }
     {
         destroy(&mut self.registers);
         let at = self.registers[Register::S1 as usize];

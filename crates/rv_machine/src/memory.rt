@@ -1,7 +1,7 @@
 //! The memory that may be written: six regions.
 ghost use Rattle.std.specs.Prelude.{◌≡◌, ◌==◌, ◌*◌, ◌%◌, ◌^◌, ◌<◌, [], ◌∷◌, IfSome};
-ghost use Rattle.rv_machine.specs.Memory.{read, written, loaded, stored, word, write};
-ghost use Rattle.rv_machine.specs.Writes.{Writes};
+ghost use Rattle.rv_machine.specs.Memory.{read, written, loaded_number, stored_number, memory_word, write};
+ghost use Rattle.rv_machine.specs.Writes.{ReportsWrite};
 ghost use Rattle.bs_words.specs.Memory.{IsWidth};
 
 use crate::region::Region;
@@ -81,7 +81,7 @@ impl Memory {
     pub fn write(&mut self, address: u64, width: u64, value: u64) -> bool
         requires width { IsWidth width }
         requires aligned { address % width ≡ 0 }
-        ensures { Writes result (written self.old address width value) self.old self.new }
+        ensures { ReportsWrite result (written self.old address width value) self.old self.new }
     {
         if self.statics.has(address, width) {
             self.statics.write(address, width, value);
@@ -113,7 +113,7 @@ impl Memory {
     /// The number in `width` bytes at `address`, where that is a multiple of the width and a region has them.
     pub fn load(&self, address: u64, width: u64) -> Option<u64>
         requires { IsWidth width }
-        ensures exact { result ≡ loaded self.now address width }
+        ensures exact { result ≡ loaded_number self.now address width }
         ensures below { IfSome result (λ n. n < 2 ^ (8 * width)) }
     {
         if is_aligned(address, width) {
@@ -125,7 +125,7 @@ impl Memory {
 
     /// The word at an address; 0 where that is no multiple of 8 or no region has a word there.
     pub fn word(&self, address: u64) -> u64
-        ensures { result ≡ word self.now address }
+        ensures { result ≡ memory_word self.now address }
     {
         self.load(address, 8).unwrap_or(0)
     }
@@ -140,7 +140,7 @@ impl Memory {
     /// Writes as `write` does, where the address is a multiple of the width.
     pub fn store(&mut self, address: u64, width: u64, value: u64) -> bool
         requires { IsWidth width }
-        ensures { Writes result (stored self.old address width value) self.old self.new }
+        ensures { ReportsWrite result (stored_number self.old address width value) self.old self.new }
     {
         is_aligned(address, width) && self.write(address, width, value)
     }

@@ -1,7 +1,7 @@
 //! What an observer sees of a word of the machine.
 ghost use Rattle.std.specs.Prelude.{◌≡◌, ◌<◌, ◌^◌, ◌&&◌, nat_le, reverse, IfSome};
 ghost use Rattle.rv_machine.specs.Hart.{register};
-ghost use Rattle.rv_machine.specs.Observation.{observed, all_blocks, serial_from, young_blocks, or_none, passed};
+ghost use Rattle.rv_machine.specs.Observation.{observed_word, all_blocks, serial_from, young_blocks, or_none, passed};
 
 use crate::blocks::BlockPlace;
 use crate::machine::Machine;
@@ -14,7 +14,7 @@ impl<'a> Machine<'a> {
     /// What an observer sees of a word of that type: a val that is a block's start is the block, and
     /// every other word is itself. The young blocks are read from the memory. It takes no memory.
     pub fn observe(&self, comp: Comp, word: u64) -> Obs
-        ensures { result ≡ observed self.now comp word }
+        ensures { result ≡ observed_word self.now comp word }
     {
         match comp {
             Comp::Val => match self.serial_of(word) {

@@ -1,7 +1,7 @@
 //! The memory and the registers at the start of a run.
 ghost use Rattle.std.specs.Prelude.{◌≡◌, ◌+◌, ◌*◌, ◌%◌, ◌^◌, ◌<◌, ◌≤◌, length, IfOk};
 ghost use Rattle.bs_words.specs.Fits.{data_limit};
-ghost use Rattle.rv_machine.specs.Memory.{number_of, words_of_bytes};
+ghost use Rattle.rv_machine.specs.Memory.{number_from_bytes, words_of_bytes};
 ghost use Rattle.rv_machine.specs.Places.{most_room};
 ghost use Rattle.rv_machine.specs.Start.{uniform, data_region, domain_region, stack_region};
 
@@ -92,7 +92,7 @@ fn words_of_bytes(alloc: Global, bytes: &[u8]) -> Result<Vec<u64>, AllocError>
 // The number of at most eight bytes, the lowest first.
 fn number_of(bytes: &[u8]) -> u64
     requires { length bytes.now ≤ 8 }
-    ensures exact { result ≡ number_of bytes.now }
+    ensures exact { result ≡ number_from_bytes bytes.now }
     ensures below { result < 256 ^ length bytes.now }
 {
     match bytes {

@@ -1,9 +1,9 @@
 //! One instruction of the hart.
 ghost use Rattle.std.specs.Prelude.{◌≡◌, ◌+◌, ◌-◌, ◌^◌, ◌<◌};
 ghost use Rattle.rv_isa.specs.Encoding.{InstrFits};
-ghost use Rattle.rv_machine.specs.Hart.{executed, hart, jumps, sets};
-ghost use Rattle.rv_machine.specs.Memory.{loaded};
-ghost use Rattle.rv_machine.specs.Step.{counted_next, next_of, Keeps, IsNear};
+ghost use Rattle.rv_machine.specs.Hart.{executed, hart, jumps_if_aligned, sets};
+ghost use Rattle.rv_machine.specs.Memory.{loaded_number};
+ghost use Rattle.rv_machine.specs.Step.{counted_next, next_of, StaysUnlessRetired, IsNear};
 
 use crate::arithmetic;
 use crate::cause::Cause;
@@ -19,7 +19,7 @@ impl<'a> Machine<'a> {
     #[tactic(auto, unfolding(crate::specs::Hart::hart))]
     pub fn step(&mut self) -> StepEnd
         ensures exact { next_of result self.new ≡ counted_next (hart self.old) }
-        ensures kept { Keeps result self.old self.new }
+        ensures kept { StaysUnlessRetired result self.old self.new }
         ensures near { IsNear result self.new }
     {
         let Some(word) = self.fetch() else {
@@ -36,7 +36,7 @@ impl<'a> Machine<'a> {
         requires fits { InstrFits instr }
         requires within { self.old.pc < 2 ^ 32 }
         ensures exact { next_of result self.new ≡ counted_next (executed instr self.old) }
-        ensures kept { Keeps result self.old self.new }
+        ensures kept { StaysUnlessRetired result self.old self.new }
     {
         let next = self.pc() + 4;
         match instr {
@@ -114,8 +114,8 @@ impl<'a> Machine<'a> {
         requires number { rd < 32 }
         requires within { self.old.pc < 2 ^ 32 }
         ensures exact { next_of result self.new
-            ≡ counted_next (jumps target (sets rd (self.old.pc + 4) target self.old)) }
-        ensures kept { Keeps result self.old self.new }
+            ≡ counted_next (jumps_if_aligned target (sets rd (self.old.pc + 4) target self.old)) }
+        ensures kept { StaysUnlessRetired result self.old self.new }
     {
         if target % 4 != 0 {
             return StepEnd::Stopped(Cause::BadFetch);
@@ -129,7 +129,7 @@ impl<'a> Machine<'a> {
         requires within { self.old.pc < 2 ^ 32 }
         ensures exact { next_of result self.new
             ≡ counted_next (executed (Instr.Branch condition rs1 rs2 offset) self.old) }
-        ensures kept { Keeps result self.old self.new }
+        ensures kept { StaysUnlessRetired result self.old self.new }
     {
         if !arithmetic::is_taken(condition, self.register(rs1), self.register(rs2)) {
             let next = self.pc() + 4;
@@ -147,7 +147,7 @@ impl<'a> Machine<'a> {
         requires within { self.old.pc < 2 ^ 32 }
         ensures exact { next_of result self.new
             ≡ counted_next (executed (Instr.Load width rd rs1 imm) self.old) }
-        ensures kept { Keeps result self.old self.new }
+        ensures kept { StaysUnlessRetired result self.old self.new }
     {
         let address = bs_words::add(self.register(rs1), arithmetic::imm_i(imm));
         let Some(bytes) = self.loaded(address, arithmetic::bytes_loaded(width)) else {
@@ -162,7 +162,7 @@ impl<'a> Machine<'a> {
         requires within { self.old.pc < 2 ^ 32 }
         ensures exact { next_of result self.new
             ≡ counted_next (executed (Instr.Store width rs1 rs2 imm) self.old) }
-        ensures kept { Keeps result self.old self.new }
+        ensures kept { StaysUnlessRetired result self.old self.new }
     {
         let address = bs_words::add(self.register(rs1), arithmetic::imm_i(imm));
         let value = self.register(rs2);

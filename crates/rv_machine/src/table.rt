@@ -1,6 +1,6 @@
 //! A table with a word for each word where a block may start.
 ghost use Rattle.std.specs.Prelude.{◌≡◌, ℕ, ◌==◌, ◌+◌, ◌/◌, ◌%◌, ◌≤◌, ◌<◌, cond, IfOk, IsSome, IfSome};
-ghost use Rattle.rv_machine.specs.Marks.{IsClean, mark_at, place_of};
+ghost use Rattle.rv_machine.specs.Marks.{IsClean, mark_at, mark_index};
 ghost use Rattle.rv_machine.specs.Places.{most_room};
 
 use crate::start::{LOWER_HALF, UPPER_HALF, YOUNG_START, YOUNG_TOP};
@@ -53,7 +53,7 @@ impl Table {
 
     /// Marks an address where a block may start.
     pub fn mark(&mut self, address: u64, mark: u64)
-        requires { IsSome (place_of self.old.heap address) }
+        requires { IsSome (mark_index self.old.heap address) }
         ensures same_heap { self.new.heap ≡ self.old.heap }
         ensures marked { (other : ℕ)
             → mark_at self.new other ≡ cond (other == address) mark (mark_at self.old other) }
@@ -68,7 +68,7 @@ impl Table {
 fn place_of(heap: u64, address: u64) -> Option<usize>
     requires aligned { heap % 16 ≡ 0 }
     requires most { heap ≤ most_room }
-    ensures exact { result ≡ place_of heap address }
+    ensures exact { result ≡ mark_index heap address }
     ensures within { IfSome result (λ place. place < 8192 + heap / 8 + heap / 8) }
 {
     if address % 8 != 0 {

@@ -30,13 +30,13 @@ external_named (piece.ExternalNumber r row) = Some row
 external_named _ = None
 
 -- the labels whose places are among the pieces, in order
-abbrev pub place_in : Piece → List ℕ
-place_in (piece.Label l) = l ∷ []
-place_in _ = []
+abbrev pub labels_of_piece : Piece → List ℕ
+labels_of_piece (piece.Label l) = l ∷ []
+labels_of_piece _ = []
 
 abbrev pub places_in : List Piece → List ℕ
 places_in [] = []
-places_in (p ∷ ps) = place_in p ++ places_in ps
+places_in (p ∷ ps) = labels_of_piece p ++ places_in ps
 
 -- the descriptors, in order
 abbrev pub mark_in : Piece → List Descr

@@ -2,9 +2,9 @@
 ghost use Rattle.std.specs.Prelude.{◌≡◌, ◌+◌, ◌≤◌, OnOk};
 ghost use Rattle.cmm_tree.specs.View.{expr_view};
 ghost use Rattle.cmm_types.specs.Annotated.{IsAnnotated};
-ghost use Rattle.selection_operands.specs.Below.{code_at, MayCall, Selects};
-ghost use Rattle.selection_scope.specs.Room.{HasRoom, most_tries};
-ghost use Rattle.selection_scope.specs.Scoping.{names_in};
+ghost use Rattle.selection_operands.specs.Below.{selected_code, MayCall, SelectsExpression};
+ghost use Rattle.selection_scope.specs.Room.{HasExpressionRoom, most_tries};
+ghost use Rattle.selection_scope.specs.Scoping.{scoped_names};
 
 use cmm_tree::{Expr, Form};
 use selection_code::backwards::Backwards;
@@ -26,12 +26,12 @@ fn form<F: Fn(&mut Scope, &mut Backwards, Place, &Expr) -> Result<(), AllocError
     expr: &Expr,
 ) -> Result<(), AllocError>
     requires callable { MayCall (F.pre below.now.select.now) below.now.first }
-    requires selects { Selects (F.post below.now.select.now) below.now.first }
+    requires selects { SelectsExpression (F.post below.now.select.now) below.now.first }
     requires tries { most_tries scope.old.labels ≤ place.base }
     requires begins { below.now.first ≡ place.base + 1 }
-    requires room { HasRoom place.base (expr_view expr.now) }
-    requires typed { IsAnnotated (names_in scope.old) expr.now }
-    ensures code { OnOk result (code.new ≡ code_at scope.old place expr.now code.old) }
+    requires room { HasExpressionRoom place.base (expr_view expr.now) }
+    requires typed { IsAnnotated (scoped_names scope.old) expr.now }
+    ensures code { OnOk result (code.new ≡ selected_code scope.old place expr.now code.old) }
     ensures scope { OnOk result (scope.new ≡ scope.old) }
 {
     let node = Node { ty: expr.ty, place };
@@ -120,18 +120,18 @@ pub fn expr_at(
     expr: &Expr,
 ) -> Result<(), AllocError>
     requires tries { most_tries scope.old.labels ≤ place.base }
-    requires room { HasRoom place.base (expr_view expr.now) }
-    requires typed { IsAnnotated (names_in scope.old) expr.now }
-    ensures code { OnOk result (code.new ≡ code_at scope.old place expr.now code.old) }
+    requires room { HasExpressionRoom place.base (expr_view expr.now) }
+    requires typed { IsAnnotated (scoped_names scope.old) expr.now }
+    ensures code { OnOk result (code.new ≡ selected_code scope.old place expr.now code.old) }
     ensures scope { OnOk result (scope.new ≡ scope.old) }
 {
     let first = place.base + 1;
     let select = |scope: &mut Scope, code: &mut Backwards, place: Place, expr: &Expr|
         requires tries { most_tries scope.old.labels ≤ first }
         requires begins { first ≤ place.base }
-        requires room { HasRoom place.base (expr_view expr.now) }
-        requires typed { IsAnnotated (names_in scope.old) expr.now }
-        ensures code { OnOk result (code.new ≡ code_at scope.old place expr.now code.old) }
+        requires room { HasExpressionRoom place.base (expr_view expr.now) }
+        requires typed { IsAnnotated (scoped_names scope.old) expr.now }
+        ensures code { OnOk result (code.new ≡ selected_code scope.old place expr.now code.old) }
         ensures scope { OnOk result (scope.new ≡ scope.old) }
     {
         // The clauses read it: a part's numbers begin later than its node's, and so selection ends.

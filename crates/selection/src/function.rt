@@ -3,7 +3,7 @@ ghost use Rattle.std.specs.Prelude.{◌≡◌, ◌+◌, ◌<◌, ◌≤◌, [], 
 ghost use Rattle.cmm_tree.specs.Tree.{functions, functions_among};
 ghost use Rattle.cmm_tree.specs.View.{function_view, item_view, file_view, params_view};
 ghost use Rattle.cmm_types.specs.Typing.{AreItemsAnnotated, IsFunctionAnnotated};
-ghost use Rattle.selection_rules.specs.Select.{first, seats, params_from, moves_all, selected};
+ghost use Rattle.selection_rules.specs.Select.{first_after_colours, seats, params_from, moves_all, selected};
 ghost use Rattle.selection.specs.Whole.{numbers_in, body_code};
 ghost use Rattle.selection_scope.specs.Room.{IsSelectable, most_numbers};
 
@@ -115,11 +115,11 @@ fn put_params(
     moved: u32,
     code: &mut Backwards,
 ) -> Result<Seq<Reg>, AllocError>
-    requires after { first ≤ moved }
+    requires after { first_after_colours ≤ moved }
     requires room { moved + length params.now < most_numbers }
-    ensures params { IfOk result (λ given. given ≡ seats 0 first (params_from moved
+    ensures params { IfOk result (λ given. given ≡ seats 0 first_after_colours (params_from moved
         (params_view params.now))) }
-    ensures code { IfOk result (λ _. code.new ≡ moves_all (seats 0 first (params_from moved
+    ensures code { IfOk result (λ _. code.new ≡ moves_all (seats 0 first_after_colours (params_from moved
         (params_view params.now))) (params_from moved (params_view params.now)) code.old) }
 {
     let own = params_from(alloc, moved, params)?;

@@ -4,7 +4,7 @@ use Rattle.bs_words.specs.declared.operators.IntOp.{IntOp}
 use Rattle.cmm_tree.specs.Tree.{Expression, Integer, Pointer, Symbol, Name, Nothing, Float, Let, Assign, Operator, Load, Store, Alloc, App, Extcall, Checkbound, Raise, Seq, If, Switch, Catch, Exit, Try}
 use Rattle.mach_ir.specs.declared.op.Right.TheVariants as right
 use Rattle.mach_ir.specs.Forms.{is_immediate}
-use Rattle.selection_rules.specs.Select.{immediate_of, commuted, if_commuted, right_immediate, left_immediate, power_of, exponent_from, right_of}
+use Rattle.selection_rules.specs.Select.{immediate_of, commuted, if_commuted, right_immediate, left_immediate, power_of, exponent_from, bound_test_operand}
 use Rattle.selection_code.specs.Shapes.{integer_of}
 
 -- what is said of the word, if there is one
@@ -84,7 +84,7 @@ power_told (Catch at body handlers) = refl
 power_told (Exit at label_at label arguments) = refl
 power_told (Try at body name_at name handler) = refl
 
-pub bound_told : (f : IntOp) (e : Expression) → right_of f e ≡ told right.Register (λ w. cond (is_immediate f w) (right.Constant w) right.Register) (integer_of e)
+pub bound_told : (f : IntOp) (e : Expression) → bound_test_operand f e ≡ told right.Register (λ w. cond (is_immediate f w) (right.Constant w) right.Register) (integer_of e)
 bound_told f (Integer at w) = refl
 bound_told f (Pointer at w) = refl
 bound_told f (Symbol at name) = refl
@@ -128,8 +128,8 @@ power_some e w h = power_told e ∙ ap (told None (exponent_from 62 1)) (sym h)
 pub power_none : (e : Expression) → None ≡ integer_of e → power_of e ≡ None
 power_none e h = power_told e ∙ ap (told None (exponent_from 62 1)) (sym h)
 
-pub bound_some : (f : IntOp) (e : Expression) (w : ℕ) → Some w ≡ integer_of e → right_of f e ≡ cond (is_immediate f w) (right.Constant w) right.Register
+pub bound_some : (f : IntOp) (e : Expression) (w : ℕ) → Some w ≡ integer_of e → bound_test_operand f e ≡ cond (is_immediate f w) (right.Constant w) right.Register
 bound_some f e w h = bound_told f e ∙ ap (told right.Register (λ w. cond (is_immediate f w) (right.Constant w) right.Register)) (sym h)
 
-pub bound_none : (f : IntOp) (e : Expression) → None ≡ integer_of e → right_of f e ≡ right.Register
+pub bound_none : (f : IntOp) (e : Expression) → None ≡ integer_of e → bound_test_operand f e ≡ right.Register
 bound_none f e h = bound_told f e ∙ ap (told right.Register (λ w. cond (is_immediate f w) (right.Constant w) right.Register)) (sym h)

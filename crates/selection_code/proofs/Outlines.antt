@@ -1,7 +1,7 @@
 -- Expressions that have no outline of their own are no integers and no symbols.
 use Rattle.std.proofs.Common.{◌≡◌, None, refl}
 use Rattle.cmm_tree.specs.Tree.{Expression, Integer, Pointer, Symbol, Name, Nothing, Float, Let, Assign, Operator, Load, Store, Alloc, App, Extcall, Checkbound, Raise, Seq, If, Switch, Catch, Exit, Try}
-use Rattle.selection_rules.specs.Select.{symbol_of}
+use Rattle.selection_rules.specs.Select.{called_symbol}
 use Rattle.selection_code.specs.Shapes.{integer_of}
 use Rattle.selection_scope.specs.Outlines.{IsOther}
 
@@ -29,7 +29,7 @@ other_integer (Catch at body handlers) o = refl
 other_integer (Exit at label_at label arguments) o = refl
 other_integer (Try at body name_at name handler) o = refl
 
-pub other_symbol : (e : Expression) → IsOther e → symbol_of e ≡ None
+pub other_symbol : (e : Expression) → IsOther e → called_symbol e ≡ None
 other_symbol (Integer at w) o = absurd o
 other_symbol (Pointer at w) o = refl
 other_symbol (Symbol at name) o = absurd o

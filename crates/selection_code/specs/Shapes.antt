@@ -11,7 +11,7 @@ use Rattle.selection_code.specs.declared.shape.Shape.TheVariants as shape
 abbrev pub immediate_view : Immediate → select.Immediate
 immediate_view i = record { op = i.op; word = i.word }
 
-abbrev pub shape_view : Shape → select.Shape
+abbrev pub shape_view : Shape → select.OperandShape
 shape_view shape.InRegisters = select.InRegisters
 shape_view (shape.ConstantRight i) = select.ConstantRight (immediate_view i)
 shape_view (shape.ConstantLeft i) = select.ConstantLeft (immediate_view i)
@@ -23,16 +23,16 @@ integer_of (Integer at w) = Some w
 integer_of _ = None
 
 -- which operands are put into registers
-abbrev pub needs_left : select.Shape → Bool
+abbrev pub needs_left : select.OperandShape → Bool
 needs_left (select.ConstantLeft i) = false
 needs_left _ = true
 
-abbrev pub needs_right : select.Shape → Bool
+abbrev pub needs_right : select.OperandShape → Bool
 needs_right (select.ConstantRight i) = false
 needs_right (select.PowerRight k) = false
 needs_right _ = true
 
 -- whether the right operand of a bound test is in a register
-abbrev pub is_register : Right → Bool
-is_register right.Register = true
-is_register (right.Constant w) = false
+abbrev pub is_register_operand : Right → Bool
+is_register_operand right.Register = true
+is_register_operand (right.Constant w) = false

@@ -54,7 +54,7 @@ impl Backwards {
 
     /// Puts an operation on these registers before the others. The only error is want of memory.
     pub fn operation(&mut self, op: Op, args: &[Reg], results: &[Reg]) -> Result<(), AllocError>
-        ensures { OnOk result (self.new ≡ emit.operation op args.now results.now ∷ self.old) }
+        ensures { OnOk result (self.new ≡ emit.operation_instr op args.now results.now ∷ self.old) }
     {
         let args = row(self.alloc, args)?;
         let results = row(self.alloc, results)?;
@@ -68,7 +68,7 @@ impl Backwards {
     /// Puts an operation on these rows of registers before the others.
     /// The only error is want of memory.
     pub fn on_rows(&mut self, op: Op, args: &Regs, results: &Regs) -> Result<(), AllocError>
-        ensures { OnOk result (self.new ≡ emit.operation op args.now results.now ∷ self.old) }
+        ensures { OnOk result (self.new ≡ emit.operation_instr op args.now results.now ∷ self.old) }
     {
         let args = args.to_seq(self.alloc)?;
         let results = results.to_seq(self.alloc)?;
@@ -81,7 +81,7 @@ impl Backwards {
 
     /// Puts a mark with these registers before the others. The only error is want of memory.
     pub fn mark(&mut self, mark: Mark, args: &[Reg], results: &[Reg]) -> Result<(), AllocError>
-        ensures { OnOk result (self.new ≡ record (emit.bare mark) {
+        ensures { OnOk result (self.new ≡ record (emit.bare_mark mark) {
           args = args.now;
           results = results.now;
         } ∷ self.old) }
@@ -97,7 +97,7 @@ impl Backwards {
 
     /// Puts a mark without registers before the others. The only error is want of memory.
     pub fn bare(&mut self, mark: Mark) -> Result<(), AllocError>
-        ensures { OnOk result (self.new ≡ emit.bare mark ∷ self.old) }
+        ensures { OnOk result (self.new ≡ emit.bare_mark mark ∷ self.old) }
     {
         self.put(Instr {
             op: MachOp::Mark(mark),

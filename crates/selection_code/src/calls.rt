@@ -3,8 +3,8 @@ ghost use Rattle.std.specs.Prelude.{◌≡◌, [], ◌∷◌, ◌++◌, true, fa
 ghost use Rattle.cmm_tree.specs.View.{expr_view};
 ghost use Rattle.mach_ir.specs.declared.op.Callee.{Callee};
 ghost use Rattle.selection_rules.specs.Instructions as emit;
-ghost use Rattle.selection_rules.specs.Select.{symbol_of, callee_of, callee_regs, call_of, from_seat, result_seat, seat, tail_result, exit_to, to_seat};
-ghost use Rattle.selection_rules.specs.Select.{returns};
+ghost use Rattle.selection_rules.specs.Select.{called_symbol, callee_of, callee_regs, call_of, from_seat, result_seat, seat, tail_result, exit_to_handler, to_seat};
+ghost use Rattle.selection_rules.specs.Select.{return_code};
 ghost use Rattle.selection_scope.specs.Scoping.{target_view};
 
 use crate::backwards::Backwards;
@@ -20,7 +20,7 @@ use std::alloc::{AllocError, Global};
 /// The name of an expression that is a symbol: a function that is called by its symbol needs no register.
 #[tactic(auto, using(crate::proofs::Outlines::other_symbol))]
 pub fn symbol_of(expr: &Expr) -> Option<&Name>
-    ensures { option_copied result ≡ symbol_of (expr_view expr.now) }
+    ensures { option_copied result ≡ called_symbol (expr_view expr.now) }
 {
     match outline_of(expr) {
         Outline::Symbol(name) => Some(name),
@@ -31,7 +31,7 @@ pub fn symbol_of(expr: &Expr) -> Option<&Name>
 
 /// Whom a call of the expression calls.
 fn callee_of(code: &Backwards, callee: &Expr) -> Result<Callee, AllocError>
-    ensures { IfOk result (λ whom. whom ≡ callee_of (symbol_of (expr_view callee.now))) }
+    ensures { IfOk result (λ whom. whom ≡ callee_of (called_symbol (expr_view callee.now))) }
 {
     match symbol_of(callee) {
         Some(name) => Ok(Callee::Symbol(code.copy_of(name)?)),
@@ -42,7 +42,7 @@ fn callee_of(code: &Backwards, callee: &Expr) -> Result<Callee, AllocError>
 /// The operands of a call: the register of the callee where it is called by one, and the arguments.
 fn operands_of(alloc: Global, callee: &Expr, register: Reg, args: &Regs) -> Result<Regs, AllocError>
     ensures { IfOk result (λ all. all ≡ callee_regs
-        (symbol_of (expr_view callee.now)) register ++ args.now) }
+        (called_symbol (expr_view callee.now)) register ++ args.now) }
 {
     let mut all = Regs::new(alloc);
     if symbol_of(callee).is_none() {
@@ -94,7 +94,7 @@ impl Backwards {
     /// A call that takes the place of its function.
     fn tail_call(&mut self, call: Call, callee: &Expr, args: &Regs) -> Result<(), AllocError>
         ensures { OnOk result (self.new ≡ call_of true call.valued call.written
-            (symbol_of (expr_view callee.now)) call.register args.now call.given
+            (called_symbol (expr_view callee.now)) call.register args.now call.given
             call.dest self.old) }
     {
         let all = operands_of(self.alloc(), callee, call.register, args)?;
@@ -110,7 +110,7 @@ impl Backwards {
     /// A call that comes back.
     fn inner_call(&mut self, call: Call, callee: &Expr, args: &Regs) -> Result<(), AllocError>
         ensures { OnOk result (self.new ≡ call_of false call.valued call.written
-            (symbol_of (expr_view callee.now)) call.register args.now call.given
+            (called_symbol (expr_view callee.now)) call.register args.now call.given
             call.dest self.old) }
     {
         self.from_seat(call.given, call.written, call.dest)?;
@@ -127,7 +127,7 @@ impl Backwards {
     /// The call of a function whose arguments are in their seats. The only error is want of memory.
     pub fn call(&mut self, call: Call, callee: &Expr, args: &Regs) -> Result<(), AllocError>
         ensures { OnOk result (self.new ≡ call_of call.tail call.valued call.written
-            (symbol_of (expr_view callee.now)) call.register args.now call.given
+            (called_symbol (expr_view callee.now)) call.register args.now call.given
             call.dest self.old) }
     {
         if call.tail {
@@ -147,7 +147,7 @@ impl Backwards {
         args: &Regs,
         results: &Regs,
     ) -> Result<(), AllocError>
-        ensures { OnOk result (self.new ≡ emit.external name.now params written frame args.now
+        ensures { OnOk result (self.new ≡ emit.external_instruction name.now params written frame args.now
             results.now ∷ self.old) }
     {
         let row = External {
@@ -161,7 +161,7 @@ impl Backwards {
     /// An exit to a handler: the values go from these registers to its parameters. To none there is no code.
     /// The only error is want of memory.
     pub fn exit_to(&mut self, target: Option<&Target>, from: &Regs) -> Result<(), AllocError>
-        ensures { OnOk result (self.new ≡ exit_to (option_map target_view
+        ensures { OnOk result (self.new ≡ exit_to_handler (option_map target_view
             (option_copied target.entry)) from.now self.old) }
     {
         match target {
@@ -190,7 +190,7 @@ impl Backwards {
     /// The only error is want of memory.
     pub fn returns(&mut self, from: Reg, number: u32, given: Ret) -> Result<(), AllocError>
         requires { self.old ≡ [] }
-        ensures { OnOk result (self.new ≡ returns from number given) }
+        ensures { OnOk result (self.new ≡ return_code from number given) }
     {
         let values = result_seat(self.alloc(), number, given)?;
         self.give_back(&values)?;

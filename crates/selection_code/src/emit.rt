@@ -272,7 +272,7 @@ impl Backwards {
     /// A bound test: its right operand is a constant, or is in `index`.
     /// The only error is want of memory.
     pub fn checkbound(&mut self, right: Right, bound: Reg, index: Reg) -> Result<(), AllocError>
-        ensures { OnOk result (self.new ≡ emit.checkbound right bound index ∷ self.old) }
+        ensures { OnOk result (self.new ≡ emit.checkbound_instr right bound index ∷ self.old) }
     {
         let op = Op::Leaving(Leaving::Checkbound(right));
         match right {

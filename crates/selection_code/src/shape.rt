@@ -3,9 +3,9 @@ ghost use Rattle.std.specs.Prelude.{◌≡◌, ◌+◌, ◌^◌, ◌≤◌, opti
 ghost use Rattle.cmm_tree.specs.View.{expr_view};
 ghost use Rattle.mach_ir.specs.Forms.{is_immediate, is_immediate_12, is_opposite_immediate_12};
 ghost use Rattle.selection_rules.specs.Select.{exponent_from, immediate_of, turned_round, commuted, immediate_if, shift_by, if_commuted, right_immediate};
-ghost use Rattle.selection_rules.specs.Select.{left_immediate, power_of, power_shape, shape, shape_of, shape_op, shape_right, right_of, bound_test};
+ghost use Rattle.selection_rules.specs.Select.{left_immediate, power_of, power_shape, shape, operation_shape, shape_op, shape_right, bound_test_operand, bound_test};
 ghost use Rattle.selection_rules.specs.Select.{comparison, is_address_sum, is_based};
-ghost use Rattle.selection_code.specs.Shapes.{immediate_view, shape_view, integer_of, needs_left, needs_right, is_register};
+ghost use Rattle.selection_code.specs.Shapes.{immediate_view, shape_view, integer_of, needs_left, needs_right, is_register_operand};
 
 use bs_words::{CmpOp, IntOp};
 use cmm_tree::Expr;
@@ -250,7 +250,7 @@ fn power_shape(exponent: Option<u32>) -> Shape
 
 /// Where the operands of the operator are.
 pub fn shape_of(op: IntOp, left: &Expr, right: &Expr) -> Shape
-    ensures { shape_view result ≡ shape_of op (expr_view left.now) (expr_view right.now) }
+    ensures { shape_view result ≡ operation_shape op (expr_view left.now) (expr_view right.now) }
 {
     match op {
         IntOp::Div | IntOp::Mod => power_shape(power_of(right)),
@@ -323,7 +323,7 @@ impl Shape {
 
 /// The right operand of a bound test: a constant where the machine has an immediate for it.
 pub fn right_of_bound(index: &Expr) -> Right
-    ensures { result ≡ right_of bound_test (expr_view index.now) }
+    ensures { result ≡ bound_test_operand bound_test (expr_view index.now) }
 {
     match integer(index) {
         Some(word) => {
@@ -339,7 +339,7 @@ pub fn right_of_bound(index: &Expr) -> Right
 
 /// Whether the right operand of a bound test is in a register.
 pub fn is_register(right: Right) -> bool
-    ensures { result ≡ is_register right }
+    ensures { result ≡ is_register_operand right }
 {
     match right {
         Right::Register => true,

@@ -9,15 +9,15 @@ use Rattle.cmm_types.specs.Lists.{AreBindingsAnnotated, with_binding}
 use Rattle.cmm_types.specs.Types.{Scoped, with_bindings, with_parameters}
 use Rattle.mach_ir.specs.declared.mach.Instr.{Instr}
 use Rattle.mach_ir.specs.declared.reg.Reg.{Reg}
-use Rattle.selection_rules.specs.Select.{Named, Label, scopes, bound_name, env_after, select, select_bound, width, width_bound, with_params, params_from}
+use Rattle.selection_rules.specs.Select.{NamedRegister, Label, scopes, bound_name, env_after, select, select_bound, width, width_bound, with_params, params_from}
 
 -- ---- the types of the names
 
-pub scopes-after : (env : List Named) (b : ℕ) (bs : Bindings) → scopes (env_after env b bs) ≡ with_bindings (scopes env) bs
+pub scopes-after : (env : List NamedRegister) (b : ℕ) (bs : Bindings) → scopes (env_after env b bs) ≡ with_bindings (scopes env) bs
 scopes-after env b NoBinding = refl
 scopes-after env b (Bind at name declared e rest) = scopes-after (bound_name env b name declared e ∷ env) (suc (b + width e)) rest
 
-pub scopes-params : (env : List Named) (b : ℕ) (ps : List Parameter) → scopes (with_params ps (params_from b ps) env) ≡ with_parameters ps (scopes env)
+pub scopes-params : (env : List NamedRegister) (b : ℕ) (ps : List Parameter) → scopes (with_params ps (params_from b ps) env) ≡ with_parameters ps (scopes env)
 scopes-params env b [] = refl
 scopes-params env b (p ∷ ps) = scopes-params _ (suc b) ps
 
@@ -26,7 +26,7 @@ grown [] x rest = refl
 grown (y ∷ front) x rest = ap (λ l. y ∷ l) (grown front x rest)
 
 -- parameters are before the names that were there
-pub params-front : (ps : List Parameter) (rs : List Reg) (env : List Named) → (front : List Named) × (with_params ps rs env ≡ front ++ env)
+pub params-front : (ps : List Parameter) (rs : List Reg) (env : List NamedRegister) → (front : List NamedRegister) × (with_params ps rs env ≡ front ++ env)
 params-front [] rs env = ([], refl)
 params-front (p ∷ ps) [] env = ([], refl)
 params-front (p ∷ ps) (r ∷ rs) env =
@@ -36,10 +36,10 @@ params-front (p ∷ ps) (r ∷ rs) env =
 -- ---- the last binding
 
 -- the name of a binding
-abbrev pub name_of : List Named → ℕ → Binding → Named
+abbrev pub name_of : List NamedRegister → ℕ → Binding → NamedRegister
 name_of env b x = bound_name env b x.name (option_map declared_view x.declared) (expr_view x.value)
 
-pub after-last : (env : List Named) (b : ℕ) (xs : List Binding) (x : Binding)
+pub after-last : (env : List NamedRegister) (b : ℕ) (xs : List Binding) (x : Binding)
     → env_after env b (bindings_of (xs ++ x ∷ [])) ≡ name_of (env_after env b (bindings_of xs)) (b + width_bound (bindings_of xs)) x ∷ env_after env b (bindings_of xs)
 after-last env b [] x =
     let none : b ≡ b + 0 = omega arith in
@@ -51,7 +51,7 @@ after-last env b (y ∷ xs) x =
     after-last inner (suc (b + w)) xs x
     ∙ ap (λ n. name_of (env_after inner (suc (b + w)) (bindings_of xs)) n x ∷ env_after inner (suc (b + w)) (bindings_of xs)) same
 
-pub bound-last : (env : List Named) (labels : List Label) (b : ℕ) (xs : List Binding) (x : Binding) (next : List Instr)
+pub bound-last : (env : List NamedRegister) (labels : List Label) (b : ℕ) (xs : List Binding) (x : Binding) (next : List Instr)
     → select_bound env labels b (bindings_of (xs ++ x ∷ [])) next
     ≡ select_bound env labels b (bindings_of xs)
     (select (env_after env b (bindings_of xs)) labels false false (name_of (env_after env b (bindings_of xs)) (b + width_bound (bindings_of xs)) x).reg (suc (b + width_bound (bindings_of xs))) (expr_view x.value) next)
@@ -79,7 +79,7 @@ drop-next zero l = refl
 drop-next (suc n) [] = refl
 drop-next (suc n) (x ∷ l) = drop-next n l
 
-pub before : (env : List Named) (b : ℕ) (xs : List Binding) → drop (length xs) (env_after env b (bindings_of xs)) ≡ env
+pub before : (env : List NamedRegister) (b : ℕ) (xs : List Binding) → drop (length xs) (env_after env b (bindings_of xs)) ≡ env
 before env b [] = refl
 before env b (y ∷ xs) =
     let inner = name_of env b y ∷ env in

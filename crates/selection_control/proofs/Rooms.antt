@@ -6,7 +6,7 @@ use Rattle.cmm_tree.specs.declared.expr.Binding.{Binding}
 use Rattle.cmm_tree.specs.declared.expr.Case.{Case}
 use Rattle.cmm_tree.specs.declared.expr.Expr.{Expr}
 use Rattle.cmm_tree.specs.declared.expr.Handler.{Handler}
-use Rattle.selection_rules.specs.Select.{Label, width, width_row, width_bound, width_cases, width_handlers, labels_from, in_handlers, unless_bare, deeper, switch_labels, count_cases, params_from}
+use Rattle.selection_rules.specs.Select.{Label, width, width_row, width_bound, width_cases, width_handlers, labels_from, in_handlers, unless_bare, labels_within_try, switch_labels, count_cases, params_from}
 use Rattle.cmm_tree.specs.Tree.{Cases, Handlers, NoHandler, Handle, Parameter, is_bare}
 use Rattle.selection_scope.proofs.Counts.{count-cases}
 use Rattle.selection_control.proofs.Ends.{width-last, cases-width-last, handlers-width-last}
@@ -77,7 +77,7 @@ cases_count cs = count-cases cs
 
 -- ---- tries
 
-pub tries-deeper : (ls : List Label) → most_tries (deeper ls) ≤ suc (most_tries ls)
+pub tries-deeper : (ls : List Label) → most_tries (labels_within_try ls) ≤ suc (most_tries ls)
 tries-deeper [] = omega arith
 tries-deeper (t ∷ ls) = let more = tries-deeper ls in omega (arith, more)
 

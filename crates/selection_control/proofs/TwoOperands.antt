@@ -11,37 +11,37 @@ use Rattle.mach_ir.specs.declared.mach.Instr.{Instr}
 use Rattle.mach_ir.specs.declared.mach.Test.{Test}
 use Rattle.mach_ir.specs.declared.reg.Reg.{Reg}
 use Rattle.selection_rules.specs.Instructions as emit
-use Rattle.selection_rules.specs.Select.{Shape, fresh, inner_dest, select, select_test, ordered, only_when, unless_left, unless_right, operator_code, shape_of, shape_op, shape_right, shape_args, comparison, tested, width}
+use Rattle.selection_rules.specs.Select.{OperandShape, fresh_register, inner_dest, select, select_test, ordered, only_when, unless_left, unless_right, operator_code, operation_shape, shape_op, shape_right, shape_args, comparison, fused_test, width}
 use Rattle.selection_operands.proofs.Ordered.{operands_are}
 use Rattle.selection_operands.specs.Below.{node_code}
-use Rattle.selection_scope.specs.Scoping.{Visible, names_in}
+use Rattle.selection_scope.specs.Scoping.{LexicalScope, scoped_names}
 use Rattle.selection_code.specs.Shapes.{needs_left, needs_right}
 use Rattle.selection_scope.specs.declared.place.Node.{Node}
 
 -- an operand into a register
-abbrev into : Visible → Reg → ℕ → Expr → List Instr → List Instr
+abbrev into : LexicalScope → Reg → ℕ → Expr → List Instr → List Instr
 into s r b e next = select s.names s.labels false false r b (expr_view e) next
 
 -- the two operands, in the registers and after the numbers that the code has for them
-abbrev pub operands_made : Visible → Bool → Bool → Bool → Reg → Reg → ℕ → ℕ → Expr → Expr → List Instr → List Instr
+abbrev pub operands_made : LexicalScope → Bool → Bool → Bool → Reg → Reg → ℕ → ℕ → Expr → Expr → List Instr → List Instr
 operands_made s left_first need_left need_right x y first second left right next =
     ordered left_first (only_when need_left (into s x first left)) (only_when need_right (into s y second right)) next
 
 -- the register of an operand
-abbrev pub operand_reg : Visible → ℕ → Expr → Reg
-operand_reg s n e = fresh n (type_of (names_in s) (expr_view e))
+abbrev pub operand_reg : LexicalScope → ℕ → Expr → Reg
+operand_reg s n e = fresh_register n (type_of (scoped_names s) (expr_view e))
 
 -- the same in those that the definition has
-abbrev pub operands_due : Visible → Shape → ℕ → Expr → Expr → List Instr → List Instr
+abbrev pub operands_due : LexicalScope → OperandShape → ℕ → Expr → Expr → List Instr → List Instr
 operands_due s k b left right next =
-    ordered (is_left_first (names_in s) (expr_view left) (expr_view right))
+    ordered (is_left_first (scoped_names s) (expr_view left) (expr_view right))
     (unless_left k (into s (operand_reg s (suc b) left) (suc (suc (suc b))) left))
     (unless_right k (into s (operand_reg s (suc (suc b)) right) (suc (suc (suc b)) + width (expr_view left)) right))
     next
 
-pub both-operands : (s t : Visible) (k : Shape) (left_first need_left need_right : Bool) (b first second : ℕ) (x y : Reg) (left right : Expr) (next new : List Instr)
+pub both-operands : (s t : LexicalScope) (k : OperandShape) (left_first need_left need_right : Bool) (b first second : ℕ) (x y : Reg) (left right : Expr) (next new : List Instr)
     → t ≡ s
-    → left_first ≡ is_left_first (names_in s) (expr_view left) (expr_view right)
+    → left_first ≡ is_left_first (scoped_names s) (expr_view left) (expr_view right)
     → need_left ≡ needs_left k
     → need_right ≡ needs_right k
     → x ≡ operand_reg s (suc b) left
@@ -51,7 +51,7 @@ pub both-operands : (s t : Visible) (k : Shape) (left_first need_left need_right
     → new ≡ operands_made t left_first need_left need_right x y first second left right next
     → new ≡ operands_due s k b left right next
 both-operands s t k left_first need_left need_right b first second x y left right next new ts order nl nr xs ys at_first at_second made =
-    let due = is_left_first (names_in s) (expr_view left) (expr_view right) in
+    let due = is_left_first (scoped_names s) (expr_view left) (expr_view right) in
     let x' = operand_reg s (suc b) left in
     let y' = operand_reg s (suc (suc b)) right in
     let f = suc (suc (suc b)) in
@@ -67,12 +67,12 @@ both-operands s t k left_first need_left need_right b first second x y left righ
     ∙ operands_are due k (into s x' f left) (into s y' (f + width (expr_view left)) right) next
 
 -- the register of an operand that holds its type
-pub reg-is : (s : Visible) (m n : ℕ) (e : Expr) (r : Reg) → r ≡ fresh m e.ty → m ≡ n → IsAnnotated (names_in s) e → r ≡ operand_reg s n e
-reg-is s m n e r made number typed = made ∙ ap (λ k. fresh k e.ty) number ∙ ap (fresh n) typed.type
+pub reg-is : (s : LexicalScope) (m n : ℕ) (e : Expr) (r : Reg) → r ≡ fresh_register m e.ty → m ≡ n → IsAnnotated (scoped_names s) e → r ≡ operand_reg s n e
+reg-is s m n e r made number typed = made ∙ ap (λ k. fresh_register k e.ty) number ∙ ap (fresh_register n) typed.type
 
-pub operator-made : (s : Visible) (node : Node) (at : ℕ) (op : IntOp) (k : Shape) (left right : Expr) (x y d : Reg) (old mid new : List Instr)
-    → node.ty ≡ type_of (names_in s) (Operator at op (expr_view left) (expr_view right))
-    → k ≡ shape_of op (expr_view left) (expr_view right)
+pub operator-made : (s : LexicalScope) (node : Node) (at : ℕ) (op : IntOp) (k : OperandShape) (left right : Expr) (x y d : Reg) (old mid new : List Instr)
+    → node.ty ≡ type_of (scoped_names s) (Operator at op (expr_view left) (expr_view right))
+    → k ≡ operation_shape op (expr_view left) (expr_view right)
     → x ≡ operand_reg s (suc node.place.base) left
     → y ≡ operand_reg s (suc (suc node.place.base)) right
     → d ≡ inner_dest node.ty node.place.base node.place.dest
@@ -91,11 +91,11 @@ operator-made s node at op k left right x y d old mid new type shape xs ys ds ma
     ∙ ap (λ r. operator_code k op x' y' r old) ds
     ∙ ap (λ t. operator_code k op x' y' (inner_dest t b node.place.dest) old) type)
     ∙ ap
-    (λ k. operands_due s k b left right (operator_code k op x' y' (inner_dest (type_of (names_in s) (Operator at op (expr_view left) (expr_view right))) b node.place.dest) old))
+    (λ k. operands_due s k b left right (operator_code k op x' y' (inner_dest (type_of (scoped_names s) (Operator at op (expr_view left) (expr_view right))) b node.place.dest) old))
     shape
 
-pub test-made : (s : Visible) (at b l : ℕ) (op : IntOp) (k : Shape) (t : Test) (left right : Expr) (x y : Reg) (value old mid new : List Instr)
-    → k ≡ shape_of op (expr_view left) (expr_view right)
+pub test-made : (s : LexicalScope) (at b l : ℕ) (op : IntOp) (k : OperandShape) (t : Test) (left right : Expr) (x y : Reg) (value old mid new : List Instr)
+    → k ≡ operation_shape op (expr_view left) (expr_view right)
     → comparison (shape_op k op) (shape_right k) ≡ Some t
     → x ≡ operand_reg s (suc b) left
     → y ≡ operand_reg s (suc (suc b)) right
@@ -105,9 +105,9 @@ pub test-made : (s : Visible) (at b l : ℕ) (op : IntOp) (k : Shape) (t : Test)
 test-made s at b l op k t left right x y value old mid new shape test xs ys made operands =
     let x' = operand_reg s (suc b) left in
     let y' = operand_reg s (suc (suc b)) right in
-    let fused : Shape → Test → List Instr = λ k t. operands_due s k b left right (emit.branch t l (shape_args k x' y') ∷ old) in
+    let fused : OperandShape → Test → List Instr = λ k t. operands_due s k b left right (emit.branch t l (shape_args k x' y') ∷ old) in
     operands
     ∙ ap (λ c. operands_due s k b left right c)
     (made ∙ ap (λ r. emit.branch t l (shape_args k r y) ∷ old) xs ∙ ap (λ r. emit.branch t l (shape_args k x' r) ∷ old) ys)
-    ∙ sym (ap (λ o. tested o (fused k) value) test)
-    ∙ ap (λ k. tested (comparison (shape_op k op) (shape_right k)) (fused k) value) shape
+    ∙ sym (ap (λ o. fused_test o (fused k) value) test)
+    ∙ ap (λ k. fused_test (comparison (shape_op k op) (shape_right k)) (fused k) value) shape

@@ -8,17 +8,17 @@ ghost use Rattle.cmm_tree.specs.View.{expr_view, index_view};
 ghost use Rattle.cmm_types.specs.Annotated.{IsAnnotated};
 ghost use Rattle.cmm_types.specs.Lists.{AreAnnotated, AreCasesAnnotated};
 ghost use Rattle.cmm_types.specs.Types.{type_of};
-ghost use Rattle.mach_ir.specs.Formed.{indexes_of};
+ghost use Rattle.mach_ir.specs.Formed.{indexes_to_label};
 ghost use Rattle.mach_ir.specs.declared.mach.Test.TheVariants as test;
 ghost use Rattle.selection_rules.specs.Instructions as emit;
-ghost use Rattle.selection_rules.specs.Select.{select, select_cases, select_test, comparison, shape_of, shape_op, shape_right, last_label};
+ghost use Rattle.selection_rules.specs.Select.{select, select_cases, select_test, comparison, operation_shape, shape_op, shape_right, label_of_last_case};
 ghost use Rattle.selection_rules.specs.Select.{switch_labels, width, width_row, width_cases};
-ghost use Rattle.selection_operands.specs.Below.{node_code, MayCall, Selects};
+ghost use Rattle.selection_operands.specs.Below.{node_code, MayCall, SelectsExpression};
 ghost use Rattle.mach_ir.specs.declared.mach.Instr.{Instr};
 ghost use Rattle.selection_control.specs.Rows.{select_dropped};
 ghost use Rattle.selection_code.specs.Shapes.{shape_view};
-ghost use Rattle.selection_scope.specs.Room.{HasRoom, indexes_in, indexes_in_row, indexes_in_cases, most_numbers, most_tries};
-ghost use Rattle.selection_scope.specs.Scoping.{names_in};
+ghost use Rattle.selection_scope.specs.Room.{HasExpressionRoom, indexes_in, indexes_in_row, indexes_in_cases, most_numbers, most_tries};
+ghost use Rattle.selection_scope.specs.Scoping.{scoped_names};
 
 use bs_words::IntOp;
 use cmm_tree::{Case, CaseIndex, Expr};
@@ -44,14 +44,14 @@ pub fn operator<F: Fn(&mut Scope, &mut Backwards, Place, &Expr) -> Result<(), Al
     right: &Expr,
 ) -> Result<(), AllocError>
     requires callable { MayCall (F.pre below.now.select.now) below.now.first }
-    requires selects { Selects (F.post below.now.select.now) below.now.first }
+    requires selects { SelectsExpression (F.post below.now.select.now) below.now.first }
     requires tries { most_tries scope.old.labels ≤ node.place.base }
     requires begins { below.now.first ≡ node.place.base + 1 }
-    requires room { HasRoom node.place.base
+    requires room { HasExpressionRoom node.place.base
         (Operator 0 op (expr_view left.now) (expr_view right.now)) }
-    requires left_typed { IsAnnotated (names_in scope.old) left.now }
-    requires right_typed { IsAnnotated (names_in scope.old) right.now }
-    requires ty { (at : ℕ) → node.ty ≡ type_of (names_in scope.old) (Operator at op (expr_view
+    requires left_typed { IsAnnotated (scoped_names scope.old) left.now }
+    requires right_typed { IsAnnotated (scoped_names scope.old) right.now }
+    requires ty { (at : ℕ) → node.ty ≡ type_of (scoped_names scope.old) (Operator at op (expr_view
         left.now) (expr_view right.now)) }
     ensures code { OnOk result ((at : ℕ) → code.new ≡ node_code scope.old node.place
         (Operator at op (expr_view left.now) (expr_view right.now)) code.old) }
@@ -114,15 +114,15 @@ fn fused<F: Fn(&mut Scope, &mut Backwards, Place, &Expr) -> Result<(), AllocErro
     right: &Expr,
 ) -> Result<(), AllocError>
     requires callable { MayCall (F.pre below.now.select.now) below.now.first }
-    requires selects { Selects (F.post below.now.select.now) below.now.first }
+    requires selects { SelectsExpression (F.post below.now.select.now) below.now.first }
     requires tries { most_tries scope.old.labels ≤ below.now.first }
     requires begins { below.now.first ≤ branch.base }
     requires room { branch.base + (3 + (width (expr_view left.now) + width (expr_view right.now))
         + (indexes_in (expr_view left.now) + indexes_in (expr_view right.now))) < most_numbers }
-    requires left_typed { IsAnnotated (names_in scope.old) left.now }
-    requires right_typed { IsAnnotated (names_in scope.old) right.now }
+    requires left_typed { IsAnnotated (scoped_names scope.old) left.now }
+    requires right_typed { IsAnnotated (scoped_names scope.old) right.now }
     ensures code { OnOk result ((at : ℕ) (op : IntOp) (value : List Instr) →
-        shape_view branch.shape ≡ shape_of op (expr_view left.now) (expr_view right.now) →
+        shape_view branch.shape ≡ operation_shape op (expr_view left.now) (expr_view right.now) →
         comparison (shape_op (shape_view branch.shape) op)
         (shape_right (shape_view branch.shape)) ≡ Some branch.test →
         code.new ≡ select_test scope.old.names scope.old.labels branch.otherwise branch.base
@@ -171,11 +171,11 @@ fn tested<F: Fn(&mut Scope, &mut Backwards, Place, &Expr) -> Result<(), AllocErr
     condition: &Expr,
 ) -> Result<(), AllocError>
     requires callable { MayCall (F.pre below.now.select.now) below.now.first }
-    requires selects { Selects (F.post below.now.select.now) below.now.first }
+    requires selects { SelectsExpression (F.post below.now.select.now) below.now.first }
     requires tries { most_tries scope.old.labels ≤ below.now.first }
     requires begins { below.now.first ≤ place.base }
-    requires room { HasRoom place.base (expr_view condition.now) }
-    requires typed { IsAnnotated (names_in scope.old) condition.now }
+    requires room { HasExpressionRoom place.base (expr_view condition.now) }
+    requires typed { IsAnnotated (scoped_names scope.old) condition.now }
     requires valued { place.valued ≡ false }
     requires tail { place.tail ≡ false }
     ensures code { OnOk result (code.new ≡ select scope.old.names scope.old.labels false false
@@ -198,11 +198,11 @@ fn condition<F: Fn(&mut Scope, &mut Backwards, Place, &Expr) -> Result<(), Alloc
     condition: &Expr,
 ) -> Result<(), AllocError>
     requires callable { MayCall (F.pre below.now.select.now) below.now.first }
-    requires selects { Selects (F.post below.now.select.now) below.now.first }
+    requires selects { SelectsExpression (F.post below.now.select.now) below.now.first }
     requires tries { most_tries scope.old.labels ≤ below.now.first }
     requires begins { below.now.first ≤ place.base }
-    requires room { HasRoom place.base (expr_view condition.now) }
-    requires typed { IsAnnotated (names_in scope.old) condition.now }
+    requires room { HasExpressionRoom place.base (expr_view condition.now) }
+    requires typed { IsAnnotated (scoped_names scope.old) condition.now }
     requires valued { place.valued ≡ false }
     requires tail { place.tail ≡ false }
     ensures code { OnOk result (code.new ≡ select_test scope.old.names scope.old.labels otherwise
@@ -244,15 +244,15 @@ pub fn if_else<F: Fn(&mut Scope, &mut Backwards, Place, &Expr) -> Result<(), All
     on_false: &Expr,
 ) -> Result<(), AllocError>
     requires callable { MayCall (F.pre below.now.select.now) below.now.first }
-    requires selects { Selects (F.post below.now.select.now) below.now.first }
+    requires selects { SelectsExpression (F.post below.now.select.now) below.now.first }
     requires tries { most_tries scope.old.labels ≤ node.place.base }
     requires begins { below.now.first ≡ node.place.base + 1 }
-    requires room { HasRoom node.place.base
+    requires room { HasExpressionRoom node.place.base
         (If 0 (expr_view condition_of.now) (expr_view on_true.now) (expr_view on_false.now)) }
-    requires condition_typed { IsAnnotated (names_in scope.old) condition_of.now }
-    requires true_typed { IsAnnotated (names_in scope.old) on_true.now }
-    requires false_typed { IsAnnotated (names_in scope.old) on_false.now }
-    requires ty { (at : ℕ) → node.ty ≡ type_of (names_in scope.old) (If at (expr_view
+    requires condition_typed { IsAnnotated (scoped_names scope.old) condition_of.now }
+    requires true_typed { IsAnnotated (scoped_names scope.old) on_true.now }
+    requires false_typed { IsAnnotated (scoped_names scope.old) on_false.now }
+    requires ty { (at : ℕ) → node.ty ≡ type_of (scoped_names scope.old) (If at (expr_view
         condition_of.now) (expr_view on_true.now)
         (expr_view on_false.now)) }
     ensures code { OnOk result ((at : ℕ) → code.new ≡ node_code scope.old node.place
@@ -282,12 +282,12 @@ fn dropped<F: Fn(&mut Scope, &mut Backwards, Place, &Expr) -> Result<(), AllocEr
     exprs: &[Expr],
 ) -> Result<(), AllocError>
     requires callable { MayCall (F.pre below.now.select.now) below.now.first }
-    requires selects { Selects (F.post below.now.select.now) below.now.first }
+    requires selects { SelectsExpression (F.post below.now.select.now) below.now.first }
     requires tries { most_tries scope.old.labels ≤ below.now.first }
     requires begins { below.now.first ≤ number }
     requires room { number + (width_row (row_of exprs.now) + indexes_in_row (row_of exprs.now))
         < most_numbers }
-    requires typed { AreAnnotated (names_in scope.old) exprs.now }
+    requires typed { AreAnnotated (scoped_names scope.old) exprs.now }
     ensures code { OnOk result (code.new ≡ select_dropped scope.old.names scope.old.labels number
         (row_of exprs.now) code.old) }
     ensures scope { OnOk result (scope.new ≡ scope.old) }
@@ -312,12 +312,12 @@ pub fn seq<F: Fn(&mut Scope, &mut Backwards, Place, &Expr) -> Result<(), AllocEr
     elements: &[Expr],
 ) -> Result<(), AllocError>
     requires callable { MayCall (F.pre below.now.select.now) below.now.first }
-    requires selects { Selects (F.post below.now.select.now) below.now.first }
+    requires selects { SelectsExpression (F.post below.now.select.now) below.now.first }
     requires tries { most_tries scope.old.labels ≤ node.place.base }
     requires begins { below.now.first ≡ node.place.base + 1 }
-    requires room { HasRoom node.place.base (Sequence 0 (row_of elements.now)) }
-    requires typed { AreAnnotated (names_in scope.old) elements.now }
-    requires ty { (at : ℕ) → node.ty ≡ type_of (names_in scope.old) (Sequence at (row_of
+    requires room { HasExpressionRoom node.place.base (Sequence 0 (row_of elements.now)) }
+    requires typed { AreAnnotated (scoped_names scope.old) elements.now }
+    requires ty { (at : ℕ) → node.ty ≡ type_of (scoped_names scope.old) (Sequence at (row_of
         elements.now)) }
     ensures code { OnOk result ((at : ℕ) → code.new ≡ node_code scope.old node.place
         (Sequence at (row_of elements.now)) code.old) }
@@ -349,7 +349,7 @@ fn is_named(indexes: &[CaseIndex], number: u64) -> bool
 /// The label of the last case that names the number, where the first has this label, or else the one so far.
 fn last_label(first: u32, cases: &[Case], number: u64, so_far: u32) -> Label
     requires { first + length cases.now < most_numbers }
-    ensures { result ≡ last_label first (cases_of cases.now) number so_far }
+    ensures { result ≡ label_of_last_case first (cases_of cases.now) number so_far }
 {
     let mut found = so_far;
     let mut label = first;
@@ -385,7 +385,7 @@ fn switch_labels(
 /// The numbers that the switch takes to this label.
 fn indexes_of(alloc: Global, label: Label, all: &[Label]) -> Result<Seq<u32>, AllocError>
     requires { length all.now < most_numbers }
-    ensures { IfOk result (λ indexes. indexes ≡ indexes_of label 0 all.now) }
+    ensures { IfOk result (λ indexes. indexes ≡ indexes_to_label label 0 all.now) }
 {
     let mut indexes = Vec::new(alloc);
     let mut number = 0;
@@ -419,14 +419,14 @@ fn case_bodies<F: Fn(&mut Scope, &mut Backwards, Place, &Expr) -> Result<(), All
     choices: Choices<'_>,
 ) -> Result<(), AllocError>
     requires callable { MayCall (F.pre below.now.select.now) below.now.first }
-    requires selects { Selects (F.post below.now.select.now) below.now.first }
+    requires selects { SelectsExpression (F.post below.now.select.now) below.now.first }
     requires tries { most_tries scope.old.labels ≤ below.now.first }
     requires begins { below.now.first ≤ place.base }
     requires labels { choices.first + length choices.cases.now < most_numbers }
     requires indexes { length choices.all.now < most_numbers }
     requires room { place.base + (width_cases (cases_of choices.cases.now)
         + indexes_in_cases (cases_of choices.cases.now)) < most_numbers }
-    requires typed { AreCasesAnnotated (names_in scope.old) choices.cases.now }
+    requires typed { AreCasesAnnotated (scoped_names scope.old) choices.cases.now }
     ensures code { OnOk result (code.new ≡ select_cases scope.old.names scope.old.labels
         place.valued place.tail place.dest choices.entry.all.now choices.entry.end
         choices.entry.first
@@ -465,14 +465,14 @@ pub fn switch<F: Fn(&mut Scope, &mut Backwards, Place, &Expr) -> Result<(), Allo
     cases: &[Case],
 ) -> Result<(), AllocError>
     requires callable { MayCall (F.pre below.now.select.now) below.now.first }
-    requires selects { Selects (F.post below.now.select.now) below.now.first }
+    requires selects { SelectsExpression (F.post below.now.select.now) below.now.first }
     requires tries { most_tries scope.old.labels ≤ node.place.base }
     requires begins { below.now.first ≡ node.place.base + 1 }
-    requires room { HasRoom node.place.base
+    requires room { HasExpressionRoom node.place.base
         (Switch 0 0 size (expr_view selector.now) (cases_of cases.now)) }
-    requires selector_typed { IsAnnotated (names_in scope.old) selector.now }
-    requires typed { AreCasesAnnotated (names_in scope.old) cases.now }
-    requires ty { (at size_at : ℕ) → node.ty ≡ type_of (names_in scope.old) (Switch at size_at size
+    requires selector_typed { IsAnnotated (scoped_names scope.old) selector.now }
+    requires typed { AreCasesAnnotated (scoped_names scope.old) cases.now }
+    requires ty { (at size_at : ℕ) → node.ty ≡ type_of (scoped_names scope.old) (Switch at size_at size
         (expr_view selector.now) (cases_of cases.now)) }
     ensures code { OnOk result ((at size_at : ℕ) → code.new ≡ node_code scope.old node.place
         (Switch at size_at size (expr_view selector.now) (cases_of cases.now)) code.old) }

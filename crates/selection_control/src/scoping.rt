@@ -7,11 +7,11 @@ ghost use Rattle.cmm_tree.specs.View.{expr_view, params_view};
 ghost use Rattle.cmm_types.specs.Annotated.{IsAnnotated};
 ghost use Rattle.cmm_types.specs.Lists.{AreBindingsAnnotated, AreHandlersAnnotated};
 ghost use Rattle.cmm_types.specs.Types.{type_of, with_bindings, with_parameters};
-ghost use Rattle.selection_rules.specs.Select.{scopes, select, select_bound, select_handlers, env_after, with_params, params_from, deeper};
+ghost use Rattle.selection_rules.specs.Select.{scopes, select, select_bound, select_handlers, env_after, with_params, params_from, labels_within_try};
 ghost use Rattle.selection_rules.specs.Select.{width_bound, width_handlers, width_labels};
-ghost use Rattle.selection_operands.specs.Below.{node_code, MayCall, Selects};
-ghost use Rattle.selection_scope.specs.Room.{HasRoom, indexes_in_bound, indexes_in_handlers, most_numbers, most_tries};
-ghost use Rattle.selection_scope.specs.Scoping.{names_in};
+ghost use Rattle.selection_operands.specs.Below.{node_code, MayCall, SelectsExpression};
+ghost use Rattle.selection_scope.specs.Room.{HasExpressionRoom, indexes_in_bound, indexes_in_handlers, most_numbers, most_tries};
+ghost use Rattle.selection_scope.specs.Scoping.{scoped_names};
 
 use bs_words::{Comp, Name, Ty};
 use cmm_tree::{Binding, Expr, Handler};
@@ -35,12 +35,12 @@ pub fn assign<F: Fn(&mut Scope, &mut Backwards, Place, &Expr) -> Result<(), Allo
     value: &Expr,
 ) -> Result<(), AllocError>
     requires callable { MayCall (F.pre below.now.select.now) below.now.first }
-    requires selects { Selects (F.post below.now.select.now) below.now.first }
+    requires selects { SelectsExpression (F.post below.now.select.now) below.now.first }
     requires tries { most_tries scope.old.labels ≤ node.place.base }
     requires begins { below.now.first ≡ node.place.base + 1 }
-    requires room { HasRoom node.place.base (Assign 0 0 name.now (expr_view value.now)) }
-    requires typed { IsAnnotated (names_in scope.old) value.now }
-    requires ty { (at name_at : ℕ) → node.ty ≡ type_of (names_in scope.old) (Assign at name_at
+    requires room { HasExpressionRoom node.place.base (Assign 0 0 name.now (expr_view value.now)) }
+    requires typed { IsAnnotated (scoped_names scope.old) value.now }
+    requires ty { (at name_at : ℕ) → node.ty ≡ type_of (scoped_names scope.old) (Assign at name_at
         name.now (expr_view value.now)) }
     ensures code { OnOk result ((at name_at : ℕ) → code.new ≡ node_code scope.old node.place
         (Assign at name_at name.now (expr_view value.now)) code.old) }
@@ -54,7 +54,7 @@ pub fn assign<F: Fn(&mut Scope, &mut Backwards, Place, &Expr) -> Result<(), Allo
 
 /// Binds the names of a let to registers. Each has a number, and after it those of its value.
 fn bind_all(scope: &mut Scope, number: u32, bindings: &[Binding]) -> Result<(), AllocError>
-    requires typed { AreBindingsAnnotated (names_in scope.old) bindings.now }
+    requires typed { AreBindingsAnnotated (scoped_names scope.old) bindings.now }
     requires room { number + width_bound (bindings_of bindings.now) < most_numbers }
     ensures { OnOk result (scope.new ≡ record scope.old {
       names = env_after scope.old.names number (bindings_of bindings.now);
@@ -81,7 +81,7 @@ fn values<F: Fn(&mut Scope, &mut Backwards, Place, &Expr) -> Result<(), AllocErr
     bindings: &[Binding],
 ) -> Result<(), AllocError>
     requires callable { MayCall (F.pre below.now.select.now) below.now.first }
-    requires selects { Selects (F.post below.now.select.now) below.now.first }
+    requires selects { SelectsExpression (F.post below.now.select.now) below.now.first }
     requires tries { most_tries scope.old.labels ≤ below.now.first }
     requires begins { below.now.first ≤ number }
     requires room { number + (width_bound (bindings_of bindings.now)
@@ -118,15 +118,15 @@ pub fn let_in<F: Fn(&mut Scope, &mut Backwards, Place, &Expr) -> Result<(), Allo
     body: &Expr,
 ) -> Result<(), AllocError>
     requires callable { MayCall (F.pre below.now.select.now) below.now.first }
-    requires selects { Selects (F.post below.now.select.now) below.now.first }
+    requires selects { SelectsExpression (F.post below.now.select.now) below.now.first }
     requires tries { most_tries scope.old.labels ≤ node.place.base }
     requires begins { below.now.first ≡ node.place.base + 1 }
-    requires room { HasRoom node.place.base
+    requires room { HasExpressionRoom node.place.base
         (Let 0 (bindings_of bindings.now) (expr_view body.now)) }
-    requires typed { AreBindingsAnnotated (names_in scope.old) bindings.now }
-    requires body_typed { IsAnnotated (with_bindings (names_in scope.old) (bindings_of
+    requires typed { AreBindingsAnnotated (scoped_names scope.old) bindings.now }
+    requires body_typed { IsAnnotated (with_bindings (scoped_names scope.old) (bindings_of
         bindings.now)) body.now }
-    requires ty { (at : ℕ) → node.ty ≡ type_of (names_in scope.old) (Let at (bindings_of
+    requires ty { (at : ℕ) → node.ty ≡ type_of (scoped_names scope.old) (Let at (bindings_of
         bindings.now) (expr_view body.now)) }
     ensures code { OnOk result ((at : ℕ) → code.new ≡ node_code scope.old node.place
         (Let at (bindings_of bindings.now) (expr_view body.now)) code.old) }
@@ -149,13 +149,13 @@ fn handler_body<F: Fn(&mut Scope, &mut Backwards, Place, &Expr) -> Result<(), Al
     handler: &Handler,
 ) -> Result<(), AllocError>
     requires callable { MayCall (F.pre below.now.select.now) below.now.first }
-    requires selects { Selects (F.post below.now.select.now) below.now.first }
+    requires selects { SelectsExpression (F.post below.now.select.now) below.now.first }
     requires tries { most_tries scope.old.labels ≤ below.now.first }
     requires begins { below.now.first ≤ place.base }
-    requires room { HasRoom place.base (expr_view handler.now.body) }
+    requires room { HasExpressionRoom place.base (expr_view handler.now.body) }
     requires params { number + length handler.now.params.items < most_numbers }
     requires typed { IsAnnotated (with_parameters (params_view handler.now.params.items)
-        (names_in scope.old)) handler.now.body }
+        (scoped_names scope.old)) handler.now.body }
     ensures code { OnOk result (code.new ≡ select (with_params (params_view
         handler.now.params.items)
         (params_from number (params_view handler.now.params.items)) scope.old.names)
@@ -181,13 +181,13 @@ fn handler_bodies<F: Fn(&mut Scope, &mut Backwards, Place, &Expr) -> Result<(), 
     handlers: &[Handler],
 ) -> Result<(), AllocError>
     requires callable { MayCall (F.pre below.now.select.now) below.now.first }
-    requires selects { Selects (F.post below.now.select.now) below.now.first }
+    requires selects { SelectsExpression (F.post below.now.select.now) below.now.first }
     requires tries { most_tries scope.old.labels ≤ below.now.first }
     requires begins { below.now.first ≤ place.base }
     requires labels { first + width_labels (handlers_of handlers.now) < most_numbers }
     requires room { place.base + (width_handlers (handlers_of handlers.now)
         + indexes_in_handlers (handlers_of handlers.now)) < most_numbers }
-    requires typed { AreHandlersAnnotated (names_in scope.old) handlers.now }
+    requires typed { AreHandlersAnnotated (scoped_names scope.old) handlers.now }
     ensures code { OnOk result (code.new ≡ select_handlers scope.old.names scope.old.labels
         place.valued place.tail place.dest end first place.base
         (handlers_of handlers.now) code.old) }
@@ -220,14 +220,14 @@ pub fn catch<F: Fn(&mut Scope, &mut Backwards, Place, &Expr) -> Result<(), Alloc
     handlers: &[Handler],
 ) -> Result<(), AllocError>
     requires callable { MayCall (F.pre below.now.select.now) below.now.first }
-    requires selects { Selects (F.post below.now.select.now) below.now.first }
+    requires selects { SelectsExpression (F.post below.now.select.now) below.now.first }
     requires tries { most_tries scope.old.labels ≤ node.place.base }
     requires begins { below.now.first ≡ node.place.base + 1 }
-    requires room { HasRoom node.place.base
+    requires room { HasExpressionRoom node.place.base
         (Catch 0 (expr_view body.now) (handlers_of handlers.now)) }
-    requires body_typed { IsAnnotated (names_in scope.old) body.now }
-    requires typed { AreHandlersAnnotated (names_in scope.old) handlers.now }
-    requires ty { (at : ℕ) → node.ty ≡ type_of (names_in scope.old) (Catch at (expr_view body.now)
+    requires body_typed { IsAnnotated (scoped_names scope.old) body.now }
+    requires typed { AreHandlersAnnotated (scoped_names scope.old) handlers.now }
+    requires ty { (at : ℕ) → node.ty ≡ type_of (scoped_names scope.old) (Catch at (expr_view body.now)
         (handlers_of handlers.now)) }
     ensures code { OnOk result ((at : ℕ) → code.new ≡ node_code scope.old node.place
         (Catch at (expr_view body.now) (handlers_of handlers.now)) code.old) }
@@ -259,15 +259,15 @@ fn raised<F: Fn(&mut Scope, &mut Backwards, Place, &Expr) -> Result<(), AllocErr
     handler: &Expr,
 ) -> Result<(), AllocError>
     requires callable { MayCall (F.pre below.now.select.now) below.now.first }
-    requires selects { Selects (F.post below.now.select.now) below.now.first }
+    requires selects { SelectsExpression (F.post below.now.select.now) below.now.first }
     requires tries { most_tries scope.old.labels ≤ below.now.first }
     requires begins { below.now.first ≤ place.base }
-    requires room { HasRoom place.base (expr_view handler.now) }
+    requires room { HasExpressionRoom place.base (expr_view handler.now) }
     requires typed { IsAnnotated (record {
       name = name.now;
       type = type.Val;
       mutable = false;
-    } ∷ (names_in scope.old)) handler.now }
+    } ∷ (scoped_names scope.old)) handler.now }
     ensures code { OnOk result (code.new ≡ select (record {
       scoped = record { name = name.now; type = type.Val; mutable = false };
       reg = register;
@@ -290,12 +290,12 @@ fn in_try<F: Fn(&mut Scope, &mut Backwards, Place, &Expr) -> Result<(), AllocErr
     body: &Expr,
 ) -> Result<(), AllocError>
     requires callable { MayCall (F.pre below.now.select.now) below.now.first }
-    requires selects { Selects (F.post below.now.select.now) below.now.first }
+    requires selects { SelectsExpression (F.post below.now.select.now) below.now.first }
     requires tries { most_tries scope.old.labels < below.now.first }
     requires begins { below.now.first ≤ place.base }
-    requires room { HasRoom place.base (expr_view body.now) }
-    requires typed { IsAnnotated (names_in scope.old) body.now }
-    ensures code { OnOk result (code.new ≡ select scope.old.names (deeper scope.old.labels)
+    requires room { HasExpressionRoom place.base (expr_view body.now) }
+    requires typed { IsAnnotated (scoped_names scope.old) body.now }
+    ensures code { OnOk result (code.new ≡ select scope.old.names (labels_within_try scope.old.labels)
         place.valued place.tail place.dest place.base (expr_view body.now) code.old) }
     ensures scope { OnOk result (scope.new ≡ scope.old) }
 {
@@ -315,18 +315,18 @@ pub fn try_with<F: Fn(&mut Scope, &mut Backwards, Place, &Expr) -> Result<(), Al
     handler: &Expr,
 ) -> Result<(), AllocError>
     requires callable { MayCall (F.pre below.now.select.now) below.now.first }
-    requires selects { Selects (F.post below.now.select.now) below.now.first }
+    requires selects { SelectsExpression (F.post below.now.select.now) below.now.first }
     requires tries { most_tries scope.old.labels ≤ node.place.base }
     requires begins { below.now.first ≡ node.place.base + 1 }
-    requires room { HasRoom node.place.base
+    requires room { HasExpressionRoom node.place.base
         (Try 0 (expr_view body.now) 0 name.now (expr_view handler.now)) }
-    requires body_typed { IsAnnotated (names_in scope.old) body.now }
+    requires body_typed { IsAnnotated (scoped_names scope.old) body.now }
     requires typed { IsAnnotated (record {
       name = name.now;
       type = type.Val;
       mutable = false;
-    } ∷ (names_in scope.old)) handler.now }
-    requires ty { (at name_at : ℕ) → node.ty ≡ type_of (names_in scope.old) (Try at (expr_view
+    } ∷ (scoped_names scope.old)) handler.now }
+    requires ty { (at name_at : ℕ) → node.ty ≡ type_of (scoped_names scope.old) (Try at (expr_view
         body.now) name_at name.now (expr_view handler.now)) }
     ensures code { OnOk result ((at name_at : ℕ) → code.new ≡ node_code scope.old node.place
         (Try at (expr_view body.now) name_at name.now (expr_view handler.now)) code.old) }

@@ -4,8 +4,8 @@ use Rattle.std.specs.Prelude.{Contains, nat_eq}
 use Rattle.std.proofs.lemmas.Bool.{eq-eqb, eqb-true}
 use Rattle.cmm_tree.specs.Tree.{FunctionTree}
 use Rattle.cmm_types.proofs.Containing.{contains_none, contains_cases, contains_head, contains_tail}
-use Rattle.mach_ir.specs.Formed.{CasesAgree, indexes_of}
-use Rattle.mach_ir.specs.Walks.{Stands, here, below}
+use Rattle.mach_ir.specs.Formed.{CasesAgree, indexes_to_label}
+use Rattle.mach_ir.specs.Walks.{StandsAsInstr, here, below}
 use Rattle.mach_ir.specs.declared.mach.Instr.{Instr}
 use Rattle.mach_ir.specs.declared.mach.Mark.TheVariants as mark
 use Rattle.mach_ir.specs.declared.mach.MachOp.TheVariants as mach
@@ -21,7 +21,7 @@ use Rattle.selection_laws.proofs.Nested.{kept_of, selected_kept}
 -- where an instruction is
 record Somewhere (i : Instr) (code : List Instr) : Type 0 where
   next : List Instr
-  there : Stands i next code
+  there : StandsAsInstr i next code
 
 somewhere : (i : Instr) (code : List Instr) → Contains code i → Somewhere i code
 somewhere i [] c = absurd (contains_none i c)
@@ -42,11 +42,11 @@ same_mark l (cons apart d) all (more e) x y = absurd (no_mark_in e (apart l x) y
 same_mark l (cons apart d) (more e) all x y = absurd (no_mark_in e (apart l y) x)
 same_mark l (cons apart d) (more e) (more f) x y = same_mark l d e f x y
 
-no_indexes : (l n : ℕ) (labels : List ℕ) → (Contains labels l → ⊥) → indexes_of l n labels ≡ []
+no_indexes : (l n : ℕ) (labels : List ℕ) → (Contains labels l → ⊥) → indexes_to_label l n labels ≡ []
 no_indexes l n [] out = refl
 no_indexes l n (k ∷ labels) out = by (nat_eq k l) refl (no_indexes l (1 + n) labels (λ c. out (contains_tail k labels l c)))
   where
-    by : (b : Bool) → nat_eq k l ≡ b → indexes_of l (1 + n) labels ≡ [] → cond b (n ∷ indexes_of l (1 + n) labels) (indexes_of l (1 + n) labels) ≡ []
+    by : (b : Bool) → nat_eq k l ≡ b → indexes_to_label l (1 + n) labels ≡ [] → cond b (n ∷ indexes_to_label l (1 + n) labels) (indexes_to_label l (1 + n) labels) ≡ []
     by true e others = absurd (out (subst (λ m. Contains (k ∷ labels) m) (eqb-true k l e) (contains_head k labels)))
     by false e others = others
 
@@ -65,7 +65,7 @@ selected_cases f fits =
           let t = k.takes labels is_switch l within in
           let there = ending_in t.there (ending_next (ending_of si.there)) in
           let same = same_mark l (selected_once f) (ending_of sj.there) there (case_marks_own j indexes l end is_case) (eq-eqb l l refl) in
-          same_indexes indexes (indexes_of l 0 labels) l end l t.end (sym is_case ∙ ap (λ (i : Instr). i.op) same);
+          same_indexes indexes (indexes_to_label l 0 labels) l end l t.end (sym is_case ∙ ap (λ (i : Instr). i.op) same);
       none = λ j cj indexes l end is_case no_switch.
           let sj = somewhere j (selected f).code cj in
           let k = kept_of kept j sj.next sj.there in

@@ -5,7 +5,7 @@ use Rattle.std.proofs.lemmas.Bool.{leb-true, eqb-true, and_parts}
 use Rattle.bs_words.specs.declared.operators.IntOp.{IntOp}
 use Rattle.bs_words.specs.declared.types.Comp.{Comp}
 use Rattle.cmm_types.specs.Faults.{is_header}
-use Rattle.mach_ir.specs.Formed.{IsFormed, formed_op, formed_mark}
+use Rattle.mach_ir.specs.Formed.{IsFormedInstruction, formed_op, formed_mark}
 use Rattle.mach_ir.specs.Forms.{IsRight, a_register, a_constant, IsBlock, HasForm, copies, constant, symbol, operates, loads, stores, allocates, calls, tail_calls, calls_out, checks, raises, returns}
 use Rattle.mach_ir.specs.declared.blocks.NewBlock.{NewBlock}
 use Rattle.mach_ir.specs.declared.mach.Instr.{Instr}
@@ -47,6 +47,6 @@ op_bounded (checks is) = tt
 op_bounded raises = tt
 op_bounded (returns result) = tt
 
-pub formed_bounded : {i : Instr} → IsFormed i → BoundedOp i.op
+pub formed_bounded : {i : Instr} → IsFormedInstruction i → BoundedOp i.op
 formed_bounded (formed_op form) = op_bounded form
 formed_bounded (formed_mark form) = tt

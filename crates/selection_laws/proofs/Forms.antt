@@ -19,9 +19,9 @@ use Rattle.cmm_tree.specs.Tree.{Expression, Integer, Expressions, NoMore, More}
 use Rattle.cmm_types.specs.Faults.{row_length, is_header}
 use Rattle.cmm_types.specs.Types.{type_of, is_address, comp_of_argument}
 use Rattle.cmm_meaning.specs.Evaluation.{comps_of_arguments}
-use Rattle.mach_ir.specs.Formed.{comps, IsFormed, formed_op, formed_mark, MarkHasForm, if_form, switch_form, handler_form, AreDistinct}
-use Rattle.mach_ir.specs.Forms.{IsBlock, is_immediate, IsRight, a_register, a_constant, by_symbol, by_register, IsTested, holds, signed, unsigned, results_of, HasForm, copies, constant, symbol, operates, loads, stores, allocates, calls, tail_calls, calls_out, checks, raises, returns}
-use Rattle.mach_ir.specs.Seats.{argument_places, result_places, operand_seats, result_seats, mach_operand_seats, mach_result_seats, places_of, AreSeated, anywhere, in_order, after_first, InOrder, AfterFirst}
+use Rattle.mach_ir.specs.Formed.{comps, IsFormedInstruction, formed_op, formed_mark, MarkHasForm, if_form, switch_form, handler_form, AreDistinct}
+use Rattle.mach_ir.specs.Forms.{IsBlock, is_immediate, IsRight, a_register, a_constant, by_symbol, by_register, IsTested, holds, signed, unsigned, results_of_type, HasForm, copies, constant, symbol, operates, loads, stores, allocates, calls, tail_calls, calls_out, checks, raises, returns}
+use Rattle.mach_ir.specs.Seats.{argument_locations, result_locations, operand_seats, result_seats, mach_operand_seats, mach_result_seats, places_of, AreSeated, anywhere, in_order, after_first, InOrder, AfterFirst}
 use Rattle.mach_ir.specs.declared.blocks.NewBlock.{NewBlock}
 use Rattle.mach_ir.specs.declared.mach.Instr.{Instr}
 use Rattle.mach_ir.specs.declared.mach.Mark.{Mark}
@@ -41,9 +41,9 @@ use Rattle.mach_ir.specs.declared.op.Right.TheVariants as right
 use Rattle.mach_ir.specs.declared.reg.Reg.{Reg}
 use Rattle.selection_rules.proofs.Commuting.{IsExponent, no_power, power, exponents}
 use Rattle.selection_laws.specs.Fits.{IsWord, NoAddress}
-use Rattle.selection_rules.specs.Instructions.{bare, right_regs}
+use Rattle.selection_rules.specs.Instructions.{bare_mark, right_regs}
 use Rattle.selection_rules.specs.Instructions as emit
-use Rattle.selection_rules.specs.Select.{Immediate, exponent_if, exponent_from, shift_by, immediate_if, immediate_of, commuted, right_immediate, if_commuted, left_immediate, power_of, power_shape, Shape, InRegisters, ConstantRight, ConstantLeft, PowerRight, shape, shape_of, shape_op, shape_right, shape_args, right_of, bound_test, comparison, Named, scopes, seat, seats, result_seat, callee_of, callee_regs, regs_of, comp_of}
+use Rattle.selection_rules.specs.Select.{Immediate, exponent_if, exponent_from, shift_by, immediate_if, immediate_of, commuted, right_immediate, if_commuted, left_immediate, power_of, power_shape, OperandShape, InRegisters, ConstantRight, ConstantLeft, PowerRight, shape, operation_shape, shape_op, shape_right, shape_args, bound_test_operand, bound_test, comparison, NamedRegister, scopes, seat, seats, result_seat, callee_of, callee_regs, regs_of, comp_of_type}
 use Rattle.cmm_tree.specs.Measures.{count_of}
 use Rattle.selection_rules.proofs.Rows.{row_count}
 use Rattle.std.proofs.lemmas.Option.{none-some}
@@ -55,11 +55,11 @@ is_return _ = false
 
 -- what is to hold of an instruction of a function that is written with this result
 pub record IsProper (given : Ret) (i : Instr) : Type 0 where
-  pub formed : IsFormed i
+  pub formed : IsFormedInstruction i
   pub distinct : AreDistinct i.results
   pub operands : AreSeated (mach_operand_seats i.op) (places_of i.args)
   pub results : AreSeated (mach_result_seats i.op) (places_of i.results)
-  pub gives : is_return i.op ≡ true → comps i.args ≡ results_of given
+  pub gives : is_return i.op ≡ true → comps i.args ≡ results_of_type given
 
 one_distinct : (d : Reg) → AreDistinct (d ∷ [])
 one_distinct d i j e below within = absurd (omega arith)
@@ -70,27 +70,27 @@ pub record Begins (ls places : List Loc) : Type 0 where
   pub more : List Loc
   pub whole : ls ++ more ≡ places
 
-seats_begin : (i n : ℕ) (rs : List Reg) → i + length rs ≤ 16 → Begins (places_of (seats i n rs)) (drop i argument_places)
-seats_begin i n [] few = record { more = drop i argument_places; whole = refl }
+seats_begin : (i n : ℕ) (rs : List Reg) → i + length rs ≤ 16 → Begins (places_of (seats i n rs)) (drop i argument_locations)
+seats_begin i n [] few = record { more = drop i argument_locations; whole = refl }
 seats_begin i n (r ∷ rs) few =
     let others = seats_begin (suc i) (suc n) rs (omega (arith, few)) in
-    record { more = others.more; whole = ap (λ ls. slice_index_or argument_places i loc.Unset ∷ ls) others.whole ∙ sym (drop-cons argument_places i loc.Unset (omega (arith, few))) }
+    record { more = others.more; whole = ap (λ ls. slice_index_or argument_locations i loc.Unset ∷ ls) others.whole ∙ sym (drop-cons argument_locations i loc.Unset (omega (arith, few))) }
 
-pub seats_in_order : (n : ℕ) (rs : List Reg) → length rs ≤ 16 → AreSeated (InOrder argument_places) (places_of (seats 0 n rs))
+pub seats_in_order : (n : ℕ) (rs : List Reg) → length rs ≤ 16 → AreSeated (InOrder argument_locations) (places_of (seats 0 n rs))
 seats_in_order n rs few = let b = seats_begin 0 n rs (omega (arith, few)) in in_order b.more b.whole
 
-seats_after_first : (l : Loc) (n : ℕ) (rs : List Reg) → length rs ≤ 16 → AreSeated (AfterFirst argument_places) (l ∷ places_of (seats 0 n rs))
+seats_after_first : (l : Loc) (n : ℕ) (rs : List Reg) → length rs ≤ 16 → AreSeated (AfterFirst argument_locations) (l ∷ places_of (seats 0 n rs))
 seats_after_first l n rs few = let b = seats_begin 0 n rs (omega (arith, few)) in after_first b.more b.whole
 
-result_seated : (n : ℕ) (result : Ret) → AreSeated (InOrder result_places) (places_of (result_seat n result))
-result_seated n ret.Unit = in_order result_places refl
+result_seated : (n : ℕ) (result : Ret) → AreSeated (InOrder result_locations) (places_of (result_seat n result))
+result_seated n ret.Unit = in_order result_locations refl
 result_seated n (ret.Comp c) = in_order [] refl
 
 result_distinct : (n : ℕ) (result : Ret) → AreDistinct (result_seat n result)
 result_distinct n ret.Unit = none_distinct
 result_distinct n (ret.Comp c) = one_distinct (seat 0 n c)
 
-result_comps : (n : ℕ) (result : Ret) → comps (result_seat n result) ≡ results_of result
+result_comps : (n : ℕ) (result : Ret) → comps (result_seat n result) ≡ results_of_type result
 result_comps n ret.Unit = refl
 result_comps n (ret.Comp c) = refl
 
@@ -144,7 +144,7 @@ left_suits f (Integer at w) = commuted_suits (commuted f) w
 left_suits f e = no_immediate
 
 -- the components of the operands of an operator, where they are by its shape
-record ShapeForm (s : Shape) (f : IntOp) (x y : Reg) : Type 0 where
+record ShapeForm (s : OperandShape) (f : IntOp) (x y : Reg) : Type 0 where
   left : Comp
   rest : List Comp
   is : left ∷ rest ≡ comps (shape_args s x y)
@@ -159,13 +159,13 @@ power_form : (f : IntOp) (x y : Reg) (o : Option ℕ) → ShapeForm (power_shape
 power_form f x y (Some k) = record { left = x.comp; rest = y.comp ∷ []; is = refl; fits = a_register }
 power_form f x y None = record { left = x.comp; rest = y.comp ∷ []; is = refl; fits = a_register }
 
-shape_form : (f : IntOp) (left e : Expression) (x y : Reg) → ShapeForm (shape_of f left e) f x y
+shape_form : (f : IntOp) (left e : Expression) (x y : Reg) → ShapeForm (operation_shape f left e) f x y
 shape_form operator.Div left e x y = power_form operator.Div x y (power_of e)
 shape_form operator.Mod left e x y = power_form operator.Mod x y (power_of e)
 shape_form f left e x y = shape_forms f x y (right_immediate f e) (left_immediate f left) (right_suits f e) (left_suits f left)
 
 -- the exponent of a power by which an operator divides
-pub data ShortPower : Shape → Type 0 where
+pub data ShortPower : OperandShape → Type 0 where
   in_registers : ShortPower InRegisters
   constant_right : {i : Immediate} → ShortPower (ConstantRight i)
   constant_left : {i : Immediate} → ShortPower (ConstantLeft i)
@@ -184,7 +184,7 @@ of_power : (e : Expression) → ShortPower (power_shape (power_of e))
 of_power (Integer at w) = power_short (exponents 1 63 62 1 w (omega arith) (omega arith))
 of_power e = in_registers
 
-pub short_shape : (f : IntOp) (left e : Expression) → ShortPower (shape_of f left e)
+pub short_shape : (f : IntOp) (left e : Expression) → ShortPower (operation_shape f left e)
 short_shape operator.Div left e = of_power e
 short_shape operator.Mod left e = of_power e
 short_shape f left e = shape_short (right_immediate f e) (left_immediate f left)
@@ -200,11 +200,11 @@ comparison_tested (operator.CmpU f) r left rest is t e = subst (λ t. IsTested t
     same t u e = cc
 comparison_tested f r left rest is t e = absurd (none-some t e)
 
-shape_tested : {s : Shape} {f : IntOp} {x y : Reg} → ShapeForm s f x y → (t : Test) → comparison (shape_op s f) (shape_right s) ≡ Some t → IsTested t (comps (shape_args s x y))
+shape_tested : {s : OperandShape} {f : IntOp} {x y : Reg} → ShapeForm s f x y → (t : Test) → comparison (shape_op s f) (shape_right s) ≡ Some t → IsTested t (comps (shape_args s x y))
 shape_tested {s} {f} form t e = subst (λ cs. IsTested t cs) form.is (comparison_tested (shape_op s f) (shape_right s) form.left form.rest form.fits t e)
 
 -- the index of a bound test
-right_form : (f : IntOp) (e : Expression) (y : Reg) → IsRight f (right_of f e) (comps (right_regs (right_of f e) y))
+right_form : (f : IntOp) (e : Expression) (y : Reg) → IsRight f (bound_test_operand f e) (comps (right_regs (bound_test_operand f e) y))
 right_form f (Integer at w) y = by (is_immediate f w) refl
   where
     by : (b : Bool) → is_immediate f w ≡ b → IsRight f (cond b (right.Constant w) right.Register) (comps (right_regs (cond b (right.Constant w) right.Register) y))
@@ -221,11 +221,11 @@ header_cells header cells e =
 
 -- ---- arguments of external calls
 
-outer_comp : (t : Ty) → is_address t ≡ false → comp_of t ≡ comp_of_argument t
+outer_comp : (t : Ty) → is_address t ≡ false → comp_of_type t ≡ comp_of_argument t
 outer_comp ty.Addr e = absurd (true≢false e)
 outer_comp t e = refl
 
-outer_comps : (env : List Named) (b : ℕ) (es : Expressions) → NoAddress (scopes env) es → comps (regs_of env b es) ≡ comps_of_arguments (scopes env) es
+outer_comps : (env : List NamedRegister) (b : ℕ) (es : Expressions) → NoAddress (scopes env) es → comps (regs_of env b es) ≡ comps_of_arguments (scopes env) es
 outer_comps env b NoMore none = refl
 outer_comps env b (More e rest) none =
     let t = type_of (scopes env) e in
@@ -235,7 +235,7 @@ outer_comps env b (More e rest) none =
 
 module _ {given : Ret} where
   an_op : {f : Op} {args results : List Reg} → HasForm f (comps args) (comps results) → AreDistinct results → AreSeated (operand_seats f) (places_of args) → AreSeated (result_seats f) (places_of results) → is_return (mach.Op f) ≡ false →
-      IsProper given (emit.operation f args results)
+      IsProper given (emit.operation_instr f args results)
   an_op form distinct operands results other = record { formed = formed_op form; distinct = distinct; operands = operands; results = results; gives = λ e. absurd (true≢false (sym e ∙ other)) }
 
   a_mark : {f : Mark} {args : List Reg} → MarkHasForm f (comps args) [] → AreSeated (mach_result_seats (mach.Mark f)) [] → IsProper given (record { op = mach.Mark f; args = args; results = [] })
@@ -250,10 +250,10 @@ module _ {given : Ret} where
   pub p_symbol : (name : List ℕ) (d : Reg) → IsProper given (emit.symbol name d)
   p_symbol name d = an_op symbol (one_distinct d) anywhere anywhere refl
 
-  pub p_operator : (f : IntOp) (left e : Expression) (x y d : Reg) → IsProper given (emit.operator (shape_op (shape_of f left e) f) (shape_right (shape_of f left e)) (shape_args (shape_of f left e) x y) d)
+  pub p_operator : (f : IntOp) (left e : Expression) (x y d : Reg) → IsProper given (emit.operator (shape_op (operation_shape f left e) f) (shape_right (operation_shape f left e)) (shape_args (operation_shape f left e) x y) d)
   p_operator f left e x y d =
       let form = shape_form f left e x y in
-      let s = shape_of f left e in
+      let s = operation_shape f left e in
       an_op (subst (λ cs. HasForm (op.Pure (pure.Operator (shape_op s f) (shape_right s))) cs (d.comp ∷ [])) form.is (operates form.fits)) (one_distinct d) anywhere anywhere refl
 
   pub p_shift : (f : IntOp) (k : ℕ) (x d : Reg) → is_immediate f k ≡ true → IsProper given (emit.operator f (right.Constant k) (x ∷ []) d)
@@ -262,7 +262,7 @@ module _ {given : Ret} where
   pub p_registers : (f : IntOp) (x y d : Reg) → IsProper given (emit.operator f right.Register (x ∷ y ∷ []) d)
   p_registers f x y d = an_op (operates a_register) (one_distinct d) anywhere anywhere refl
 
-  pub p_branch : (f : IntOp) (left e : Expression) (x y : Reg) (l : ℕ) (t : Test) → comparison (shape_op (shape_of f left e) f) (shape_right (shape_of f left e)) ≡ Some t → IsProper given (emit.branch t l (shape_args (shape_of f left e) x y))
+  pub p_branch : (f : IntOp) (left e : Expression) (x y : Reg) (l : ℕ) (t : Test) → comparison (shape_op (operation_shape f left e) f) (shape_right (operation_shape f left e)) ≡ Some t → IsProper given (emit.branch t l (shape_args (operation_shape f left e) x y))
   p_branch f left e x y l t is = a_mark (if_form (shape_tested (shape_form f left e x y) t is)) anywhere
 
   pub p_load : (k : Chunk) (offset : ℕ) (x d : Reg) → IsProper given (emit.load k offset x d)
@@ -288,19 +288,19 @@ module _ {given : Ret} where
       an_op (subst (λ cs. HasForm (op.Calling (calling.Call callee.Register result)) (f.comp ∷ comps (seats 0 n rs)) cs) (sym (result_comps k result)) (calls (comps (seats 0 n rs)) by_register)) (result_distinct k result) (seats_after_first f.loc n rs few) (result_seated k result) refl
 
   pub p_tail_call : (result : Ret) (o : Option (List ℕ)) (f : Reg) (n : ℕ) (rs : List Reg) → length rs ≤ 16 → IsProper given (emit.tail_call (callee_of o) result (callee_regs o f ++ seats 0 n rs))
-  p_tail_call result (Some name) f n rs few = an_op (tail_calls (comps (seats 0 n rs)) by_symbol) none_distinct (seats_in_order n rs few) (in_order result_places refl) refl
-  p_tail_call result None f n rs few = an_op (tail_calls (comps (seats 0 n rs)) by_register) none_distinct (seats_after_first f.loc n rs few) (in_order result_places refl) refl
+  p_tail_call result (Some name) f n rs few = an_op (tail_calls (comps (seats 0 n rs)) by_symbol) none_distinct (seats_in_order n rs few) (in_order result_locations refl) refl
+  p_tail_call result None f n rs few = an_op (tail_calls (comps (seats 0 n rs)) by_register) none_distinct (seats_after_first f.loc n rs few) (in_order result_locations refl) refl
 
-  pub p_external : (env : List Named) (b n k : ℕ) (name : List ℕ) (frame : Bool) (result : Ret) (es : Expressions) → NoAddress (scopes env) es → length (regs_of env b es) ≤ 16 →
-      IsProper given (emit.external name (comps_of_arguments (scopes env) es) result frame (seats 0 n (regs_of env b es)) (result_seat k result))
+  pub p_external : (env : List NamedRegister) (b n k : ℕ) (name : List ℕ) (frame : Bool) (result : Ret) (es : Expressions) → NoAddress (scopes env) es → length (regs_of env b es) ≤ 16 →
+      IsProper given (emit.external_instruction name (comps_of_arguments (scopes env) es) result frame (seats 0 n (regs_of env b es)) (result_seat k result))
   p_external env b n k name frame result es none few =
       let given_comps = seats_comps 0 n (regs_of env b es) ∙ outer_comps env b es none in
       let row : declared.External = record { name = name; params = comps_of_arguments (scopes env) es; result = result } in
-      let form : HasForm (op.Calling (calling.External row frame)) (comps_of_arguments (scopes env) es) (results_of result) = calls_out in
+      let form : HasForm (op.Calling (calling.External row frame)) (comps_of_arguments (scopes env) es) (results_of_type result) = calls_out in
       an_op (subst (λ cs. HasForm (op.Calling (calling.External row frame)) cs (comps (result_seat k result))) (sym given_comps) (subst (λ cs. HasForm (op.Calling (calling.External row frame)) (comps_of_arguments (scopes env) es) cs) (sym (result_comps k result)) form))
       (result_distinct k result) (seats_in_order n (regs_of env b es) few) (result_seated k result) refl
 
-  pub p_checkbound : (e : Expression) (x y : Reg) → IsProper given (emit.checkbound (right_of bound_test e) x y)
+  pub p_checkbound : (e : Expression) (x y : Reg) → IsProper given (emit.checkbound_instr (bound_test_operand bound_test e) x y)
   p_checkbound e x y = an_op (checks (right_form bound_test e y)) none_distinct anywhere anywhere refl
 
   pub p_raise : (n : ℕ) → IsProper given (emit.raising (seat 0 n comp.Val))
@@ -315,7 +315,7 @@ module _ {given : Ret} where
   pub p_choice : (ls : List ℕ) (x : Reg) → IsProper given (emit.choose ls x)
   p_choice ls x = a_mark switch_form anywhere
 
-  pub p_bare : (f : Mark) → MarkHasForm f [] [] → AreSeated (mach_result_seats (mach.Mark f)) [] → IsProper given (bare f)
+  pub p_bare : (f : Mark) → MarkHasForm f [] [] → AreSeated (mach_result_seats (mach.Mark f)) [] → IsProper given (bare_mark f)
   p_bare f form results = a_mark form results
 
 pub p_return : (n : ℕ) (result : Ret) → IsProper result (emit.give_back (result_seat n result))

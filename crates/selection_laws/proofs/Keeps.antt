@@ -8,8 +8,8 @@ use Rattle.cmm_tree.specs.Tree.{FunctionTree, comps_of}
 use Rattle.cmm_meaning.specs.State.{Doing}
 use Rattle.cmm_meaning.specs.Evaluation.{Evaluation, fit_parameters, bound_error}
 use Rattle.mach_ir.specs.Acts.{Around}
-use Rattle.mach_ir.specs.Runs.{Place, Run}
-use Rattle.mach_ir.specs.Meaning.{State, run}
+use Rattle.mach_ir.specs.Runs.{ActivationSetting, RunProgress}
+use Rattle.mach_ir.specs.Meaning.{State, run_of_mach}
 use Rattle.mach_ir.specs.Walks.{NoAddrLive}
 use Rattle.mach_ir.specs.declared.mach.Instr.{Instr}
 use Rattle.mach_ir.specs.declared.mach.Mach.{Mach}
@@ -49,11 +49,11 @@ bare_results a_with z = refl
 bare_results a_leave z = refl
 bare_results an_end z = refl
 
-pub selected_steady : (c : Place) (f : FunctionTree) → NoAddrLive (selected f) → Steady c (selected f)
+pub selected_steady : (c : ActivationSetting) (f : FunctionTree) → NoAddrLive (selected f) → Steady c (selected f)
 selected_steady c f live = record { no_addr = live; bare = λ i next s z. bare_results (made_of (selected_made f) s) z }
 
 -- the run that loses no addr, and then the run itself
-pub meets_twin : {c : Place} {m : Mach} {u : ℕ} {e : Evaluation} {r q : Run State} → Twin c m r q → Meets u e r → Meets u e q
+pub meets_twin : {c : ActivationSetting} {m : Mach} {u : ℕ} {e : Evaluation} {r q : RunProgress State} → Twin c m r q → Meets u e r → Meets u e q
 meets_twin both_ended (returned a b) = returned a b
 meets_twin both_ended (threw a b) = threw a b
 meets_twin (both_running g) (running a b same) = running a b (ap (λ (a : Around). a.memory) (sym g) ∙ same)
@@ -64,9 +64,9 @@ meets_twin w left_by_exit = left_by_exit
 -- For every list that is handed in, every memory and arguments that fit, all of words, and every number of units: some
 -- run of the selected code has the same calls, need and end, and as many units as the function has beats; these are
 -- bounded by the units of the tree both ways.
-pub selection_keeps_losing : (c : Place) (f : FunctionTree) → fits c.setting.end ty.Val bound_error ≡ true → width f.body < 2 ^ 60 → FunctionFits f → NoAddrLive (selected f) → BoundedSymbols c.setting →
+pub selection_keeps_losing : (c : ActivationSetting) (f : FunctionTree) → fits c.setting.end ty.Val bound_error ≡ true → width f.body < 2 ^ 60 → FunctionFits f → NoAddrLive (selected f) → BoundedSymbols c.setting →
     (arguments : List Value) (memory : Memory) (doings : List Doing) (n : ℕ) → AllBounded arguments → BoundedMemory memory → BoundedDoings doings →
-    fit_parameters c.setting.end (comps_of f) arguments ≡ true → SelectedRun run c (selected f) f arguments memory doings n
+    fit_parameters c.setting.end (comps_of f) arguments ≡ true → SelectedRun run_of_mach c (selected f) f arguments memory doings n
 selection_keeps_losing c f still fine fits live symbols arguments memory doings n words cells handed fitting =
     let k = selection_keeps c f still fine symbols (selected_bounded f fits) arguments memory doings n words cells handed fitting in
     record {

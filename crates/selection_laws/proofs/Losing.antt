@@ -10,10 +10,10 @@ use Rattle.bs_words.specs.declared.types.Comp.TheVariants as comp
 use Rattle.bs_words.specs.declared.values.Value.{Value}
 use Rattle.cmm_meaning.specs.State.{Doing, Asked}
 use Rattle.bs_words.specs.declared.types.Ret.{Ret}
-use Rattle.mach_ir.specs.Acts.{goes_on, Around, Target, On, At, Landing, AtLabel, AtHandler, Act, Goes, Pushes, Jumps, Unwinds, Asks, Replaces, Ends, EndsRaising, Stuck}
-use Rattle.mach_ir.specs.Runs.{Place, Step, Continues, Pays, Deepens, Waits, FinishesBy, Finishes, FinishesRaising, IsStuck, Tally, Run, Running, Asking, Ended, Wrong, paid, came_back, kept_of, handed, onward, first_tally, entered}
-use Rattle.mach_ir.specs.Meaning.{State, File, Held, put, put_if, put_all, clear, killed, killed_by, destroyed_by, values, with_held, is_addr, unless_addr, past_frame, passes_frame, code_at, tries_at, at_handler, landing_code, mach_act, wrote, on_act, on_values, at_code, run, begun, start}
-use Rattle.mach_ir.specs.Walks.{Among, first, later, OneOf, this, other, next_if, targets, may_raise, goes, raises, Reached, at_entry, by_step, by_raise, Writes, Live, read, on, aside, LiveAcross, across_step, across_raise, IsRegister, is_param, is_in_code, Stands, NoAddrLive}
+use Rattle.mach_ir.specs.Acts.{falls_through, Around, Target, On, At, Landing, AtLabel, AtHandler, Act, Goes, Pushes, Jumps, Unwinds, Asks, Replaces, Ends, EndsRaising, Stuck}
+use Rattle.mach_ir.specs.Runs.{ActivationSetting, Step, Continues, Pays, Deepens, Waits, FinishesBy, Finishes, FinishesRaising, IsStuck, Tally, RunProgress, Running, Asking, Ended, Wrong, paid, came_back, kept_of, handed, run_onward, first_tally, entry_around}
+use Rattle.mach_ir.specs.Meaning.{State, File, Held, assign_register, put_if, put_all, clear_registers, killed, killed_by, destroyed_by, values, with_held, is_addr, unless_addr, past_frame, passes_frame, code_at, tries_at, at_handler, landing_code, mach_act, wrote, on_act, on_values, at_code, run_of_mach, begin_mach, mach_start}
+use Rattle.mach_ir.specs.Walks.{AmongRegisters, first, later, OneOf, this, other, next_if, targets, may_raise, goes, raises, Reached, at_entry, by_step, by_raise, Writes, Live, read, on, aside, LiveAcross, across_step, across_raise, IsRegister, is_param, is_in_code, StandsAsInstr, NoAddrLive}
 use Rattle.mach_ir.specs.declared.mach.Instr.{Instr}
 use Rattle.mach_ir.specs.declared.mach.Mach.{Mach}
 use Rattle.mach_ir.specs.declared.mach.MachOp.{MachOp}
@@ -42,11 +42,11 @@ both_put true r v weak (both_some {a = a} {b = b} e) = both_some (λ n l. cond_b
 both_put false r v weak both_none = both_none
 both_put false r v weak (both_some e) = both_none
 
-pub not_first : {n : ℕ} {r : Reg} {rs : List Reg} → nat_eq r.number n ≡ false → (Among n rs → ⊥) → Among n (r ∷ rs) → ⊥
+pub not_first : {n : ℕ} {r : Reg} {rs : List Reg} → nat_eq r.number n ≡ false → (AmongRegisters n rs → ⊥) → AmongRegisters n (r ∷ rs) → ⊥
 not_first {n} {r} s free (first q) = true≢false (sym (eq-eqb r.number n q) ∙ s)
 not_first s free (later i) = free i
 
-put_both : (end : ℕ) (rs : List Reg) (vs : List Value) {L : ℕ → Type 0} (a b : File) → ((n : ℕ) → L n → (Among n rs → ⊥) → b n ≡ a n) → Both L (put_all end rs vs a) (put_all end rs vs b)
+put_both : (end : ℕ) (rs : List Reg) (vs : List Value) {L : ℕ → Type 0} (a b : File) → ((n : ℕ) → L n → (AmongRegisters n rs → ⊥) → b n ≡ a n) → Both L (put_all end rs vs a) (put_all end rs vs b)
 put_both end [] [] a b e = both_some (λ n l. e n l (λ i. elim i [ ]))
 put_both end [] (v ∷ vs) a b e = both_none
 put_both end (r ∷ rs) [] a b e = both_none
@@ -54,7 +54,7 @@ put_both end (r ∷ rs) (v ∷ vs) {L} a b e =
     both_put {L = L} {M = λ n. L n × (nat_eq r.number n ≡ false)} (fits end (type_of_comp r.comp) v) r v (λ n l q. (l, q))
     (put_both end rs vs {L = λ n. L n × (nat_eq r.number n ≡ false)} a b (λ n l free. e n l.0 (λ i. not_first l.1 free i)))
 
-values_both : (a b : File) (rs : List Reg) → ((n : ℕ) → Among n rs → b n ≡ a n) → values b rs ≡ values a rs
+values_both : (a b : File) (rs : List Reg) → ((n : ℕ) → AmongRegisters n rs → b n ≡ a n) → values b rs ≡ values a rs
 values_both a b [] e = refl
 values_both a b (r ∷ rs) e = ap (λ o. with_held o (values b rs)) (e r.number (first refl)) ∙ ap (with_held (a r.number)) (values_both a b rs (λ n i. e n (later i)))
 
@@ -95,7 +95,7 @@ pub data IsBare : MachOp → Type 0 where
 
 -- what may go to a label is such a mark
 pub bare_at : (f : MachOp) (l : ℕ) → OneOf (At l) (targets f) → IsBare f
-bare_at (mach.Op f) l o = absurd (by (goes_on f) o)
+bare_at (mach.Op f) l o = absurd (by (falls_through f) o)
   where
     by : (b : Bool) → OneOf (At l) (next_if b) → ⊥
     by true (other o) = elim o [ ]
@@ -120,11 +120,11 @@ next_try is_try = this
 
 -- ---- places
 
-module _ (c : Place) (m : Mach) where
+module _ (c : ActivationSetting) (m : Mach) where
   -- what this rests on: no addr is live after a frame point, and what jumps or pushes writes nothing
   pub record Steady : Type 0 where
     pub no_addr : NoAddrLive m
-    pub bare : (i : Instr) (next : List Instr) → Stands i next m.code → IsBare i.op → i.results ≡ []
+    pub bare : (i : Instr) (next : List Instr) → StandsAsInstr i next m.code → IsBare i.op → i.results ≡ []
 
   -- a register that holds this was written with its component
   pub record Known (n : ℕ) (x : Held) : Type 0 where
@@ -158,12 +158,12 @@ module _ (c : Place) (m : Mach) where
     two_raise : {d : Doing} → AgreeStep (FinishesRaising d) (FinishesRaising d)
     two_halt : AgreeStep IsStuck IsStuck
 
-  among_append : {n : ℕ} (xs : List Reg) {ys : List Reg} → Among n (xs ++ ys) → Among n xs ⊎ Among n ys
+  among_append : {n : ℕ} (xs : List Reg) {ys : List Reg} → AmongRegisters n (xs ++ ys) → AmongRegisters n xs ⊎ AmongRegisters n ys
   among_append [] a = inr a
   among_append (x ∷ xs) (first e) = inl (first e)
   among_append (x ∷ xs) (later a) = ⊎_elim (λ z. inl (later z)) (λ z. inr z) (among_append xs a)
 
-  pub free_both : {n : ℕ} (i : Instr) → (Among n i.results → ⊥) → (Among n (killed m i) → ⊥) → Writes m i n → ⊥
+  pub free_both : {n : ℕ} (i : Instr) → (AmongRegisters n i.results → ⊥) → (AmongRegisters n (killed m i) → ⊥) → Writes m i n → ⊥
   free_both i x y ws = ⊎_elim x y (among_append i.results ws)
 
   pub live_in : (n : ℕ) (i : Instr) (next : List Instr) → LiveAcross m n i next → Live m n (i ∷ next)
@@ -172,15 +172,15 @@ module _ (c : Place) (m : Mach) where
 
   -- ---- what stays known
 
-  pub clear_known : (ks : List Reg) (a : File) → AllKnown a → AllKnown (clear ks a)
+  pub clear_known : (ks : List Reg) (a : File) → AllKnown a → AllKnown (clear_registers ks a)
   clear_known [] a k n x e = k n x e
   clear_known (q ∷ ks) a k n x e = by (nat_eq q.number n) (clear_known ks a k n x) e
     where
-      by : (b : Bool) → (clear ks a n ≡ Some x → Known n x) → cond b None (clear ks a n) ≡ Some x → Known n x
+      by : (b : Bool) → (clear_registers ks a n ≡ Some x → Known n x) → cond b None (clear_registers ks a n) ≡ Some x → Known n x
       by true others e = absurd (none_not x e)
       by false others e = others e
 
-  put_known : (r : Reg) (v : Value) (a : File) → IsRegister m r → AllKnown a → AllKnown (put r v a)
+  put_known : (r : Reg) (v : Value) (a : File) → IsRegister m r → AllKnown a → AllKnown (assign_register r v a)
   put_known r v a is k n x e = by (nat_eq r.number n) refl e
     where
       by : (b : Bool) → nat_eq r.number n ≡ b → cond b (Some (record { comp = r.comp; value = v })) (a n) ≡ Some x → Known n x
@@ -214,10 +214,10 @@ module _ (c : Place) (m : Mach) where
       some_file x y e = cc
 
   -- such a mark writes nothing, and no colour is destroyed by it
-  pub bare_free : Steady → {i : Instr} {next : List Instr} → Stands i next m.code → IsBare i.op → (n : ℕ) → Writes m i n → ⊥
-  bare_free steady {i} {next} stands is n w = none_killed i.op is (subst (λ rs. Among n (rs ++ killed m i)) (steady.bare i next stands is) w)
+  pub bare_free : Steady → {i : Instr} {next : List Instr} → StandsAsInstr i next m.code → IsBare i.op → (n : ℕ) → Writes m i n → ⊥
+  bare_free steady {i} {next} stands is n w = none_killed i.op is (subst (λ rs. AmongRegisters n (rs ++ killed m i)) (steady.bare i next stands is) w)
     where
-      none_killed : (f : MachOp) → IsBare f → Among n (killed_by m.colours (destroyed_by f) i.results) → ⊥
+      none_killed : (f : MachOp) → IsBare f → AmongRegisters n (killed_by m.colours (destroyed_by f) i.results) → ⊥
       none_killed (mach.Op f) z w = elim z [ ]
       none_killed (mach.Mark (mark.Handler l)) z w = elim z [ ]
       none_killed (mach.Mark (mark.Exit l k)) z w = elim w [ ]
@@ -260,11 +260,11 @@ module _ (c : Place) (m : Mach) where
     ending_at (At l) = ending_label l m.code
 
     -- a register that is killed holds nothing in both
-    cleared : (n : ℕ) (ks : List Reg) → ((Among n ks → ⊥) → b' n ≡ a n) → clear ks b' n ≡ clear ks a n
+    cleared : (n : ℕ) (ks : List Reg) → ((AmongRegisters n ks → ⊥) → b' n ≡ a n) → clear_registers ks b' n ≡ clear_registers ks a n
     cleared n [] e = e (λ i. elim i [ ])
     cleared n (k ∷ ks) e = by (nat_eq k.number n) refl (λ q. cleared n ks (λ free. e (λ i. not_first q free i)))
       where
-        by : (x : Bool) → nat_eq k.number n ≡ x → (nat_eq k.number n ≡ false → clear ks b' n ≡ clear ks a n) → cond x None (clear ks b' n) ≡ cond x None (clear ks a n)
+        by : (x : Bool) → nat_eq k.number n ≡ x → (nat_eq k.number n ≡ false → clear_registers ks b' n ≡ clear_registers ks a n) → cond x None (clear_registers ks b' n) ≡ cond x None (clear_registers ks a n)
         by true q more' = refl
         by false q more' = more' q
 
@@ -272,13 +272,13 @@ module _ (c : Place) (m : Mach) where
     results_known r x = is_in_code (results_in (stands_of rel.ending) x)
 
     put_agree : (vs : List Value) (t : Target) (after : Around) → OneOf t (targets i.op) →
-        AgreeStep (wrote (code_at m.code next t) after (put_all c.setting.end i.results vs (clear (killed m i) a))) (wrote (code_at m.code next t) after (put_all c.setting.end i.results vs (clear (killed m i) b')))
+        AgreeStep (wrote (code_at m.code next t) after (put_all c.setting.end i.results vs (clear_registers (killed m i) a))) (wrote (code_at m.code next t) after (put_all c.setting.end i.results vs (clear_registers (killed m i) b')))
     put_agree vs t after o =
-        by (put_all c.setting.end i.results vs (clear (killed m i) a)) (put_all c.setting.end i.results vs (clear (killed m i) b')) refl
-        (put_both c.setting.end i.results vs {L = λ n. Live m n (code_at m.code next t)} (clear (killed m i) a) (clear (killed m i) b')
+        by (put_all c.setting.end i.results vs (clear_registers (killed m i) a)) (put_all c.setting.end i.results vs (clear_registers (killed m i) b')) refl
+        (put_both c.setting.end i.results vs {L = λ n. Live m n (code_at m.code next t)} (clear_registers (killed m i) a) (clear_registers (killed m i) b')
         (λ n w free. cleared n (killed m i) (λ unkilled. stays n (across_step (free_both i free unkilled) (goes t o) w))))
       where
-        by : (x y : Option File) → put_all c.setting.end i.results vs (clear (killed m i) a) ≡ x → Both (λ n. Live m n (code_at m.code next t)) x y →
+        by : (x y : Option File) → put_all c.setting.end i.results vs (clear_registers (killed m i) a) ≡ x → Both (λ n. Live m n (code_at m.code next t)) x y →
             AgreeStep (wrote (code_at m.code next t) after x) (wrote (code_at m.code next t) after y)
         by x y e both_none = two_halt
         by x y e (both_some {a = d} q) =
@@ -286,7 +286,7 @@ module _ (c : Place) (m : Mach) where
               ending = ending_at t;
               reached = comes (by_step reached_here (goes t o));
               agree = q;
-              known = known_of (put_all_known c.setting.end i.results vs (clear (killed m i) a) results_known (clear_known (killed m i) a rel.known)) e;
+              known = known_of (put_all_known c.setting.end i.results vs (clear_registers (killed m i) a) results_known (clear_known (killed m i) a rel.known)) e;
             })
 
     land_agree : (to : Landing) → MayLand i.op to → Agree (landing_code m.code (i ∷ next) to) a b'
@@ -324,30 +324,30 @@ module _ (c : Place) (m : Mach) where
     act_agree around (EndsRaising d) l = two_raise
     act_agree around Stuck l = two_halt
 
-    instr_agree : (around : Around) (o : Option (List Value)) → AgreeStep (kept.on_values c m i next a around o) (on_values c m i next b around o)
+    instr_agree : (around : Around) (o : Option (List Value)) → AgreeStep (kept.on_lossless_values c m i next a around o) (on_values c m i next b around o)
     instr_agree around None = two_halt
     instr_agree around (Some vs) = act_agree around (mach_act c.setting i.op vs around) (within c.setting i.op vs around)
 
-  step_agree : Steady → (rest : List Instr) (a b : File) (around : Around) → Agree rest a b → AgreeStep (kept.at_code c m rest a around) (at_code c m rest b around)
+  step_agree : Steady → (rest : List Instr) (a b : File) (around : Around) → Agree rest a b → AgreeStep (kept.at_lossless_code c m rest a around) (at_code c m rest b around)
   step_agree steady [] a b around rel = two_halt
   step_agree steady (i ∷ next) a b around rel =
-      subst (λ o. AgreeStep (kept.on_values c m i next a around (values a i.args)) (on_values c m i next b around o)) (sym (values_both a b i.args (λ n z. rel.agree n (read z))))
+      subst (λ o. AgreeStep (kept.on_lossless_values c m i next a around (values a i.args)) (on_values c m i next b around o)) (sym (values_both a b i.args (λ n z. rel.agree n (read z))))
       (instr_agree steady i next a b rel around (values a i.args))
 
   -- ---- runs
 
   -- the same is said of both
-  pub data Twin : Run State → Run State → Type 0 where
+  pub data Twin : RunProgress State → RunProgress State → Type 0 where
     both_running : {s u : State} {t : Tally} → s.around ≡ u.around → Twin (Running s t) (Running u t)
     both_asking : {call : Asked} {t : Tally} → Twin (Asking call t) (Asking call t)
     both_ended : {d : Doing} {t : Tally} → Twin (Ended d t) (Ended d t)
     both_wrong : Twin Wrong Wrong
 
   abbrev Runs : ℕ → Type 0
-  Runs k = (rest : List Instr) (a b : File) (around : Around) (t : Tally) → Agree rest a b → Twin (kept.run c m k (record { rest = rest; file = a; around = around }) t) (run c m k (record { rest = rest; file = b; around = around }) t)
+  Runs k = (rest : List Instr) (a b : File) (around : Around) (t : Tally) → Agree rest a b → Twin (kept.run_of_selected c m k (record { rest = rest; file = a; around = around }) t) (run_of_mach c m k (record { rest = rest; file = b; around = around }) t)
 
-  handed_runs : (k : ℕ) (call : Asked) (x y : Doing → Step State) (ds : List Doing) (t : Tally) → ((d : Doing) (t : Tally) → Twin (onward (kept.run c m k) (x d) t) (onward (run c m k) (y d) t)) →
-      Twin (handed (λ d t. onward (kept.run c m k) (x d) t) call ds t) (handed (λ d t. onward (run c m k) (y d) t) call ds t)
+  handed_runs : (k : ℕ) (call : Asked) (x y : Doing → Step State) (ds : List Doing) (t : Tally) → ((d : Doing) (t : Tally) → Twin (run_onward (kept.run_of_selected c m k) (x d) t) (run_onward (run_of_mach c m k) (y d) t)) →
+      Twin (handed (λ d t. run_onward (kept.run_of_selected c m k) (x d) t) call ds t) (handed (λ d t. run_onward (run_of_mach c m k) (y d) t) call ds t)
   handed_runs k call x y [] t more' = both_asking
   handed_runs k call x y (d ∷ ds) t more' = more' d (came_back call ds t)
 
@@ -355,7 +355,7 @@ module _ (c : Place) (m : Mach) where
   placed_runs call kept [] t = both_asking
   placed_runs call kept (d ∷ ds) t = both_ended
 
-  step_runs : (k : ℕ) → Runs k → {x y : Step State} → AgreeStep x y → (t : Tally) → Twin (onward (kept.run c m k) x t) (onward (run c m k) y t)
+  step_runs : (k : ℕ) → Runs k → {x y : Step State} → AgreeStep x y → (t : Tally) → Twin (run_onward (kept.run_of_selected c m k) x t) (run_onward (run_of_mach c m k) y t)
   step_runs k ih (two_walk rel) t = ih _ _ _ _ t rel
   step_runs k ih (two_leap rel) t = ih _ _ _ _ (paid t) rel
   step_runs k ih (two_deep rel) t = ih _ _ _ _ _ rel
@@ -369,7 +369,7 @@ module _ (c : Place) (m : Mach) where
   runs_agree steady zero = λ rest a b around t rel. both_running refl
   runs_agree steady (suc k) = λ rest a b around t rel. step_runs k (runs_agree steady k) (step_agree steady rest a b around rel) t
 
-  start_agree : (arguments : List Value) (memory : Memory) (s : State) → start c m arguments memory ≡ Some s → Agree s.rest s.file s.file
+  start_agree : (arguments : List Value) (memory : Memory) (s : State) → mach_start c m arguments memory ≡ Some s → Agree s.rest s.file s.file
   start_agree arguments memory s is = by (put_all c.setting.end m.params arguments (λ n. None)) refl is
     where
       no_state : (s : State) → None ≡ Some s → ⊥
@@ -378,11 +378,11 @@ module _ (c : Place) (m : Mach) where
       some_state : (x y : State) → Some x ≡ Some y → x ≡ y
       some_state x y e = cc
 
-      by : (o : Option File) → put_all c.setting.end m.params arguments (λ n. None) ≡ o → begun m memory o ≡ Some s → Agree s.rest s.file s.file
+      by : (o : Option File) → put_all c.setting.end m.params arguments (λ n. None) ≡ o → begin_mach m memory o ≡ Some s → Agree s.rest s.file s.file
       by None e b = absurd (no_state s b)
       by (Some a) e b =
           subst (λ (x : State). Agree x.rest x.file x.file)
-          (some_state (record { rest = m.code; file = a; around = entered memory }) s b)
+          (some_state (record { rest = m.code; file = a; around = entry_around memory }) s b)
           (record {
             ending = all;
             reached = comes at_entry;
@@ -391,6 +391,6 @@ module _ (c : Place) (m : Mach) where
           })
 
   -- each run is that of the machine that loses nothing
-  pub losing : Steady → (arguments : List Value) (memory : Memory) (doings : List Doing) (s : State) → start c m arguments memory ≡ Some s → (n : ℕ) →
-      Twin (kept.run c m n s (first_tally c doings)) (run c m n s (first_tally c doings))
+  pub losing : Steady → (arguments : List Value) (memory : Memory) (doings : List Doing) (s : State) → mach_start c m arguments memory ≡ Some s → (n : ℕ) →
+      Twin (kept.run_of_selected c m n s (first_tally c doings)) (run_of_mach c m n s (first_tally c doings))
   losing steady arguments memory doings s is n = runs_agree steady n s.rest s.file s.file s.around (first_tally c doings) (start_agree arguments memory s is)

@@ -11,7 +11,7 @@ use Rattle.cmm_tree.specs.Tree.{FunctionTree, Expression, Integer, Pointer, Symb
 use Rattle.cmm_types.specs.Light.{is_light_address}
 use Rattle.cmm_types.specs.Types.{result_of, body_type}
 use Rattle.cmm_meaning.specs.Evaluation.{is_left_first}
-use Rattle.mach_ir.specs.Walks.{Stands, here, below}
+use Rattle.mach_ir.specs.Walks.{StandsAsInstr, here, below}
 use Rattle.mach_ir.specs.declared.blocks.NewBlock.{NewBlock}
 use Rattle.mach_ir.specs.declared.mach.Instr.{Instr}
 use Rattle.mach_ir.specs.declared.mach.Mark.TheVariants as mark
@@ -19,9 +19,9 @@ use Rattle.mach_ir.specs.declared.mach.Test.{Test}
 use Rattle.mach_ir.specs.declared.op.Callee.{Callee}
 use Rattle.mach_ir.specs.declared.op.Right.{Right}
 use Rattle.mach_ir.specs.declared.reg.Reg.{Reg}
-use Rattle.selection_rules.specs.Instructions.{bare}
+use Rattle.selection_rules.specs.Instructions.{bare_mark}
 use Rattle.selection_rules.specs.Instructions as emit
-use Rattle.selection_rules.specs.Select.{Code, Shape, InRegisters, ConstantRight, ConstantLeft, PowerRight, rounded, power_code, operator_code, shape_of, shape_op, shape_right, unless_left, unless_right, Named, Label, scopes, reg_of, label_of, move_from, move_to, moves_all, exit_to, ordered, only_when, from_seat, symbol_of, unless_symbol, right_of, unless_constant, bound_test, comparison, tested, select_test, is_based, select_base, call_of, regs_of, select, select_waiting, select_filled, select_bound, select_seq, select_cases, select_handlers, deeper, cell_stores, to_seat, selected, first, params_from, with_params, is_no_value, fresh, seats, result_seat}
+use Rattle.selection_rules.specs.Select.{Code, OperandShape, InRegisters, ConstantRight, ConstantLeft, PowerRight, rounded, power_code, operator_code, operation_shape, shape_op, shape_right, unless_left, unless_right, NamedRegister, Label, scopes, reg_of, visible_label, move_from, move_to, moves_all, exit_to_handler, ordered, only_when, from_seat, called_symbol, unless_symbol, bound_test_operand, unless_constant, bound_test, comparison, fused_test, select_test, is_based, select_base, call_of, regs_of, select, select_waiting, select_filled, select_bound, select_seq, select_cases, select_handlers, labels_within_try, cell_stores, to_seat, selected, first_after_colours, params_from, with_params, is_no_value, fresh_register, seats, result_seat}
 use Rattle.selection_rules.proofs.Choices.{kept_when, kept_unless, kept_constant, kept_left, kept_right, kept_ordered, kept_if}
 
 -- what selection makes
@@ -35,27 +35,27 @@ pub data Made : Instr → Type 0 where
   an_alloc : {block : NewBlock} {d : Reg} → Made (emit.alloc block d)
   a_call : {whom : Callee} {result : Ret} {args results : List Reg} → Made (emit.call whom result args results)
   a_tail_call : {whom : Callee} {result : Ret} {args : List Reg} → Made (emit.tail_call whom result args)
-  an_external : {name : List ℕ} {comps : List Comp} {result : Ret} {frame : Bool} {args results : List Reg} → Made (emit.external name comps result frame args results)
-  a_checkbound : {r : Right} {x : Reg} (y : Reg) → Made (emit.checkbound r x y)
+  an_external : {name : List ℕ} {comps : List Comp} {result : Ret} {frame : Bool} {args results : List Reg} → Made (emit.external_instruction name comps result frame args results)
+  a_checkbound : {r : Right} {x : Reg} (y : Reg) → Made (emit.checkbound_instr r x y)
   a_raise : {x : Reg} → Made (emit.raising x)
   a_return : {values : List Reg} → Made (emit.give_back values)
   a_branch : {t : Test} {l : ℕ} {args : List Reg} → Made (emit.branch t l args)
   a_choice : {labels : List ℕ} {x : Reg} → Made (emit.choose labels x)
   a_handler : {l : ℕ} {x : Reg} → Made (emit.handler l x)
-  an_exit : {l n : ℕ} → Made (bare (mark.Exit l n))
-  an_else : {l end : ℕ} → Made (bare (mark.Else l end))
-  a_case : {indexes : List ℕ} {l end : ℕ} → Made (bare (mark.Case indexes l end))
-  a_catch : Made (bare mark.Catch)
-  a_with : {l end : ℕ} → Made (bare (mark.With l end))
-  a_try : {l : ℕ} → Made (bare (mark.Try l))
-  a_leave : {l end : ℕ} → Made (bare (mark.Leave l end))
-  an_end : {l : ℕ} → Made (bare (mark.End l))
+  an_exit : {l n : ℕ} → Made (bare_mark (mark.Exit l n))
+  an_else : {l end : ℕ} → Made (bare_mark (mark.Else l end))
+  a_case : {indexes : List ℕ} {l end : ℕ} → Made (bare_mark (mark.Case indexes l end))
+  a_catch : Made (bare_mark mark.Catch)
+  a_with : {l end : ℕ} → Made (bare_mark (mark.With l end))
+  a_try : {l : ℕ} → Made (bare_mark (mark.Try l))
+  a_leave : {l end : ℕ} → Made (bare_mark (mark.Leave l end))
+  an_end : {l : ℕ} → Made (bare_mark (mark.End l))
 
 pub data AllMade : List Instr → Type 0 where
   none : AllMade []
   one : {i : Instr} {next : List Instr} → Made i → AllMade next → AllMade (i ∷ next)
 
-pub made_of : {i : Instr} {next code : List Instr} → AllMade code → Stands i next code → Made i
+pub made_of : {i : Instr} {next code : List Instr} → AllMade code → StandsAsInstr i next code → Made i
 made_of none s = elim s [ ]
 made_of (one x xs) here = x
 made_of (one x xs) (below s) = made_of xs s
@@ -76,7 +76,7 @@ made_moves [] to next z = z
 made_moves (a ∷ from) [] next z = z
 made_moves (a ∷ from) (d ∷ to) next z = made_moves from to (emit.move a d ∷ next) (one a_move z)
 
-made_exit : (o : Option Label) (from : List Reg) → Makes (exit_to o from)
+made_exit : (o : Option Label) (from : List Reg) → Makes (exit_to_handler o from)
 made_exit None from next z = z
 made_exit (Some t) from next z = made_moves from t.params _ (one an_exit z)
 
@@ -93,17 +93,17 @@ made_cells k p i (r ∷ rs) next z = one a_store (made_cells k p (suc i) rs next
 made_constant : (r : Right) (code : Code) → Makes code → Makes (unless_constant r code)
 made_constant r code e = kept_constant Makes (λ next z. z) {x = code} r e
 
-made_tested : (o : Option Test) (fused : Test → List Instr) (value : List Instr) → ((t : Test) → AllMade (fused t)) → AllMade value → AllMade (tested o fused value)
+made_tested : (o : Option Test) (fused : Test → List Instr) (value : List Instr) → ((t : Test) → AllMade (fused t)) → AllMade value → AllMade (fused_test o fused value)
 made_tested (Some t) fused value f v = f t
 made_tested None fused value f v = v
 
 made_if : (q : Bool) (a b : Code) → Makes a → Makes b → (next : List Instr) → AllMade next → AllMade (cond q (a next) (b next))
 made_if q a b f g = kept_if Makes {x = a} {y = b} q f g
 
-made_left : (s : Shape) (code : Code) → Makes code → Makes (unless_left s code)
+made_left : (s : OperandShape) (code : Code) → Makes code → Makes (unless_left s code)
 made_left s code e = kept_left Makes (λ next z. z) {x = code} s e
 
-made_right : (s : Shape) (code : Code) → Makes code → Makes (unless_right s code)
+made_right : (s : OperandShape) (code : Code) → Makes code → Makes (unless_right s code)
 made_right s code e = kept_right Makes (λ next z. z) {x = code} s e
 
 made_rounded : (k : ℕ) (x y : Reg) → Makes (rounded k x y)
@@ -113,7 +113,7 @@ made_power : (op : IntOp) (k : ℕ) (x y d : Reg) → Makes (power_code op k x y
 made_power operator.Div k x y d next z = made_rounded k x y _ (one an_operator z)
 made_power op k x y d next z = made_rounded k x y _ (one an_operator (one an_operator (one an_operator z)))
 
-made_operator : (s : Shape) (op : IntOp) (x y d : Reg) → Makes (operator_code s op x y d)
+made_operator : (s : OperandShape) (op : IntOp) (x y d : Reg) → Makes (operator_code s op x y d)
 made_operator InRegisters op x y d next z = one an_operator z
 made_operator (ConstantRight i) op x y d next z = one an_operator z
 made_operator (ConstantLeft i) op x y d next z = one an_operator z
@@ -131,7 +131,7 @@ made_call true valued result o f regs n d next z = one a_tail_call z
 made_call false valued result o f regs n d next z = one a_call (made_from_seat n result d next z)
 
 mutual
-  pub made_select : (env : List Named) (labels : List Label) (valued tail : Bool) (d : Reg) (b : ℕ) (e : Expression) → Makes (select env labels valued tail d b e)
+  pub made_select : (env : List NamedRegister) (labels : List Label) (valued tail : Bool) (d : Reg) (b : ℕ) (e : Expression) → Makes (select env labels valued tail d b e)
   made_select env labels valued tail d b (Integer at w) next z = one a_constant z
   made_select env labels valued tail d b (Pointer at w) next z = one a_constant z
   made_select env labels valued tail d b (Symbol at name) next z = one a_symbol z
@@ -141,13 +141,13 @@ mutual
   made_select env labels valued tail d b (Let at bindings body) next z = made_bound env labels (suc b) bindings _ (made_select _ labels _ tail _ _ body next z)
   made_select env labels valued tail d b (Assign at name_at name e) next z = made_select env labels false false _ _ e _ (made_to _ (reg_of env name) next z)
   made_select env labels valued tail d b (Operator at op left right) next z =
-      let s = shape_of op left right in
+      let s = operation_shape op left right in
       made_ordered (is_left_first (scopes env) left right) _ _ (made_left s _ (made_select env labels false false _ _ left)) (made_right s _ (made_select env labels false false _ _ right)) _ (made_operator s op _ _ _ next z)
   made_select env labels valued tail d b (App at callee arguments result result_at) next z =
       let light = is_light_address (scopes env) callee in
       let made = made_select env labels false false _ _ callee in
       made_waiting env labels _ _ arguments _
-      (made_when (not light) _ (made_unless (symbol_of callee) _ made) _
+      (made_when (not light) _ (made_unless (called_symbol callee) _ made) _
       (made_filled env labels _ _ arguments _
       (made_when light _ made _
       (made_moves (regs_of env (suc (suc b)) arguments) _ _
@@ -160,7 +160,7 @@ mutual
       let both = made_select env labels _ tail _ _ on_true _ others in
       made_test env labels _ _ condition _ _ (made_select env labels false false _ _ condition _ (one a_branch both)) both
   made_select env labels valued tail d b (Catch at body handlers) next z = one a_catch (made_select env _ _ tail _ _ body _ (made_handlers env _ _ tail _ _ _ _ handlers _ (one an_end z)))
-  made_select env labels valued tail d b (Exit at label_at label arguments) next z = made_waiting env labels _ _ arguments _ (made_filled env labels _ _ arguments _ (made_exit (label_of labels label) _ next z))
+  made_select env labels valued tail d b (Exit at label_at label arguments) next z = made_waiting env labels _ _ arguments _ (made_filled env labels _ _ arguments _ (made_exit (visible_label labels label) _ next z))
   made_select env labels valued tail d b (Alloc at header_at header operands) next z =
       made_waiting env labels _ _ operands _
       (one an_alloc (one a_constant (one a_store
@@ -169,50 +169,50 @@ mutual
   made_select env labels valued tail d b (Store at chunk address e) next z =
       made_ordered (is_left_first (scopes env) address e) _ _ (made_base env labels _ _ address _ (made_select env labels false false _ _ address)) (made_select env labels false false _ _ e) _ (one a_store z)
   made_select env labels valued tail d b (Checkbound at bound index) next z =
-      made_ordered (is_left_first (scopes env) bound index) _ _ (made_select env labels false false _ _ bound) (made_constant (right_of bound_test index) _ (made_select env labels false false _ _ index)) _ (one (a_checkbound _) z)
+      made_ordered (is_left_first (scopes env) bound index) _ _ (made_select env labels false false _ _ bound) (made_constant (bound_test_operand bound_test index) _ (made_select env labels false false _ _ index)) _ (one (a_checkbound _) z)
   made_select env labels valued tail d b (Raise at e) next z = made_select env labels false false _ _ e _ (one a_move (one a_raise z))
   made_select env labels valued tail d b (Switch at size_at size selector cases) next z =
       made_select env labels false false _ _ selector _ (one a_choice (made_cases env labels _ tail _ _ _ _ _ cases _ (one an_end z)))
   made_select env labels valued tail d b (Try at body name_at name handler) next z =
-      one a_try (made_select env (deeper labels) _ false _ _ body _ (one a_leave (one a_handler (one a_move (made_select _ labels _ tail _ _ handler _ (one an_end z))))))
+      one a_try (made_select env (labels_within_try labels) _ false _ _ body _ (one a_leave (one a_handler (one a_move (made_select _ labels _ tail _ _ handler _ (one an_end z))))))
 
-  made_base : (env : List Named) (labels : List Label) (t b : ℕ) (e : Expression) (whole : Code) → Makes whole → Makes (select_base env labels t b e whole)
+  made_base : (env : List NamedRegister) (labels : List Label) (t b : ℕ) (e : Expression) (whole : Code) → Makes whole → Makes (select_base env labels t b e whole)
   made_base env labels t b (Operator at op base (Integer at' w)) whole inside next z = made_if (is_based op w) _ whole (made_select env labels false false _ _ base) inside next z
   made_base env labels t b e whole inside next z = inside next z
 
-  made_test : (env : List Named) (labels : List Label) (l b : ℕ) (e : Expression) (value next : List Instr) → AllMade value → AllMade next → AllMade (select_test env labels l b e value next)
+  made_test : (env : List NamedRegister) (labels : List Label) (l b : ℕ) (e : Expression) (value next : List Instr) → AllMade value → AllMade next → AllMade (select_test env labels l b e value next)
   made_test env labels l b (Operator at op left right) value next v z =
-      let s = shape_of op left right in
+      let s = operation_shape op left right in
       made_tested (comparison (shape_op s op) (shape_right s)) _ value
       (λ t. made_ordered (is_left_first (scopes env) left right) _ _ (made_left s _ (made_select env labels false false _ _ left)) (made_right s _ (made_select env labels false false _ _ right)) _ (one a_branch z))
       v
   made_test env labels l b e value next v z = v
 
-  made_cases : (env : List Named) (labels : List Label) (valued tail : Bool) (d : Reg) (all : List ℕ) (end l b : ℕ) (cs : Cases) → Makes (select_cases env labels valued tail d all end l b cs)
+  made_cases : (env : List NamedRegister) (labels : List Label) (valued tail : Bool) (d : Reg) (all : List ℕ) (end l b : ℕ) (cs : Cases) → Makes (select_cases env labels valued tail d all end l b cs)
   made_cases env labels valued tail d all end l b NoCase next z = z
   made_cases env labels valued tail d all end l b (Choose indexes body rest) next z =
       one a_case (made_select env labels valued tail d b body _ (made_cases env labels valued tail d all end _ _ rest next z))
 
-  made_waiting : (env : List Named) (labels : List Label) (b i : ℕ) (es : Expressions) → Makes (select_waiting env labels b i es)
+  made_waiting : (env : List NamedRegister) (labels : List Label) (b i : ℕ) (es : Expressions) → Makes (select_waiting env labels b i es)
   made_waiting env labels b i NoMore next z = z
   made_waiting env labels b i (More e rest) next z =
       made_waiting env labels _ _ rest _ (made_when (not (is_light_address (scopes env) e)) _ (made_select env labels false false _ i e) next z)
 
-  made_filled : (env : List Named) (labels : List Label) (b i : ℕ) (es : Expressions) → Makes (select_filled env labels b i es)
+  made_filled : (env : List NamedRegister) (labels : List Label) (b i : ℕ) (es : Expressions) → Makes (select_filled env labels b i es)
   made_filled env labels b i NoMore next z = z
   made_filled env labels b i (More e rest) next z =
       made_filled env labels _ _ rest _ (made_when (is_light_address (scopes env) e) _ (made_select env labels false false _ i e) next z)
 
-  made_bound : (env : List Named) (labels : List Label) (b : ℕ) (bs : Bindings) → Makes (select_bound env labels b bs)
+  made_bound : (env : List NamedRegister) (labels : List Label) (b : ℕ) (bs : Bindings) → Makes (select_bound env labels b bs)
   made_bound env labels b NoBinding next z = z
   made_bound env labels b (Bind at name declared e rest) next z = made_select env labels false false _ _ e _ (made_bound _ labels _ rest next z)
 
-  made_seq : (env : List Named) (labels : List Label) (valued tail : Bool) (d : Reg) (b : ℕ) (es : Expressions) → Makes (select_seq env labels valued tail d b es)
+  made_seq : (env : List NamedRegister) (labels : List Label) (valued tail : Bool) (d : Reg) (b : ℕ) (es : Expressions) → Makes (select_seq env labels valued tail d b es)
   made_seq env labels valued tail d b NoMore next z = z
   made_seq env labels valued tail d b (More e NoMore) next z = made_select env labels valued tail d (suc b) e next z
   made_seq env labels valued tail d b (More e (More g rest)) next z = made_select env labels false false _ _ e _ (made_seq env labels valued tail d _ (More g rest) next z)
 
-  made_handlers : (env : List Named) (labels : List Label) (valued tail : Bool) (d : Reg) (end l b : ℕ) (hs : Handlers) → Makes (select_handlers env labels valued tail d end l b hs)
+  made_handlers : (env : List NamedRegister) (labels : List Label) (valued tail : Bool) (d : Reg) (end l b : ℕ) (hs : Handlers) → Makes (select_handlers env labels valued tail d end l b hs)
   made_handlers env labels valued tail d end l b NoHandler next z = z
   made_handlers env labels valued tail d end l b (Handle at label params body rest) next z =
       one a_with (made_select _ labels valued tail d b body _ (made_handlers env labels valued tail d end _ _ rest next z))
@@ -224,11 +224,11 @@ made_to_seat d n (ret.Comp c) next z = one a_move z
 pub selected_made : (f : FunctionTree) → AllMade (selected f).code
 selected_made f =
     let type : Ty = body_type f in
-    let moved = first + length f.params in
+    let moved = first_after_colours + length f.params in
     let params = params_from moved f.params in
     let n = moved + length f.params in
     let from = suc (suc n) in
     let env = with_params f.params params [] in
-    made_moves (seats 0 first params) params _
-    (made_select env [] (not (is_no_value type)) true (fresh n type) from f.body _
-    (made_to_seat (fresh n type) (suc n) (result_of type) _ (one (a_return {values = result_seat (suc n) (result_of type)}) none)))
+    made_moves (seats 0 first_after_colours params) params _
+    (made_select env [] (not (is_no_value type)) true (fresh_register n type) from f.body _
+    (made_to_seat (fresh_register n type) (suc n) (result_of type) _ (one (a_return {values = result_seat (suc n) (result_of type)}) none)))

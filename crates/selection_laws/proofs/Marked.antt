@@ -6,13 +6,13 @@ use Rattle.std.proofs.lemmas.Bool.{true≢false, cases_lt, eq-eqb}
 use Rattle.std.proofs.lemmas.List.Elements.{All-nil, All-cons}
 use Rattle.std.proofs.lemmas.List.Kept.{AllPairs-cons}
 use Rattle.cmm_tree.specs.Tree.{FunctionTree}
-use Rattle.mach_ir.specs.Formed.{AreDistinct, labels_of, labels_in}
+use Rattle.mach_ir.specs.Formed.{AreDistinct, labels_of_mark, labels_in}
 use Rattle.mach_ir.specs.declared.mach.Instr.{Instr}
 use Rattle.mach_ir.specs.declared.mach.Mark.TheVariants as mark
 use Rattle.mach_ir.specs.declared.mach.MachOp.{MachOp}
 use Rattle.mach_ir.specs.declared.mach.MachOp.TheVariants as mach
 use Rattle.mach_ir.specs.declared.reg.Reg.{Reg}
-use Rattle.selection_rules.specs.Select.{selected, first, params_from, seats}
+use Rattle.selection_rules.specs.Select.{selected, first_after_colours, params_from, seats}
 use Rattle.selection_rules.proofs.Once.{marks, labelled, NoMark, none, one, Distinct, nil, cons, selected_once, selected_below}
 use Rattle.std.proofs.Math.Bool.{or-false}
 
@@ -23,7 +23,7 @@ data Marking (f : MachOp) : List ℕ → Type 0 where
 
 abbrev labels_marked : MachOp → List ℕ
 labels_marked (mach.Op f) = []
-labels_marked (mach.Mark f) = labels_of f
+labels_marked (mach.Mark f) = labels_of_mark f
 
 marking : (f : MachOp) → Marking f (labels_marked f)
 marking (mach.Op f) = marks_none
@@ -97,8 +97,8 @@ seats_distinct i n (r ∷ rs) = AllPairs-cons (λ (r q : Reg). r.number ≢ q.nu
 
 -- A parameter is made from no other register.
 pub selected_params : (f : FunctionTree) → All (λ (r : Reg). r.origin ≡ r.number) (selected f).params
-selected_params f = own_origins 0 first (params_from (first + length f.params) f.params)
+selected_params f = own_origins 0 first_after_colours (params_from (first_after_colours + length f.params) f.params)
 
 -- No two parameters have one number.
 pub selected_params_distinct : (f : FunctionTree) → AreDistinct (selected f).params
-selected_params_distinct f = seats_distinct 0 first (params_from (first + length f.params) f.params)
+selected_params_distinct f = seats_distinct 0 first_after_colours (params_from (first_after_colours + length f.params) f.params)

@@ -12,10 +12,10 @@ use Rattle.cmm_types.specs.Light.{is_light_address}
 use Rattle.cmm_types.specs.Types.{type_of, result_of, body_type}
 use Rattle.cmm_meaning.specs.Choices.{is_named}
 use Rattle.cmm_meaning.specs.Evaluation.{is_left_first}
-use Rattle.mach_ir.specs.Acts.{On, At, drop_tries, goes_on, leaves_function}
-use Rattle.mach_ir.specs.Formed.{LeadsTo, HasPlace, place_here, place_below, HasHandler, handler_here, is_exit, LabelsStand, tries_left, leaves, IsNested, indexes_of}
+use Rattle.mach_ir.specs.Acts.{On, At, drop_tries, falls_through, leaves_function}
+use Rattle.mach_ir.specs.Formed.{TargetsLabel, LabelOccursIn, place_here, place_below, HasHandler, handler_here, is_exit, LabelsStand, tries_left, leaves, IsNested, indexes_to_label}
 use Rattle.mach_ir.specs.Meaning.{has_label, is_handler_of, tries_at}
-use Rattle.mach_ir.specs.Walks.{OneOf, this, other, targets, Stands, here, below}
+use Rattle.mach_ir.specs.Walks.{OneOf, this, other, targets, StandsAsInstr, here, below}
 use Rattle.mach_ir.specs.declared.mach.Instr.{Instr}
 use Rattle.mach_ir.specs.declared.mach.Mark.{Mark}
 use Rattle.mach_ir.specs.declared.mach.Mark.TheVariants as mark
@@ -27,9 +27,9 @@ use Rattle.mach_ir.specs.declared.op.Op.{Op}
 use Rattle.bs_words.specs.declared.operators.IntOp.{IntOp}
 use Rattle.bs_words.specs.declared.operators.IntOp.TheVariants as operator
 use Rattle.mach_ir.specs.declared.reg.Reg.{Reg}
-use Rattle.selection_rules.specs.Instructions.{bare}
+use Rattle.selection_rules.specs.Instructions.{bare_mark}
 use Rattle.selection_rules.specs.Instructions as emit
-use Rattle.selection_rules.specs.Select.{Code, Shape, InRegisters, ConstantRight, ConstantLeft, PowerRight, rounded, power_code, operator_code, shape_of, shape_op, shape_right, shape_args, Named, Label, scopes, reg_of, label_of, move_from, move_to, moves_all, exit_to, from_seat, symbol_of, right_of, bound_test, comparison, tested, select_test, is_based, select_base, call_of, callee_regs, bound_name, width, width_labels, inner_dest, inner_valued, regs_of, select, select_waiting, select_filled, select_bound, select_seq, select_cases, select_handlers, deeper, unless_bare, in_handlers, labels_from, count_cases, last_label, switch_labels, cell_stores, to_seat, selected, first, params_from, with_params, is_no_value, fresh, seats, result_seat}
+use Rattle.selection_rules.specs.Select.{Code, OperandShape, InRegisters, ConstantRight, ConstantLeft, PowerRight, rounded, power_code, operator_code, operation_shape, shape_op, shape_right, shape_args, NamedRegister, Label, scopes, reg_of, visible_label, move_from, move_to, moves_all, exit_to_handler, from_seat, called_symbol, bound_test_operand, bound_test, comparison, fused_test, select_test, is_based, select_base, call_of, callee_regs, bound_name, width, width_labels, inner_dest, inner_valued, regs_of, select, select_waiting, select_filled, select_bound, select_seq, select_cases, select_handlers, labels_within_try, unless_bare, in_handlers, labels_from, count_cases, label_of_last_case, switch_labels, cell_stores, to_seat, selected, first_after_colours, params_from, with_params, is_no_value, fresh_register, seats, result_seat}
 use Rattle.selection_rules.proofs.Exits.{scopes_params, scopes_after}
 use Rattle.mach_laws.specs.Expand.{Ending, all, more}
 use Rattle.mach_laws.proofs.Places.{ending_next, ending_of}
@@ -72,7 +72,7 @@ caught_handler (caught h c) = h
 pub record Taken (l : ℕ) (labels : List ℕ) (ts : List ℕ) (code : List Instr) : Type 0 where
   pub end : ℕ
   pub rest : List Instr
-  pub there : Ending (bare (mark.Case (indexes_of l 0 labels) l end) ∷ rest) code
+  pub there : Ending (bare_mark (mark.Case (indexes_to_label l 0 labels) l end) ∷ rest) code
   pub tries : tries_at rest ≡ ts
 
 -- a switch is in a code that takes these indexes to a label
@@ -81,7 +81,7 @@ pub record Chosen (l : ℕ) (indexes : List ℕ) (code : List Instr) : Type 0 wh
   pub index : Reg
   pub rest : List Instr
   pub there : Ending (emit.choose labels index ∷ rest) code
-  pub is : indexes ≡ indexes_of l 0 labels
+  pub is : indexes ≡ indexes_to_label l 0 labels
 
 taken_in : {l : ℕ} {labels ts : List ℕ} {a b : List Instr} → Ending a b → Taken l labels ts a → Taken l labels ts b
 taken_in e f = record { end = f.end; rest = f.rest; there = ending_in f.there e; tries = f.tries }
@@ -101,8 +101,8 @@ is_leave _ = false
 
 -- what is to hold of an instruction before this code, in the code of a function
 pub record IsKept (whole : List Instr) (i : Instr) (next : List Instr) : Type 0 where
-  pub lands : (l : ℕ) → LeadsTo i.op l → is_exit i.op ≡ false → Found l (tries_left i.op (tries_at (i ∷ next))) next
-  pub exits : (l : ℕ) → LeadsTo i.op l → is_exit i.op ≡ true → Found l (tries_left i.op (tries_at (i ∷ next))) whole
+  pub lands : (l : ℕ) → TargetsLabel i.op l → is_exit i.op ≡ false → Found l (tries_left i.op (tries_at (i ∷ next))) next
+  pub exits : (l : ℕ) → TargetsLabel i.op l → is_exit i.op ≡ true → Found l (tries_left i.op (tries_at (i ∷ next))) whole
   pub handles : (l end : ℕ) → i.op ≡ mach.Mark (mark.Leave l end) → HasHandler l next
   pub pushed : (l : ℕ) → i.op ≡ mach.Mark (mark.Try l) → tries_at next ≡ l ∷ tries_at (i ∷ next)
   pub handled : (l : ℕ) → i.op ≡ mach.Mark (mark.Try l) → Handled l (tries_at (i ∷ next)) whole
@@ -116,7 +116,7 @@ pub data AllKept (whole : List Instr) : List Instr → Type 0 where
   none : AllKept whole []
   one : {i : Instr} {next : List Instr} → IsKept whole i next → AllKept whole next → AllKept whole (i ∷ next)
 
-pub kept_of : {whole code : List Instr} → AllKept whole code → (i : Instr) (next : List Instr) → Stands i next code → IsKept whole i next
+pub kept_of : {whole code : List Instr} → AllKept whole code → (i : Instr) (next : List Instr) → StandsAsInstr i next code → IsKept whole i next
 kept_of none i next s = elim s [ ]
 kept_of (one x xs) i next here = x
 kept_of (one x xs) i next (below s) = kept_of xs i next s
@@ -134,7 +134,7 @@ self l = eq-eqb l l refl
 module _ (whole : List Instr) where
   -- an instruction that is no exit, no mark of a try, and does not leave the function
   goes : (i : Instr) (next : List Instr) → is_exit i.op ≡ false → is_leave i.op ≡ false → is_try i.op ≡ false → leaves i.op ≡ false → Caught whole (tries_at (i ∷ next)) →
-      ((l : ℕ) → LeadsTo i.op l → Found l (tries_left i.op (tries_at (i ∷ next))) next) →
+      ((l : ℕ) → TargetsLabel i.op l → Found l (tries_left i.op (tries_at (i ∷ next))) next) →
       ((labels : List ℕ) → i.op ≡ mach.Mark (mark.Switch labels) → (l : ℕ) → Contains labels l → Taken l labels (tries_at (i ∷ next)) next) →
       ((indexes : List ℕ) (l end : ℕ) → i.op ≡ mach.Mark (mark.Case indexes l end) → Chosen l indexes whole) → IsKept whole i next
   goes i next no_exit no_leave no_try stays c lands takes taken =
@@ -152,17 +152,17 @@ module _ (whole : List Instr) where
       }
 
   plain : (i : Instr) (next : List Instr) → is_exit i.op ≡ false → is_leave i.op ≡ false → is_try i.op ≡ false → leaves i.op ≡ false → is_choice i.op ≡ false → Caught whole (tries_at (i ∷ next)) →
-      ((l : ℕ) → LeadsTo i.op l → Found l (tries_left i.op (tries_at (i ∷ next))) next) → IsKept whole i next
+      ((l : ℕ) → TargetsLabel i.op l → Found l (tries_left i.op (tries_at (i ∷ next))) next) → IsKept whole i next
   plain i next no_exit no_leave no_try stays no_choice c lands =
       goes i next no_exit no_leave no_try stays c lands (λ labels e. absurd (true≢false (sym (ap is_choice e) ∙ no_choice))) (λ indexes l end e. absurd (true≢false (sym (ap is_choice e) ∙ no_choice)))
 
-  kept_op : (f : Op) (args results : List Reg) (next : List Instr) → leaves_function f ≡ false → Caught whole (tries_at next) → IsKept whole (emit.operation f args results) next
-  kept_op f args results next stays c = plain _ next refl refl refl stays refl c (λ l o. absurd (no_label_next (goes_on f) l o))
+  kept_op : (f : Op) (args results : List Reg) (next : List Instr) → leaves_function f ≡ false → Caught whole (tries_at next) → IsKept whole (emit.operation_instr f args results) next
+  kept_op f args results next stays c = plain _ next refl refl refl stays refl c (λ l o. absurd (no_label_next (falls_through f) l o))
 
-  kept_leaving : (f : Op) (args results : List Reg) (next : List Instr) → tries_at next ≡ [] → IsKept whole (emit.operation f args results) next
+  kept_leaving : (f : Op) (args results : List Reg) (next : List Instr) → tries_at next ≡ [] → IsKept whole (emit.operation_instr f args results) next
   kept_leaving f args results next e =
       record {
-        lands = λ l o _. absurd (no_label_next (goes_on f) l o);
+        lands = λ l o _. absurd (no_label_next (falls_through f) l o);
         exits = λ l o e. absurd (true≢false (sym e));
         handles = λ l end e. absurd (true≢false (sym (ap is_leave e)));
         pushed = λ l e. absurd (true≢false (sym (ap is_try e)));
@@ -195,8 +195,8 @@ module _ (whole : List Instr) where
   step : {ts : List ℕ} (i : Instr) → ((next : List Instr) → tries_at (i ∷ next) ≡ tries_at next) → ((next : List Instr) → tries_at next ≡ ts → IsKept whole i next) → Walks ts (λ next. i ∷ next)
   step i same is = record { within = λ next. inside_more (same next) inside_all; kept = λ next e end z. one (is next e) z }
 
-  op_step : {ts : List ℕ} → Caught whole ts → (f : Op) (args results : List Reg) → leaves_function f ≡ false → Walks ts (λ next. emit.operation f args results ∷ next)
-  op_step c f args results stays = step (emit.operation f args results) (λ next. refl) (λ next e. kept_op f args results next stays (subst (Caught whole) (sym e) c))
+  op_step : {ts : List ℕ} → Caught whole ts → (f : Op) (args results : List Reg) → leaves_function f ≡ false → Walks ts (λ next. emit.operation_instr f args results ∷ next)
+  op_step c f args results stays = step (emit.operation_instr f args results) (λ next. refl) (λ next e. kept_op f args results next stays (subst (Caught whole) (sym e) c))
 
   walks_from : {ts : List ℕ} → Caught whole ts → (o : Option Reg) (d : Reg) → Walks ts (move_from o d)
   walks_from c None d = idle
@@ -227,7 +227,7 @@ module _ (whole : List Instr) where
   walks_power c op k x y d =
       then (walks_rounded c k x y) (then (op_step c _ (y ∷ []) (y ∷ []) refl) (then (op_step c _ (y ∷ []) (y ∷ []) refl) (op_step c _ (x ∷ y ∷ []) (d ∷ []) refl)))
 
-  walks_operator : {ts : List ℕ} → Caught whole ts → (s : Shape) (op : IntOp) (x y d : Reg) → Walks ts (operator_code s op x y d)
+  walks_operator : {ts : List ℕ} → Caught whole ts → (s : OperandShape) (op : IntOp) (x y d : Reg) → Walks ts (operator_code s op x y d)
   walks_operator c InRegisters op x y d = op_step c _ (x ∷ y ∷ []) (d ∷ []) refl
   walks_operator c (ConstantRight i) op x y d = op_step c _ (x ∷ []) (d ∷ []) refl
   walks_operator c (ConstantLeft i) op x y d = op_step c _ (y ∷ []) (d ∷ []) refl
@@ -244,11 +244,11 @@ module _ (whole : List Instr) where
     nil : AllFound ts []
     cons : {t : Label} {labels : List Label} → Found t.number (drop_tries t.tries ts) whole → t.tries ≤ length ts → AllFound ts labels → AllFound ts (t ∷ labels)
 
-  found_one : {ts : List ℕ} {labels : List Label} → AllFound ts labels → (l : LabelTree) → FoundOne ts (label_of labels l)
+  found_one : {ts : List ℕ} {labels : List Label} → AllFound ts labels → (l : LabelTree) → FoundOne ts (visible_label labels l)
   found_one nil l = no_label
   found_one {ts} (cons {t = t} {labels = labels} x le xs) l = by (same_label l t.label) (found_one xs l)
     where
-      by : (b : Bool) → FoundOne ts (label_of labels l) → FoundOne ts (cond b (Some t) (label_of labels l))
+      by : (b : Bool) → FoundOne ts (visible_label labels l) → FoundOne ts (cond b (Some t) (visible_label labels l))
       by true others = a_label x le
       by false others = others
 
@@ -264,13 +264,13 @@ module _ (whole : List Instr) where
       by true others = others
       by false others = cons x le others
 
-  found_deeper : {ts : List ℕ} {labels : List Label} (l : ℕ) → AllFound ts labels → AllFound (l ∷ ts) (deeper labels)
+  found_deeper : {ts : List ℕ} {labels : List Label} (l : ℕ) → AllFound ts labels → AllFound (l ∷ ts) (labels_within_try labels)
   found_deeper l nil = nil
   found_deeper l (cons x le xs) = cons x (omega (arith, le)) (found_deeper l xs)
 
-  walks_exit : {ts : List ℕ} {o : Option Label} → Caught whole ts → FoundOne ts o → (from : List Reg) → Walks ts (exit_to o from)
+  walks_exit : {ts : List ℕ} {o : Option Label} → Caught whole ts → FoundOne ts o → (from : List Reg) → Walks ts (exit_to_handler o from)
   walks_exit c no_label from = idle
-  walks_exit {ts} c (a_label {t = t} f le) from = then (walks_moves c from t.params) (step (bare (mark.Exit t.number t.tries)) (λ next. refl) exit_kept)
+  walks_exit {ts} c (a_label {t = t} f le) from = then (walks_moves c from t.params) (step (bare_mark (mark.Exit t.number t.tries)) (λ next. refl) exit_kept)
     where
       at_target : (next : List Instr) → tries_at next ≡ ts → (l : ℕ) → t.number ≡ l → Found l (drop_tries t.tries (tries_at next)) whole
       at_target next e l same = subst (λ k. Found k (drop_tries t.tries (tries_at next)) whole) same (subst (λ z. Found t.number (drop_tries t.tries z) whole) (sym e) f)
@@ -278,7 +278,7 @@ module _ (whole : List Instr) where
       same_ended : (l n : ℕ) → mach.Mark (mark.Exit t.number t.tries) ≡ mach.Mark (mark.Exit l n) → t.tries ≡ n
       same_ended l n e = cc
 
-      exit_kept : (next : List Instr) → tries_at next ≡ ts → IsKept whole (bare (mark.Exit t.number t.tries)) next
+      exit_kept : (next : List Instr) → tries_at next ≡ ts → IsKept whole (bare_mark (mark.Exit t.number t.tries)) next
       exit_kept next e =
           record {
             lands = λ l o no_exit. absurd (true≢false no_exit);
@@ -307,11 +307,11 @@ module _ (whole : List Instr) where
   walks_call false valued x result o f regs n d = then (op_step x.catches _ (callee_regs o f ++ regs) (result_seat n result) refl) (walks_from_seat x.catches n result d)
 
   -- marks that lead nowhere but on
-  end_kept : {ts : List ℕ} → Caught whole ts → (l : ℕ) (next : List Instr) → tries_at next ≡ ts → IsKept whole (bare (mark.End l)) next
+  end_kept : {ts : List ℕ} → Caught whole ts → (l : ℕ) (next : List Instr) → tries_at next ≡ ts → IsKept whole (bare_mark (mark.End l)) next
   end_kept c l next e = plain _ next refl refl refl refl refl (subst (Caught whole) (sym e) c) (λ k o. absurd (none_on k o))
 
-  found_end : {ts : List ℕ} (l : ℕ) (next : List Instr) → tries_at next ≡ ts → Found l ts (bare (mark.End l) ∷ next)
-  found_end l next e = record { at = bare (mark.End l); rest = next; there = all; has = self l; tries = e }
+  found_end : {ts : List ℕ} (l : ℕ) (next : List Instr) → tries_at next ≡ ts → Found l ts (bare_mark (mark.End l) ∷ next)
+  found_end l next e = record { at = bare_mark (mark.End l); rest = next; there = all; has = self l; tries = e }
 
   -- a mark that is no switch, and where it is a case, is that of one
   record Takes (f : Mark) : Type 0 where
@@ -321,27 +321,27 @@ module _ (whole : List Instr) where
   no_choice : (f : Mark) → is_choice (mach.Mark f) ≡ false → Takes f
   no_choice f e = record { no_switch = λ labels is. true≢false (sym (ap is_choice is) ∙ e); chosen = λ indexes l end is. absurd (true≢false (sym (ap is_choice is) ∙ e)) }
 
-  a_case : (labels : List ℕ) (x : Reg) (rest : List Instr) → Ending (emit.choose labels x ∷ rest) whole → (l end : ℕ) → Takes (mark.Case (indexes_of l 0 labels) l end)
+  a_case : (labels : List ℕ) (x : Reg) (rest : List Instr) → Ending (emit.choose labels x ∷ rest) whole → (l end : ℕ) → Takes (mark.Case (indexes_to_label l 0 labels) l end)
   a_case labels x rest there l end =
       record {
         no_switch = λ others e. not_switch others e;
         chosen = λ indexes k stop e. subst (λ n. Chosen n indexes whole) (same_label' indexes k stop e) (record { labels = labels; index = x; rest = rest; there = there; is = sym (same_indexes indexes k stop e) });
       }
     where
-      not_switch : (others : List ℕ) → mach.Mark (mark.Case (indexes_of l 0 labels) l end) ≡ mach.Mark (mark.Switch others) → ⊥
+      not_switch : (others : List ℕ) → mach.Mark (mark.Case (indexes_to_label l 0 labels) l end) ≡ mach.Mark (mark.Switch others) → ⊥
       not_switch others e = cc
 
-      same_label' : (indexes : List ℕ) (k stop : ℕ) → mach.Mark (mark.Case (indexes_of l 0 labels) l end) ≡ mach.Mark (mark.Case indexes k stop) → l ≡ k
+      same_label' : (indexes : List ℕ) (k stop : ℕ) → mach.Mark (mark.Case (indexes_to_label l 0 labels) l end) ≡ mach.Mark (mark.Case indexes k stop) → l ≡ k
       same_label' indexes k stop e = cc
 
-      same_indexes : (indexes : List ℕ) (k stop : ℕ) → mach.Mark (mark.Case (indexes_of l 0 labels) l end) ≡ mach.Mark (mark.Case indexes k stop) → indexes_of l 0 labels ≡ indexes
+      same_indexes : (indexes : List ℕ) (k stop : ℕ) → mach.Mark (mark.Case (indexes_to_label l 0 labels) l end) ≡ mach.Mark (mark.Case indexes k stop) → indexes_to_label l 0 labels ≡ indexes
       same_indexes indexes k stop e = cc
 
   -- a mark that leads to the end of its branches
   to_end : {ts : List ℕ} (f : Mark) (end : ℕ) (next : List Instr) → targets (mach.Mark f) ≡ At end ∷ [] → is_exit (mach.Mark f) ≡ false → is_leave (mach.Mark f) ≡ false → is_try (mach.Mark f) ≡ false →
-      tries_left (mach.Mark f) (tries_at (bare f ∷ next)) ≡ ts → Caught whole (tries_at (bare f ∷ next)) → Found end ts next → Takes f → IsKept whole (bare f) next
+      tries_left (mach.Mark f) (tries_at (bare_mark f ∷ next)) ≡ ts → Caught whole (tries_at (bare_mark f ∷ next)) → Found end ts next → Takes f → IsKept whole (bare_mark f) next
   to_end {ts} f end next leads no_exit no_leave no_try same c found t =
-      goes (bare f) next no_exit no_leave no_try refl c
+      goes (bare_mark f) next no_exit no_leave no_try refl c
       (λ l o. subst (λ z. Found l z next) (sym same) (subst (λ k. Found k ts next) (one_target l end (subst (OneOf (At l)) leads o)) found))
       (λ labels e. absurd (t.no_switch labels e)) t.chosen
 
@@ -365,27 +365,27 @@ module _ (whole : List Instr) where
       branch : (next : List Instr) → tries_at next ≡ ts → Found l ts next → IsKept whole (emit.branch t l args) next
       branch next e found = plain _ next refl refl refl refl refl (subst (Caught whole) (sym e) c) (λ k o. there_at next k (subst (λ z. Found l z next) (sym e) found) o)
 
-  tests_either : {ts : List ℕ} {l : ℕ} {value : Code} (o : Option Test) (fused : Test → Code) → ((t : Test) → Tests ts l (fused t)) → Tests ts l value → Tests ts l (λ next. tested o (λ t. fused t next) (value next))
+  tests_either : {ts : List ℕ} {l : ℕ} {value : Code} (o : Option Test) (fused : Test → Code) → ((t : Test) → Tests ts l (fused t)) → Tests ts l value → Tests ts l (λ next. fused_test o (λ t. fused t next) (value next))
   tests_either (Some t) fused f v = f t
   tests_either None fused f v = v
 
   walks_branches : {ts : List ℕ} {test_code true_code false_code : Code} → Caught whole ts → (l end : ℕ) → Tests ts l test_code → Walks ts true_code → Walks ts false_code →
-      Walks ts (λ next. test_code (true_code (bare (mark.Else l end) ∷ false_code (bare (mark.End end) ∷ next))))
+      Walks ts (λ next. test_code (true_code (bare_mark (mark.Else l end) ∷ false_code (bare_mark (mark.End end) ∷ next))))
   walks_branches {ts} {test_code} {true_code} {false_code} c l end t y n =
       record {
-        within = λ next. inside_in (inside_in (inside_more refl (inside_in (inside_more refl inside_all) (n.within (bare (mark.End end) ∷ next)))) (y.within _)) (t.within _);
+        within = λ next. inside_in (inside_in (inside_more refl (inside_in (inside_more refl inside_all) (n.within (bare_mark (mark.End end) ∷ next)))) (y.within _)) (t.within _);
         kept = λ next e ends z.
-            let last = bare (mark.End end) ∷ next in
+            let last = bare_mark (mark.End end) ∷ next in
             let wf = n.within last in
             let ef = wf.tries ∙ e in
-            let others = bare (mark.Else l end) ∷ false_code last in
+            let others = bare_mark (mark.Else l end) ∷ false_code last in
             let wt = y.within others in
             let wc = t.within (true_code others) in
             let ends_true = ending_in wc.ending ends in
             let ends_false = ending_next (ending_in wt.ending ends_true) in
             let kept_false = n.kept last e ends_false (one (end_kept c end next e) z) in
             let kept_else = to_end (mark.Else l end) end (false_code last) refl refl refl refl ef (subst (Caught whole) (sym ef) c) (found_in wf.ending (found_end end next e)) (no_choice (mark.Else l end) refl) in
-            let found : Found l ts others = record { at = bare (mark.Else l end); rest = false_code last; there = all; has = self l; tries = ef } in
+            let found : Found l ts others = record { at = bare_mark (mark.Else l end); rest = false_code last; there = all; has = self l; tries = ef } in
             t.kept (true_code others) (wt.tries ∙ ef) ends (found_in wt.ending found) (y.kept others ef ends_true (one kept_else kept_false));
       }
 
@@ -399,7 +399,7 @@ module _ (whole : List Instr) where
   no_branches = record { within = λ next. inside_all; kept = λ next e ends found z. z }
 
   more_branches : {ts : List ℕ} {end : ℕ} {body rest : Code} (f : Mark) → targets (mach.Mark f) ≡ At end ∷ [] → is_exit (mach.Mark f) ≡ false → is_leave (mach.Mark f) ≡ false → is_try (mach.Mark f) ≡ false →
-      ((next : List Instr) → tries_at (bare f ∷ next) ≡ tries_at next) → ((z : List ℕ) → tries_left (mach.Mark f) z ≡ z) → Takes f → Caught whole ts → Walks ts body → Branches ts end rest → Branches ts end (λ next. bare f ∷ body (rest next))
+      ((next : List Instr) → tries_at (bare_mark f ∷ next) ≡ tries_at next) → ((z : List ℕ) → tries_left (mach.Mark f) z ≡ z) → Takes f → Caught whole ts → Walks ts body → Branches ts end rest → Branches ts end (λ next. bare_mark f ∷ body (rest next))
   more_branches {ts} {end} {body} {rest} f leads no_exit no_leave no_try same stays t c b r =
       record {
         within = λ next. inside_more (same (body (rest next))) (inside_in (r.within next) (b.within (rest next)));
@@ -409,12 +409,12 @@ module _ (whole : List Instr) where
             let wb = b.within (rest next) in
             let eb = same (body (rest next)) ∙ wb.tries ∙ er in
             let ends_body = ending_next ends in
-            let here' = to_end f end (body (rest next)) leads no_exit no_leave no_try (stays (tries_at (bare f ∷ body (rest next))) ∙ eb) (subst (Caught whole) (sym eb) c) (found_in wb.ending (found_in wr.ending found)) t in
+            let here' = to_end f end (body (rest next)) leads no_exit no_leave no_try (stays (tries_at (bare_mark f ∷ body (rest next))) ∙ eb) (subst (Caught whole) (sym eb) c) (found_in wb.ending (found_in wr.ending found)) t in
             one here' (b.kept (rest next) er ends_body (r.kept next e (ending_in wb.ending ends_body) found z));
       }
 
   -- a label of a switch is that of a case
-  last_in : (l : ℕ) (cs : Cases) (k so_far lo hi : ℕ) → Range lo hi so_far → lo ≤ l → l + count_cases cs ≤ hi → Range lo hi (last_label l cs k so_far)
+  last_in : (l : ℕ) (cs : Cases) (k so_far lo hi : ℕ) → Range lo hi so_far → lo ≤ l → l + count_cases cs ≤ hi → Range lo hi (label_of_last_case l cs k so_far)
   last_in l NoCase k so_far lo hi r from to = r
   last_in l (Choose indexes body rest) k so_far lo hi r from to = last_in (suc l) rest k (cond (is_named indexes k) l so_far) lo hi (by (is_named indexes k)) (omega (arith, from)) (omega (arith, to))
     where
@@ -431,7 +431,7 @@ module _ (whole : List Instr) where
       own (Choose indexes body rest) h = record { from = omega arith; to = omega arith }
   labels_range l cs has n (suc size) k (other o) = labels_range l cs has (suc n) size k o
 
-  case_marks : {ts : List ℕ} (env : List Named) (labels : List Label) (valued tail : Bool) (d : Reg) (every : List ℕ) (end l b : ℕ) (cs : Cases) (next : List Instr) → tries_at next ≡ ts → (k : ℕ) → Range l (l + count_cases cs) k →
+  case_marks : {ts : List ℕ} (env : List NamedRegister) (labels : List Label) (valued tail : Bool) (d : Reg) (every : List ℕ) (end l b : ℕ) (cs : Cases) (next : List Instr) → tries_at next ≡ ts → (k : ℕ) → Range l (l + count_cases cs) k →
       Taken k every ts (select_cases env labels valued tail d every end l b cs next)
   case_marks env labels valued tail d every end l b NoCase next e k r = let from = r.from in let to = r.to in absurd (omega (arith, from, to))
   case_marks {ts} env labels valued tail d every end l b (Choose indexes body rest) next e k r =
@@ -439,15 +439,15 @@ module _ (whole : List Instr) where
       let wb = ending_select env labels valued tail d b body (select_cases env labels valued tail d every end (suc l) (b + width body) rest next) in
       by (cases_lt l k) wb.ending (wb.tries ∙ wr.tries ∙ e) (λ r. case_marks env labels valued tail d every end (suc l) (b + width body) rest next e k r)
     where
-      by : {inner outer : List Instr} → (l < k) ⊎ (k ≤ l) → Ending inner outer → tries_at outer ≡ ts → (Range (suc l) (suc l + count_cases rest) k → Taken k every ts inner) → Taken k every ts (bare (mark.Case (indexes_of l 0 every) l end) ∷ outer)
+      by : {inner outer : List Instr} → (l < k) ⊎ (k ≤ l) → Ending inner outer → tries_at outer ≡ ts → (Range (suc l) (suc l + count_cases rest) k → Taken k every ts inner) → Taken k every ts (bare_mark (mark.Case (indexes_to_label l 0 every) l end) ∷ outer)
       by (inl less) en es others = let to = r.to in taken_in (more en) (others (record { from = omega (arith, less); to = omega (arith, to) }))
       by {outer = outer} (inr le) en es others =
           let from = r.from in
-          let own : Taken l every ts (bare (mark.Case (indexes_of l 0 every) l end) ∷ outer) = record { end = end; rest = outer; there = all; tries = es } in
-          subst (λ n. Taken n every ts (bare (mark.Case (indexes_of l 0 every) l end) ∷ outer)) (omega (arith, le, from)) own
+          let own : Taken l every ts (bare_mark (mark.Case (indexes_to_label l 0 every) l end) ∷ outer) = record { end = end; rest = outer; there = all; tries = es } in
+          subst (λ n. Taken n every ts (bare_mark (mark.Case (indexes_to_label l 0 every) l end) ∷ outer)) (omega (arith, le, from)) own
 
   found_taken : {l : ℕ} {labels ts : List ℕ} {code : List Instr} → Taken l labels ts code → Found l ts code
-  found_taken {l} {labels} t = record { at = bare (mark.Case (indexes_of l 0 labels) l t.end); rest = t.rest; there = t.there; has = self l; tries = t.tries }
+  found_taken {l} {labels} t = record { at = bare_mark (mark.Case (indexes_to_label l 0 labels) l t.end); rest = t.rest; there = t.there; has = self l; tries = t.tries }
 
   one_of : (ls : List ℕ) (k : ℕ) → Contains ls k → OneOf (At k) (map At ls)
   one_of [] k c = absurd (contains_none k c)
@@ -459,12 +459,12 @@ module _ (whole : List Instr) where
 
   walks_switch : {ts : List ℕ} {selector cases_code : Code} → Caught whole ts → (all_labels : List ℕ) (x : Reg) (end : ℕ) → Walks ts selector → ((next : List Instr) → Within next (cases_code next)) →
       ((rest : List Instr) → Ending (emit.choose all_labels x ∷ rest) whole → Branches ts end cases_code) → ((next : List Instr) → tries_at next ≡ ts → (k : ℕ) → OneOf (At k) (map At all_labels) → Taken k all_labels ts (cases_code next)) →
-      Walks ts (λ next. selector (emit.choose all_labels x ∷ cases_code (bare (mark.End end) ∷ next)))
+      Walks ts (λ next. selector (emit.choose all_labels x ∷ cases_code (bare_mark (mark.End end) ∷ next)))
   walks_switch {ts} {selector} {cases_code} c all_labels x end s wb given marks =
       record {
-        within = λ next. inside_in (inside_more refl (inside_in (inside_more refl inside_all) (wb (bare (mark.End end) ∷ next)))) (s.within _);
+        within = λ next. inside_in (inside_more refl (inside_in (inside_more refl inside_all) (wb (bare_mark (mark.End end) ∷ next)))) (s.within _);
         kept = λ next e ends z.
-            let last = bare (mark.End end) ∷ next in
+            let last = bare_mark (mark.End end) ∷ next in
             let wc = wb last in
             let ec = wc.tries ∙ e in
             let ws = s.within (emit.choose all_labels x ∷ cases_code last) in
@@ -488,22 +488,22 @@ module _ (whole : List Instr) where
           (λ indexes l stop is. absurd (no_case indexes l stop is))
 
   -- the handlers of a catch are in the code
-  found_own : {ts : List ℕ} (env : List Named) (labels : List Label) (valued tail : Bool) (d : Reg) (end l b : ℕ) (hs : Handlers) (next : List Instr) → tries_at next ≡ ts → Ending (select_handlers env labels valued tail d end l b hs next) whole →
+  found_own : {ts : List ℕ} (env : List NamedRegister) (labels : List Label) (valued tail : Bool) (d : Reg) (end l b : ℕ) (hs : Handlers) (next : List Instr) → tries_at next ≡ ts → Ending (select_handlers env labels valued tail d end l b hs next) whole →
       AllFound ts (labels_from l hs)
   found_own env labels valued tail d end l b NoHandler next e ends = nil
   found_own env labels valued tail d end l b (Handle at label params body rest) next e ends =
       let wr = ending_handlers env labels valued tail d end (suc l + length params) (b + width body) rest next in
       let wb = ending_select (with_params params (params_from (suc l) params) env) labels valued tail d b body (select_handlers env labels valued tail d end (suc l + length params) (b + width body) rest next) in
-      cons (record { at = bare (mark.With l end); rest = _; there = ends; has = self l; tries = wb.tries ∙ wr.tries ∙ e }) (omega arith)
+      cons (record { at = bare_mark (mark.With l end); rest = _; there = ends; has = self l; tries = wb.tries ∙ wr.tries ∙ e }) (omega arith)
       (found_own env labels valued tail d end (suc l + length params) (b + width body) rest next e (ending_in wb.ending (ending_next ends)))
 
   walks_catch : {ts : List ℕ} {body handlers_code : Code} → Caught whole ts → (end : ℕ) → ((next : List Instr) → Within next (body next)) → ((next : List Instr) → Within next (handlers_code next)) →
-      ((next : List Instr) → tries_at next ≡ ts → Ending (handlers_code next) whole → Walks ts body × Branches ts end handlers_code) → Walks ts (λ next. bare mark.Catch ∷ body (handlers_code (bare (mark.End end) ∷ next)))
+      ((next : List Instr) → tries_at next ≡ ts → Ending (handlers_code next) whole → Walks ts body × Branches ts end handlers_code) → Walks ts (λ next. bare_mark mark.Catch ∷ body (handlers_code (bare_mark (mark.End end) ∷ next)))
   walks_catch {ts} {body} {handlers_code} c end wb wh given =
       record {
-        within = λ next. inside_more refl (inside_in (inside_in (inside_more refl inside_all) (wh (bare (mark.End end) ∷ next))) (wb _));
+        within = λ next. inside_more refl (inside_in (inside_in (inside_more refl inside_all) (wh (bare_mark (mark.End end) ∷ next))) (wb _));
         kept = λ next e ends z.
-            let last = bare (mark.End end) ∷ next in
+            let last = bare_mark (mark.End end) ∷ next in
             let inner = wh last in
             let eh = inner.tries ∙ e in
             let outer = wb (handlers_code last) in
@@ -513,25 +513,25 @@ module _ (whole : List Instr) where
             let both = given last e ends_handlers in
             let b = both.0 in
             let h = both.1 in
-            one (plain (bare mark.Catch) _ refl refl refl refl refl (subst (Caught whole) (sym eb) c) (λ k o. absurd (none_on k o)))
+            one (plain (bare_mark mark.Catch) _ refl refl refl refl refl (subst (Caught whole) (sym eb) c) (λ k o. absurd (none_on k o)))
             (b.kept (handlers_code last) eh ends_body (h.kept last e ends_handlers (found_end end next e) (one (end_kept c end next e) z)));
       }
 
   -- ---- tries
 
   walks_try : {ts : List ℕ} {body handler_code : Code} → Caught whole ts → (l end : ℕ) (y r : Reg) → ((next : List Instr) → Within next (body next)) → (Caught whole (l ∷ ts) → Walks (l ∷ ts) body) → Walks ts handler_code →
-      ((next : List Instr) → Within next (bare (mark.Try l) ∷ body (bare (mark.Leave l end) ∷ emit.handler l y ∷ emit.move y r ∷ handler_code (bare (mark.End end) ∷ next)))) →
-      Walks ts (λ next. bare (mark.Try l) ∷ body (bare (mark.Leave l end) ∷ emit.handler l y ∷ emit.move y r ∷ handler_code (bare (mark.End end) ∷ next)))
+      ((next : List Instr) → Within next (bare_mark (mark.Try l) ∷ body (bare_mark (mark.Leave l end) ∷ emit.handler l y ∷ emit.move y r ∷ handler_code (bare_mark (mark.End end) ∷ next)))) →
+      Walks ts (λ next. bare_mark (mark.Try l) ∷ body (bare_mark (mark.Leave l end) ∷ emit.handler l y ∷ emit.move y r ∷ handler_code (bare_mark (mark.End end) ∷ next)))
   walks_try {ts} {body} {handler_code} c l end y r wb b h w =
       record {
         within = w;
         kept = λ next e ends z.
-            let last = bare (mark.End end) ∷ next in
+            let last = bare_mark (mark.End end) ∷ next in
             let wh = h.within last in
             let eh = wh.tries ∙ e in
             let code = handler_code last in
             let entry = emit.handler l y ∷ emit.move y r ∷ code in
-            let leave = bare (mark.Leave l end) ∷ entry in
+            let leave = bare_mark (mark.Leave l end) ∷ entry in
             let outer = wb leave in
             let el : tries_at leave ≡ l ∷ ts = ap (λ z. l ∷ z) eh in
             let ends_body = ending_next ends in
@@ -554,7 +554,7 @@ module _ (whole : List Instr) where
       same_leave : (k there : ℕ) → mach.Mark (mark.Leave l end) ≡ mach.Mark (mark.Leave k there) → l ≡ k
       same_leave k there e = cc
 
-      try_kept : (code : List Instr) → tries_at code ≡ l ∷ ts → Caught whole (l ∷ ts) → IsKept whole (bare (mark.Try l)) code
+      try_kept : (code : List Instr) → tries_at code ≡ l ∷ ts → Caught whole (l ∷ ts) → IsKept whole (bare_mark (mark.Try l)) code
       try_kept code eb caught_here =
           record {
             lands = λ k o _. absurd (none_on k o);
@@ -569,7 +569,7 @@ module _ (whole : List Instr) where
             taken = λ indexes n stop e. absurd (true≢false (sym (ap is_choice e)));
           }
 
-      leave_kept : (rest : List Instr) → Found end (tries_at rest) (emit.handler l y ∷ rest) → Caught whole (l ∷ tries_at rest) → IsKept whole (bare (mark.Leave l end)) (emit.handler l y ∷ rest)
+      leave_kept : (rest : List Instr) → Found end (tries_at rest) (emit.handler l y ∷ rest) → Caught whole (l ∷ tries_at rest) → IsKept whole (bare_mark (mark.Leave l end)) (emit.handler l y ∷ rest)
       leave_kept rest found c' =
           record {
             lands = λ k o _. subst (λ n. Found n (tries_at rest) (emit.handler l y ∷ rest)) (one_target k end o) found;
@@ -585,7 +585,7 @@ module _ (whole : List Instr) where
           }
 
   mutual
-    pub walks_select : {ts : List ℕ} (env : List Named) (labels : List Label) (valued tail : Bool) (d : Reg) (b : ℕ) (e : Expression) → Fits (scopes env) e → Surrounds ts labels tail → Walks ts (select env labels valued tail d b e)
+    pub walks_select : {ts : List ℕ} (env : List NamedRegister) (labels : List Label) (valued tail : Bool) (d : Reg) (b : ℕ) (e : Expression) → Fits (scopes env) e → Surrounds ts labels tail → Walks ts (select env labels valued tail d b e)
     walks_select env labels valued tail d b (Integer at w) fine x = op_step x.catches _ [] (d ∷ []) refl
     walks_select env labels valued tail d b (Pointer at w) fine x = op_step x.catches _ [] (d ∷ []) refl
     walks_select env labels valued tail d b (Symbol at name) fine x = op_step x.catches _ [] (d ∷ []) refl
@@ -596,18 +596,18 @@ module _ (whole : List Instr) where
         then (walks_bound env labels (suc b) bindings fine.0 (quiet x)) (walks_select _ labels _ tail _ _ body (subst (λ sc. Fits sc body) (sym (scopes_after env (suc b) bindings)) fine.1) x)
     walks_select env labels valued tail d b (Assign at name_at name e) fine x = then (walks_select env labels false false _ _ e fine (quiet x)) (walks_to x.catches _ (reg_of env name))
     walks_select env labels valued tail d b (Operator at op left right) fine x =
-        let s = shape_of op left right in
+        let s = operation_shape op left right in
         then
         (kept_ordered (Walks _) (λ x y. then) (is_left_first (scopes env) left right) (kept_left (Walks _) idle s (walks_select env labels false false _ _ left fine.0 (quiet x))) (kept_right (Walks _) idle s (walks_select env labels false false _ _ right fine.1 (quiet x))))
         (walks_operator x.catches s op _ _ _)
     walks_select env labels valued tail d b (App at callee arguments result result_at) fine x =
         let light = is_light_address (scopes env) callee in
         then (walks_waiting env labels _ _ arguments fine.1.1 (quiet x))
-        (then (kept_when (Walks _) idle (not light) (kept_unless (Walks _) idle (symbol_of callee) (walks_select env labels false false _ _ callee fine.1.0 (quiet x))))
+        (then (kept_when (Walks _) idle (not light) (kept_unless (Walks _) idle (called_symbol callee) (walks_select env labels false false _ _ callee fine.1.0 (quiet x))))
         (then (walks_filled env labels _ _ arguments fine.1.1 (quiet x))
         (then (kept_when (Walks _) idle light (walks_select env labels false false _ _ callee fine.1.0 (quiet x)))
         (then (walks_moves x.catches (regs_of env (suc (suc b)) arguments) _)
-        (walks_call tail _ x result (symbol_of callee) _ _ _ _)))))
+        (walks_call tail _ x result (called_symbol callee) _ _ _ _)))))
     walks_select env labels valued tail d b (Extcall at frame name arguments result result_at) fine x =
         then (walks_waiting env labels _ _ arguments fine.1.1 (quiet x))
         (then (walks_filled env labels _ _ arguments fine.1.1 (quiet x))
@@ -648,7 +648,7 @@ module _ (whole : List Instr) where
         (op_step x.catches _ (_ ∷ _ ∷ []) [] refl)
     walks_select env labels valued tail d b (Checkbound at bound index) fine x =
         then
-        (kept_ordered (Walks _) (λ x y. then) (is_left_first (scopes env) bound index) (walks_select env labels false false _ _ bound fine.0 (quiet x)) (kept_constant (Walks _) idle (right_of bound_test index) (walks_select env labels false false _ _ index fine.1 (quiet x))))
+        (kept_ordered (Walks _) (λ x y. then) (is_left_first (scopes env) bound index) (walks_select env labels false false _ _ bound fine.0 (quiet x)) (kept_constant (Walks _) idle (bound_test_operand bound_test index) (walks_select env labels false false _ _ index fine.1 (quiet x))))
         (op_step x.catches _ _ [] refl)
     walks_select env labels valued tail d b (Raise at e) fine x =
         then (walks_select env labels false false _ _ e fine (quiet x)) (then (op_step x.catches _ (_ ∷ []) (_ ∷ []) refl) (op_step x.catches _ (_ ∷ []) [] refl))
@@ -668,47 +668,47 @@ module _ (whole : List Instr) where
         let base = suc (suc (suc (suc (suc b)))) in
         let wants = inner_valued valued type in
         let d' = inner_dest type b d in
-        walks_try x.catches (suc b) (suc (suc b)) _ _ (λ next. ending_select env (deeper labels) wants false d' base body next)
-        (λ c. walks_select env (deeper labels) wants false d' base body fine.0 (record { catches = c; found = found_deeper (suc b) x.found; outside = λ e. absurd (true≢false (sym e)) }))
+        walks_try x.catches (suc b) (suc (suc b)) _ _ (λ next. ending_select env (labels_within_try labels) wants false d' base body next)
+        (λ c. walks_select env (labels_within_try labels) wants false d' base body fine.0 (record { catches = c; found = found_deeper (suc b) x.found; outside = λ e. absurd (true≢false (sym e)) }))
         (walks_select _ labels wants tail d' (base + width body) handler fine.1 x) (λ next. ending_select env labels valued tail d b (Try at body name_at name handler) next)
 
-    walks_base : {ts : List ℕ} {whole_code : Code} (env : List Named) (labels : List Label) (t b : ℕ) (e : Expression) → Fits (scopes env) e → Surrounds ts labels false → Walks ts whole_code → Walks ts (select_base env labels t b e whole_code)
+    walks_base : {ts : List ℕ} {whole_code : Code} (env : List NamedRegister) (labels : List Label) (t b : ℕ) (e : Expression) → Fits (scopes env) e → Surrounds ts labels false → Walks ts whole_code → Walks ts (select_base env labels t b e whole_code)
     walks_base env labels t b (Operator at op base (Integer at' w)) fine x inside = kept_if (Walks _) (is_based op w) (walks_select env labels false false _ _ base fine.0 x) inside
     walks_base env labels t b e fine x inside = inside
 
-    walks_test : {ts : List ℕ} {value : Code} (env : List Named) (labels : List Label) (l b : ℕ) (e : Expression) → Fits (scopes env) e → Surrounds ts labels false → Tests ts l value → Tests ts l (λ next. select_test env labels l b e (value next) next)
+    walks_test : {ts : List ℕ} {value : Code} (env : List NamedRegister) (labels : List Label) (l b : ℕ) (e : Expression) → Fits (scopes env) e → Surrounds ts labels false → Tests ts l value → Tests ts l (λ next. select_test env labels l b e (value next) next)
     walks_test env labels l b (Operator at op left right) fine x v =
-        let s = shape_of op left right in
+        let s = operation_shape op left right in
         tests_either (comparison (shape_op s op) (shape_right s)) _
         (λ t. tests_branch x.catches (kept_ordered (Walks _) (λ x y. then) (is_left_first (scopes env) left right) (kept_left (Walks _) idle s (walks_select env labels false false _ _ left fine.0 x)) (kept_right (Walks _) idle s (walks_select env labels false false _ _ right fine.1 x))) t l (shape_args s _ _))
         v
     walks_test env labels l b e fine x v = v
 
-    walks_cases : {ts : List ℕ} (env : List Named) (labels : List Label) (valued tail : Bool) (d : Reg) (every : List ℕ) (end l b : ℕ) (cs : Cases) → CasesFit (scopes env) cs → Surrounds ts labels tail → (index : Reg) (after : List Instr) →
+    walks_cases : {ts : List ℕ} (env : List NamedRegister) (labels : List Label) (valued tail : Bool) (d : Reg) (every : List ℕ) (end l b : ℕ) (cs : Cases) → CasesFit (scopes env) cs → Surrounds ts labels tail → (index : Reg) (after : List Instr) →
         Ending (emit.choose every index ∷ after) whole → Branches ts end (select_cases env labels valued tail d every end l b cs)
     walks_cases env labels valued tail d every end l b NoCase fine x index after there = no_branches
     walks_cases env labels valued tail d every end l b (Choose indexes body rest) fine x index after there =
-        more_branches (mark.Case (indexes_of l 0 every) l end) refl refl refl refl (λ next. refl) (λ z. refl) (a_case every index after there l end) x.catches (walks_select env labels valued tail d b body fine.0 x)
+        more_branches (mark.Case (indexes_to_label l 0 every) l end) refl refl refl refl (λ next. refl) (λ z. refl) (a_case every index after there l end) x.catches (walks_select env labels valued tail d b body fine.0 x)
         (walks_cases env labels valued tail d every end _ _ rest fine.1 x index after there)
 
-    walks_waiting : {ts : List ℕ} (env : List Named) (labels : List Label) (b i : ℕ) (es : Expressions) → RowFits (scopes env) es → Surrounds ts labels false → Walks ts (select_waiting env labels b i es)
+    walks_waiting : {ts : List ℕ} (env : List NamedRegister) (labels : List Label) (b i : ℕ) (es : Expressions) → RowFits (scopes env) es → Surrounds ts labels false → Walks ts (select_waiting env labels b i es)
     walks_waiting env labels b i NoMore fine x = idle
     walks_waiting env labels b i (More e rest) fine x = then (walks_waiting env labels _ _ rest fine.1 x) (kept_when (Walks _) idle (not (is_light_address (scopes env) e)) (walks_select env labels false false _ i e fine.0 x))
 
-    walks_filled : {ts : List ℕ} (env : List Named) (labels : List Label) (b i : ℕ) (es : Expressions) → RowFits (scopes env) es → Surrounds ts labels false → Walks ts (select_filled env labels b i es)
+    walks_filled : {ts : List ℕ} (env : List NamedRegister) (labels : List Label) (b i : ℕ) (es : Expressions) → RowFits (scopes env) es → Surrounds ts labels false → Walks ts (select_filled env labels b i es)
     walks_filled env labels b i NoMore fine x = idle
     walks_filled env labels b i (More e rest) fine x = then (walks_filled env labels _ _ rest fine.1 x) (kept_when (Walks _) idle (is_light_address (scopes env) e) (walks_select env labels false false _ i e fine.0 x))
 
-    walks_bound : {ts : List ℕ} (env : List Named) (labels : List Label) (b : ℕ) (bs : Bindings) → BindingsFit (scopes env) bs → Surrounds ts labels false → Walks ts (select_bound env labels b bs)
+    walks_bound : {ts : List ℕ} (env : List NamedRegister) (labels : List Label) (b : ℕ) (bs : Bindings) → BindingsFit (scopes env) bs → Surrounds ts labels false → Walks ts (select_bound env labels b bs)
     walks_bound env labels b NoBinding fine x = idle
     walks_bound env labels b (Bind at name declared e rest) fine x = then (walks_select env labels false false _ _ e fine.0 x) (walks_bound (bound_name env b name declared e ∷ env) labels _ rest fine.1 x)
 
-    walks_seq : {ts : List ℕ} (env : List Named) (labels : List Label) (valued tail : Bool) (d : Reg) (b : ℕ) (es : Expressions) → RowFits (scopes env) es → Surrounds ts labels tail → Walks ts (select_seq env labels valued tail d b es)
+    walks_seq : {ts : List ℕ} (env : List NamedRegister) (labels : List Label) (valued tail : Bool) (d : Reg) (b : ℕ) (es : Expressions) → RowFits (scopes env) es → Surrounds ts labels tail → Walks ts (select_seq env labels valued tail d b es)
     walks_seq env labels valued tail d b NoMore fine x = idle
     walks_seq env labels valued tail d b (More e NoMore) fine x = walks_select env labels valued tail d (suc b) e fine.0 x
     walks_seq env labels valued tail d b (More e (More g rest)) fine x = then (walks_select env labels false false _ _ e fine.0 (quiet x)) (walks_seq env labels valued tail d _ (More g rest) fine.1 x)
 
-    walks_handlers : {ts : List ℕ} (env : List Named) (labels : List Label) (valued tail : Bool) (d : Reg) (end l b : ℕ) (hs : Handlers) → HandlersFit (scopes env) hs → Surrounds ts labels tail →
+    walks_handlers : {ts : List ℕ} (env : List NamedRegister) (labels : List Label) (valued tail : Bool) (d : Reg) (end l b : ℕ) (hs : Handlers) → HandlersFit (scopes env) hs → Surrounds ts labels tail →
         Branches ts end (select_handlers env labels valued tail d end l b hs)
     walks_handlers env labels valued tail d end l b NoHandler fine x = no_branches
     walks_handlers env labels valued tail d end l b (Handle at label params body rest) fine x =
@@ -720,35 +720,35 @@ module _ (whole : List Instr) where
   walks_to_seat c d n (ret.Comp k) = op_step c _ (d ∷ []) (_ ∷ []) refl
 
 abbrev returning : FunctionTree → List Instr
-returning f = emit.give_back (result_seat (suc (first + length f.params + length f.params)) (result_of (body_type f))) ∷ []
+returning f = emit.give_back (result_seat (suc (first_after_colours + length f.params + length f.params)) (result_of (body_type f))) ∷ []
 
 abbrev before_return : FunctionTree → Code
 before_return f next =
     let type : Ty = body_type f in
-    let moved = first + length f.params in
+    let moved = first_after_colours + length f.params in
     let params = params_from moved f.params in
     let n = moved + length f.params in
-    moves_all (seats 0 first params) params (select (with_params f.params params []) [] (not (is_no_value type)) true (fresh n type) (suc (suc n)) f.body (to_seat (fresh n type) (suc n) (result_of type) next))
+    moves_all (seats 0 first_after_colours params) params (select (with_params f.params params []) [] (not (is_no_value type)) true (fresh_register n type) (suc (suc n)) f.body (to_seat (fresh_register n type) (suc n) (result_of type) next))
 
 whole_walk : (f : FunctionTree) → FunctionFits f → Walks (selected f).code [] (before_return f)
 whole_walk f fits =
     let whole = (selected f).code in
-    let body = subst (λ sc. Fits sc f.body) (sym (scopes_params (first + length f.params) f.params [])) fits.body in
-    then whole (walks_moves whole uncaught (seats 0 first (params_from (first + length f.params) f.params)) (params_from (first + length f.params) f.params))
+    let body = subst (λ sc. Fits sc f.body) (sym (scopes_params (first_after_colours + length f.params) f.params [])) fits.body in
+    then whole (walks_moves whole uncaught (seats 0 first_after_colours (params_from (first_after_colours + length f.params) f.params)) (params_from (first_after_colours + length f.params) f.params))
     (then whole (walks_select whole _ [] _ true _ _ f.body body (record { catches = uncaught; found = nil; outside = λ _. refl })) (walks_to_seat whole uncaught _ _ (result_of (body_type f))))
 
 pub selected_kept : (f : FunctionTree) → FunctionFits f → AllKept (selected f).code (selected f).code
 selected_kept f fits = let w = whole_walk f fits in w.kept (returning f) refl all (one (kept_leaving (selected f).code _ (result_seat _ (result_of (body_type f))) [] [] refl) none)
 
-place_there : {l : ℕ} {i : Instr} {rest code : List Instr} → Ending (i ∷ rest) code → has_label l i.op ≡ true → HasPlace l code
+place_there : {l : ℕ} {i : Instr} {rest code : List Instr} → Ending (i ∷ rest) code → has_label l i.op ≡ true → LabelOccursIn l code
 place_there all e = place_here e
 place_there (more x) e = place_below (place_there x e)
 
-place_of : {l : ℕ} {ts : List ℕ} {code : List Instr} → Found l ts code → HasPlace l code
+place_of : {l : ℕ} {ts : List ℕ} {code : List Instr} → Found l ts code → LabelOccursIn l code
 place_of f = place_there f.there f.has
 
 -- where a label is, in the whole code
-led : {whole : List Instr} (i : Instr) (next : List Instr) → Stands i next whole → IsKept whole i next → (l : ℕ) → LeadsTo i.op l → Found l (tries_left i.op (tries_at (i ∷ next))) whole
+led : {whole : List Instr} (i : Instr) (next : List Instr) → StandsAsInstr i next whole → IsKept whole i next → (l : ℕ) → TargetsLabel i.op l → Found l (tries_left i.op (tries_at (i ∷ next))) whole
 led {whole} i next s k l o = by (is_exit i.op) refl
   where
     by : (b : Bool) → is_exit i.op ≡ b → Found l (tries_left i.op (tries_at (i ∷ next))) whole

@@ -14,8 +14,8 @@ use Rattle.cmm_types.proofs.Containing.{contains_cases, contains_none}
 use Rattle.cmm_types.specs.Light.{is_light_address}
 use Rattle.cmm_types.specs.Types.{result_of, body_type}
 use Rattle.cmm_meaning.specs.Evaluation.{is_left_first}
-use Rattle.mach_ir.specs.Formed.{comps, IsFormed, AreDistinct, exit_form, else_form, case_form, catch_form, with_form, try_form, leave_form, end_form}
-use Rattle.mach_ir.specs.Forms.{results_of}
+use Rattle.mach_ir.specs.Formed.{comps, IsFormedInstruction, AreDistinct, exit_form, else_form, case_form, catch_form, with_form, try_form, leave_form, end_form}
+use Rattle.mach_ir.specs.Forms.{results_of_type}
 use Rattle.mach_ir.specs.Seats.{Seated, anywhere}
 use Rattle.mach_ir.specs.declared.mach.Instr.{Instr}
 use Rattle.mach_ir.specs.declared.mach.Mark.TheVariants as mark
@@ -26,7 +26,7 @@ use Rattle.mach_ir.specs.declared.op.Op.TheVariants as op
 use Rattle.mach_ir.specs.declared.op.Right.{Right}
 use Rattle.mach_ir.specs.declared.reg.Reg.{Reg}
 use Rattle.selection_rules.specs.Instructions as emit
-use Rattle.selection_rules.specs.Select.{Code, Shape, InRegisters, ConstantRight, ConstantLeft, PowerRight, rounded, power_code, operator_code, shape_of, shape_op, shape_right, shape_args, unless_left, unless_right, Named, Label, scopes, reg_of, label_of, move_from, move_to, moves_all, exit_to, ordered, only_when, from_seat, symbol_of, unless_symbol, right_of, unless_constant, bound_test, comparison, tested, select_test, is_based, select_base, call_of, tail_result, bound_name, regs_of, select, select_waiting, select_filled, select_bound, select_seq, select_cases, select_handlers, deeper, cell_stores, to_seat, selected, first, params_from, with_params, is_no_value, fresh, seats}
+use Rattle.selection_rules.specs.Select.{Code, OperandShape, InRegisters, ConstantRight, ConstantLeft, PowerRight, rounded, power_code, operator_code, operation_shape, shape_op, shape_right, shape_args, unless_left, unless_right, NamedRegister, Label, scopes, reg_of, visible_label, move_from, move_to, moves_all, exit_to_handler, ordered, only_when, from_seat, called_symbol, unless_symbol, bound_test_operand, unless_constant, bound_test, comparison, fused_test, select_test, is_based, select_base, call_of, tail_result, bound_name, regs_of, select, select_waiting, select_filled, select_bound, select_seq, select_cases, select_handlers, labels_within_try, cell_stores, to_seat, selected, first_after_colours, params_from, with_params, is_no_value, fresh_register, seats}
 use Rattle.selection_rules.proofs.Exits.{scopes_params, scopes_after, params_length}
 use Rattle.selection_laws.specs.Fits.{Fits, RowFits, BindingsFit, CasesFit, HandlersFit, FunctionFits}
 use Rattle.selection_rules.specs.Bounded.{BoundedCode}
@@ -63,7 +63,7 @@ module _ (given : Ret) where
   proper_moves (a ∷ from) [] next z = z
   proper_moves (a ∷ from) (d ∷ to) next z = proper_moves from to (emit.move a d ∷ next) (one (p_move a d) z)
 
-  proper_exit : (o : Option Label) (from : List Reg) → Makes (exit_to o from)
+  proper_exit : (o : Option Label) (from : List Reg) → Makes (exit_to_handler o from)
   proper_exit None from next z = z
   proper_exit (Some t) from next z = proper_moves from t.params _ (one (p_bare (mark.Exit t.number t.tries) exit_form anywhere) z)
 
@@ -80,17 +80,17 @@ module _ (given : Ret) where
   proper_constant : (r : Right) (code : Code) → Makes code → Makes (unless_constant r code)
   proper_constant r code e = kept_constant Makes (λ next z. z) {x = code} r e
 
-  proper_tested : (o : Option Test) (fused : Test → List Instr) (value : List Instr) → ((t : Test) → o ≡ Some t → Proper (fused t)) → Proper value → Proper (tested o fused value)
+  proper_tested : (o : Option Test) (fused : Test → List Instr) (value : List Instr) → ((t : Test) → o ≡ Some t → Proper (fused t)) → Proper value → Proper (fused_test o fused value)
   proper_tested (Some t) fused value f v = f t refl
   proper_tested None fused value f v = v
 
   proper_if : (q : Bool) (a b : Code) → Makes a → Makes b → (next : List Instr) → Proper next → Proper (cond q (a next) (b next))
   proper_if q a b f g = kept_if Makes {x = a} {y = b} q f g
 
-  proper_left : (s : Shape) (code : Code) → Makes code → Makes (unless_left s code)
+  proper_left : (s : OperandShape) (code : Code) → Makes code → Makes (unless_left s code)
   proper_left s code e = kept_left Makes (λ next z. z) {x = code} s e
 
-  proper_right : (s : Shape) (code : Code) → Makes code → Makes (unless_right s code)
+  proper_right : (s : OperandShape) (code : Code) → Makes code → Makes (unless_right s code)
   proper_right s code e = kept_right Makes (λ next z. z) {x = code} s e
 
   -- an amount of a shift
@@ -106,14 +106,14 @@ module _ (given : Ret) where
   proper_power op k x y d low less next z =
       proper_rounded k x y low less _ (one (p_shift operator.Sar k y y (short_amount k less)) (one (p_shift operator.Shl k y y (short_amount k less)) (one (p_registers operator.Sub x y d) z)))
 
-  proper_short : (s : Shape) (op : IntOp) (x y d : Reg) → ShortPower s → IsProper given (emit.operator (shape_op s op) (shape_right s) (shape_args s x y) d) → Makes (operator_code s op x y d)
+  proper_short : (s : OperandShape) (op : IntOp) (x y d : Reg) → ShortPower s → IsProper given (emit.operator (shape_op s op) (shape_right s) (shape_args s x y) d) → Makes (operator_code s op x y d)
   proper_short InRegisters op x y d short p next z = one p z
   proper_short (ConstantRight i) op x y d short p next z = one p z
   proper_short (ConstantLeft i) op x y d short p next z = one p z
   proper_short (PowerRight k) op x y d (short_power low less) p next z = proper_power op k x y d low less next z
 
-  proper_operator : (op : IntOp) (left e : Expression) (x y d : Reg) → Makes (operator_code (shape_of op left e) op x y d)
-  proper_operator op left e x y d = proper_short (shape_of op left e) op x y d (short_shape op left e) (p_operator op left e x y d)
+  proper_operator : (op : IntOp) (left e : Expression) (x y d : Reg) → Makes (operator_code (operation_shape op left e) op x y d)
+  proper_operator op left e x y d = proper_short (operation_shape op left e) op x y d (short_shape op left e) (p_operator op left e x y d)
 
   proper_unless : (o : Option (List ℕ)) (code : Code) → Makes code → Makes (unless_symbol o code)
   proper_unless o code e = kept_unless Makes (λ next z. z) {x = code} o e
@@ -127,7 +127,7 @@ module _ (given : Ret) where
   proper_call false valued result o f n k rs d few next z = one (p_call result o f n k rs few) (proper_from_seat k result d next z)
 
   mutual
-    pub proper_select : (env : List Named) (labels : List Label) (valued tail : Bool) (d : Reg) (b : ℕ) (e : Expression) → Fits (scopes env) e → Makes (select env labels valued tail d b e)
+    pub proper_select : (env : List NamedRegister) (labels : List Label) (valued tail : Bool) (d : Reg) (b : ℕ) (e : Expression) → Fits (scopes env) e → Makes (select env labels valued tail d b e)
     proper_select env labels valued tail d b (Integer at w) fine next z = one (p_constant w _ fine) z
     proper_select env labels valued tail d b (Pointer at w) fine next z = one (p_constant w _ fine) z
     proper_select env labels valued tail d b (Symbol at name) fine next z = one (p_symbol name _) z
@@ -138,17 +138,17 @@ module _ (given : Ret) where
         proper_bound env labels (suc b) bindings fine.0 _ (proper_select _ labels _ tail _ _ body (subst (λ sc. Fits sc body) (sym (scopes_after env (suc b) bindings)) fine.1) next z)
     proper_select env labels valued tail d b (Assign at name_at name e) fine next z = proper_select env labels false false _ _ e fine _ (proper_to _ (reg_of env name) next z)
     proper_select env labels valued tail d b (Operator at op left right) fine next z =
-        let s = shape_of op left right in
+        let s = operation_shape op left right in
         proper_ordered (is_left_first (scopes env) left right) _ _ (proper_left s _ (proper_select env labels false false _ _ left fine.0)) (proper_right s _ (proper_select env labels false false _ _ right fine.1)) _ (proper_operator op left right _ _ _ next z)
     proper_select env labels valued tail d b (App at callee arguments result result_at) fine next z =
         let light = is_light_address (scopes env) callee in
         let made = proper_select env labels false false _ _ callee fine.1.0 in
         proper_waiting env labels _ _ arguments fine.1.1 _
-        (proper_when (not light) _ (proper_unless (symbol_of callee) _ made) _
+        (proper_when (not light) _ (proper_unless (called_symbol callee) _ made) _
         (proper_filled env labels _ _ arguments fine.1.1 _
         (proper_when light _ made _
         (proper_moves (regs_of env (suc (suc b)) arguments) _ _
-        (proper_call tail _ result (symbol_of callee) _ _ _ (regs_of env (suc (suc b)) arguments) _ (few_regs env (suc (suc b)) arguments fine.0) next z)))))
+        (proper_call tail _ result (called_symbol callee) _ _ _ (regs_of env (suc (suc b)) arguments) _ (few_regs env (suc (suc b)) arguments fine.0) next z)))))
     proper_select env labels valued tail d b (Extcall at frame name arguments result result_at) fine next z =
         proper_waiting env labels _ _ arguments fine.1.1 _
         (proper_filled env labels _ _ arguments fine.1.1 _
@@ -162,7 +162,7 @@ module _ (given : Ret) where
     proper_select env labels valued tail d b (Catch at body handlers) fine next z =
         one (p_bare mark.Catch catch_form anywhere) (proper_select env _ _ tail _ _ body fine.0 _ (proper_handlers env _ _ tail _ _ _ _ handlers fine.1 _ (one (p_bare (mark.End _) end_form anywhere) z)))
     proper_select env labels valued tail d b (Exit at label_at label arguments) fine next z =
-        proper_waiting env labels _ _ arguments fine _ (proper_filled env labels _ _ arguments fine _ (proper_exit (label_of labels label) _ next z))
+        proper_waiting env labels _ _ arguments fine _ (proper_filled env labels _ _ arguments fine _ (proper_exit (visible_label labels label) _ next z))
     proper_select env labels valued tail d b (Alloc at header_at header operands) fine next z =
         proper_waiting env labels _ _ operands fine.1.1 _
         (one (p_alloc header operands _ fine.1.0) (one (p_constant header _ fine.0) (one (p_store _ _ _ _)
@@ -174,53 +174,53 @@ module _ (given : Ret) where
         (one (p_store chunk _ _ _) z)
     proper_select env labels valued tail d b (Checkbound at bound index) fine next z =
         proper_ordered (is_left_first (scopes env) bound index) _ _ (proper_select env labels false false _ _ bound fine.0)
-        (proper_constant (right_of bound_test index) _ (proper_select env labels false false _ _ index fine.1)) _ (one (p_checkbound index _ _) z)
+        (proper_constant (bound_test_operand bound_test index) _ (proper_select env labels false false _ _ index fine.1)) _ (one (p_checkbound index _ _) z)
     proper_select env labels valued tail d b (Raise at e) fine next z = proper_select env labels false false _ _ e fine _ (one (p_move _ _) (one (p_raise _) z))
     proper_select env labels valued tail d b (Switch at size_at size selector cases) fine next z =
         proper_select env labels false false _ _ selector fine.1.0 _ (one (p_choice _ _) (proper_cases env labels _ tail _ _ _ _ _ cases fine.1.1 _ (one (p_bare (mark.End _) end_form anywhere) z)))
     proper_select env labels valued tail d b (Try at body name_at name handler) fine next z =
         one (p_bare (mark.Try _) try_form anywhere)
-        (proper_select env (deeper labels) _ false _ _ body fine.0 _
+        (proper_select env (labels_within_try labels) _ false _ _ body fine.0 _
         (one (p_bare (mark.Leave _ _) leave_form anywhere) (one (p_handler _ _) (one (p_move _ _) (proper_select _ labels _ tail _ _ handler fine.1 _ (one (p_bare (mark.End _) end_form anywhere) z))))))
 
-    proper_base : (env : List Named) (labels : List Label) (t b : ℕ) (e : Expression) → Fits (scopes env) e → (whole : Code) → Makes whole → Makes (select_base env labels t b e whole)
+    proper_base : (env : List NamedRegister) (labels : List Label) (t b : ℕ) (e : Expression) → Fits (scopes env) e → (whole : Code) → Makes whole → Makes (select_base env labels t b e whole)
     proper_base env labels t b (Operator at op base (Integer at' w)) fine whole inside next z = proper_if (is_based op w) _ whole (proper_select env labels false false _ _ base fine.0) inside next z
     proper_base env labels t b e fine whole inside next z = inside next z
 
-    proper_test : (env : List Named) (labels : List Label) (l b : ℕ) (e : Expression) → Fits (scopes env) e → (value next : List Instr) → Proper value → Proper next → Proper (select_test env labels l b e value next)
+    proper_test : (env : List NamedRegister) (labels : List Label) (l b : ℕ) (e : Expression) → Fits (scopes env) e → (value next : List Instr) → Proper value → Proper next → Proper (select_test env labels l b e value next)
     proper_test env labels l b (Operator at op left right) fine value next v z =
-        let s = shape_of op left right in
+        let s = operation_shape op left right in
         proper_tested (comparison (shape_op s op) (shape_right s)) _ value
         (λ t is. proper_ordered (is_left_first (scopes env) left right) _ _ (proper_left s _ (proper_select env labels false false _ _ left fine.0)) (proper_right s _ (proper_select env labels false false _ _ right fine.1)) _
         (one (p_branch op left right _ _ l t is) z))
         v
     proper_test env labels l b e fine value next v z = v
 
-    proper_cases : (env : List Named) (labels : List Label) (valued tail : Bool) (d : Reg) (all : List ℕ) (end l b : ℕ) (cs : Cases) → CasesFit (scopes env) cs → Makes (select_cases env labels valued tail d all end l b cs)
+    proper_cases : (env : List NamedRegister) (labels : List Label) (valued tail : Bool) (d : Reg) (all : List ℕ) (end l b : ℕ) (cs : Cases) → CasesFit (scopes env) cs → Makes (select_cases env labels valued tail d all end l b cs)
     proper_cases env labels valued tail d all end l b NoCase fine next z = z
     proper_cases env labels valued tail d all end l b (Choose indexes body rest) fine next z =
         one (p_bare (mark.Case _ _ _) case_form anywhere) (proper_select env labels valued tail d b body fine.0 _ (proper_cases env labels valued tail d all end _ _ rest fine.1 next z))
 
-    proper_waiting : (env : List Named) (labels : List Label) (b i : ℕ) (es : Expressions) → RowFits (scopes env) es → Makes (select_waiting env labels b i es)
+    proper_waiting : (env : List NamedRegister) (labels : List Label) (b i : ℕ) (es : Expressions) → RowFits (scopes env) es → Makes (select_waiting env labels b i es)
     proper_waiting env labels b i NoMore fine next z = z
     proper_waiting env labels b i (More e rest) fine next z =
         proper_waiting env labels _ _ rest fine.1 _ (proper_when (not (is_light_address (scopes env) e)) _ (proper_select env labels false false _ i e fine.0) next z)
 
-    proper_filled : (env : List Named) (labels : List Label) (b i : ℕ) (es : Expressions) → RowFits (scopes env) es → Makes (select_filled env labels b i es)
+    proper_filled : (env : List NamedRegister) (labels : List Label) (b i : ℕ) (es : Expressions) → RowFits (scopes env) es → Makes (select_filled env labels b i es)
     proper_filled env labels b i NoMore fine next z = z
     proper_filled env labels b i (More e rest) fine next z =
         proper_filled env labels _ _ rest fine.1 _ (proper_when (is_light_address (scopes env) e) _ (proper_select env labels false false _ i e fine.0) next z)
 
-    proper_bound : (env : List Named) (labels : List Label) (b : ℕ) (bs : Bindings) → BindingsFit (scopes env) bs → Makes (select_bound env labels b bs)
+    proper_bound : (env : List NamedRegister) (labels : List Label) (b : ℕ) (bs : Bindings) → BindingsFit (scopes env) bs → Makes (select_bound env labels b bs)
     proper_bound env labels b NoBinding fine next z = z
     proper_bound env labels b (Bind at name declared e rest) fine next z = proper_select env labels false false _ _ e fine.0 _ (proper_bound (bound_name env b name declared e ∷ env) labels _ rest fine.1 next z)
 
-    proper_seq : (env : List Named) (labels : List Label) (valued tail : Bool) (d : Reg) (b : ℕ) (es : Expressions) → RowFits (scopes env) es → Makes (select_seq env labels valued tail d b es)
+    proper_seq : (env : List NamedRegister) (labels : List Label) (valued tail : Bool) (d : Reg) (b : ℕ) (es : Expressions) → RowFits (scopes env) es → Makes (select_seq env labels valued tail d b es)
     proper_seq env labels valued tail d b NoMore fine next z = z
     proper_seq env labels valued tail d b (More e NoMore) fine next z = proper_select env labels valued tail d (suc b) e fine.0 next z
     proper_seq env labels valued tail d b (More e (More g rest)) fine next z = proper_select env labels false false _ _ e fine.0 _ (proper_seq env labels valued tail d _ (More g rest) fine.1 next z)
 
-    proper_handlers : (env : List Named) (labels : List Label) (valued tail : Bool) (d : Reg) (end l b : ℕ) (hs : Handlers) → HandlersFit (scopes env) hs → Makes (select_handlers env labels valued tail d end l b hs)
+    proper_handlers : (env : List NamedRegister) (labels : List Label) (valued tail : Bool) (d : Reg) (end l b : ℕ) (hs : Handlers) → HandlersFit (scopes env) hs → Makes (select_handlers env labels valued tail d end l b hs)
     proper_handlers env labels valued tail d end l b NoHandler fine next z = z
     proper_handlers env labels valued tail d end l b (Handle at label params body rest) fine next z =
         one (p_bare (mark.With _ _) with_form anywhere)
@@ -234,15 +234,15 @@ pub selected_proper : (f : FunctionTree) → FunctionFits f → AllProper (selec
 selected_proper f fits =
     let type : Ty = body_type f in
     let result = result_of type in
-    let moved = first + length f.params in
+    let moved = first_after_colours + length f.params in
     let params = params_from moved f.params in
     let n = moved + length f.params in
     let from = suc (suc n) in
     let env = with_params f.params params [] in
     let body = subst (λ sc. Fits sc f.body) (sym (scopes_params moved f.params [])) fits.body in
-    proper_moves result (seats 0 first params) params _
-    (proper_select result env [] (not (is_no_value type)) true (fresh n type) from f.body body _
-    (proper_to_seat result (fresh n type) (suc n) result _ (one (p_return (suc n) result) none)))
+    proper_moves result (seats 0 first_after_colours params) params _
+    (proper_select result env [] (not (is_no_value type)) true (fresh_register n type) from f.body body _
+    (proper_to_seat result (fresh_register n type) (suc n) result _ (one (p_return (suc n) result) none)))
 
 -- Each constant of the code is a word.
 pub selected_bounded : (f : FunctionTree) → FunctionFits f → BoundedCode (selected f).code
@@ -256,22 +256,22 @@ selected_bounded f fits = all_bounded (selected_proper f fits)
 pub selected_seated : (f : FunctionTree) → FunctionFits f → Seated (selected f)
 selected_seated f fits =
     let all = selected_proper f fits in
-    let params = params_from (first + length f.params) f.params in
+    let params = params_from (first_after_colours + length f.params) f.params in
     let few = fits.params in
-    let long = params_length (first + length f.params) f.params in
+    let long = params_length (first_after_colours + length f.params) f.params in
     record {
-      params = seats_in_order first params (omega (arith, few, long));
+      params = seats_in_order first_after_colours params (omega (arith, few, long));
       operands = λ i c. let p = proper_in all i c in p.operands;
       results = λ i c. let p = proper_in all i c in p.results;
     }
 
 -- Each instruction has a form of Mach.
-pub selected_formed : (f : FunctionTree) → FunctionFits f → All IsFormed (selected f).code
+pub selected_formed : (f : FunctionTree) → FunctionFits f → All IsFormedInstruction (selected f).code
 selected_formed f fits = all_formed (selected_proper f fits)
   where
-    all_formed : {given : Ret} {code : List Instr} → AllProper given code → All IsFormed code
-    all_formed none = All-nil IsFormed
-    all_formed (one {i = i} {next = next} x xs) = All-cons IsFormed i next x.formed (all_formed xs)
+    all_formed : {given : Ret} {code : List Instr} → AllProper given code → All IsFormedInstruction code
+    all_formed none = All-nil IsFormedInstruction
+    all_formed (one {i = i} {next = next} x xs) = All-cons IsFormedInstruction i next x.formed (all_formed xs)
 
 -- No instruction writes a register twice.
 pub selected_distinct : (f : FunctionTree) → FunctionFits f → All (λ (i : Instr). AreDistinct i.results) (selected f).code
@@ -282,5 +282,5 @@ selected_distinct f fits = all_distinct (selected_proper f fits)
     all_distinct (one {i = i} {next = next} x xs) = All-cons (λ (i : Instr). AreDistinct i.results) i next x.distinct (all_distinct xs)
 
 -- A return gives what the function is written with.
-pub selected_returns : (f : FunctionTree) → FunctionFits f → (i : Instr) → Contains (selected f).code i → i.op ≡ mach.Op (op.Leaving leaving.Return) → comps i.args ≡ results_of (selected f).result
+pub selected_returns : (f : FunctionTree) → FunctionFits f → (i : Instr) → Contains (selected f).code i → i.op ≡ mach.Op (op.Leaving leaving.Return) → comps i.args ≡ results_of_type (selected f).result
 selected_returns f fits i c e = let p = proper_in (selected_proper f fits) i c in p.gives (ap is_return e)

@@ -9,9 +9,9 @@ use Rattle.bs_words.specs.declared.values.Value.{Value}
 use Rattle.cmm_meaning.specs.State.{Doing, Asked}
 use Rattle.mach_ir.specs.Acts.{Around, Target, On, At, Landing, AtLabel, AtHandler, Act, Goes, Pushes, Jumps, Unwinds, Asks, Replaces, Ends, EndsRaising, Stuck}
 use Rattle.mach_ir.specs.Keeps.{ValsWritten, OriginsAgree, Proper}
-use Rattle.mach_ir.specs.Runs.{Place, Step, Continues, Pays, Deepens, Waits, FinishesBy, Finishes, FinishesRaising, IsStuck, Tally, Run, Running, Asking, Ended, Wrong, paid, came_back, kept_of, handed, onward, first_tally, entered}
-use Rattle.mach_ir.specs.Meaning.{State, File, Held, put_if, put_all, clear, killed, destroyed_by, values, is_addr, unless_addr, past_frame, passes_frame, code_at, tries_at, at_handler, landing_code, mach_act, wrote, on_act, on_values, at_code, run, begun, start}
-use Rattle.mach_ir.specs.Walks.{Among, first, later, OneOf, targets, may_raise, goes, raises, Reached, at_entry, by_step, by_raise, Live, read, on, aside, LiveAcross, across_step, across_raise, InCode, is_param, is_in_code}
+use Rattle.mach_ir.specs.Runs.{ActivationSetting, Step, Continues, Pays, Deepens, Waits, FinishesBy, Finishes, FinishesRaising, IsStuck, Tally, RunProgress, Running, Asking, Ended, Wrong, paid, came_back, kept_of, handed, run_onward, first_tally, entry_around}
+use Rattle.mach_ir.specs.Meaning.{State, File, Held, put_if, put_all, clear_registers, killed, destroyed_by, values, is_addr, unless_addr, past_frame, passes_frame, code_at, tries_at, at_handler, landing_code, mach_act, wrote, on_act, on_values, at_code, run_of_mach, begin_mach, mach_start}
+use Rattle.mach_ir.specs.Walks.{AmongRegisters, first, later, OneOf, targets, may_raise, goes, raises, Reached, at_entry, by_step, by_raise, Live, read, on, aside, LiveAcross, across_step, across_raise, InCode, is_param, is_in_code}
 use Rattle.mach_ir.specs.declared.mach.Instr.{Instr}
 use Rattle.mach_ir.specs.declared.mach.Mach.{Mach}
 use Rattle.mach_ir.specs.declared.reg.Reg.{Reg}
@@ -49,7 +49,7 @@ put_holds true r v weak (a_file {a = a} h) = a_file (λ n l. if_holding (nat_eq 
 put_holds false r v weak no_file = no_file
 put_holds false r v weak (a_file h) = no_file
 
-put_all_holds : (end : ℕ) (rs : List Reg) (vs : List Value) {L : ℕ → Type 0} (a : File) → ((n : ℕ) → L n → (Among n rs → ⊥) → Holding (a n)) →
+put_all_holds : (end : ℕ) (rs : List Reg) (vs : List Value) {L : ℕ → Type 0} (a : File) → ((n : ℕ) → L n → (AmongRegisters n rs → ⊥) → Holding (a n)) →
     Holds L (put_all end rs vs a)
 put_all_holds end [] [] a h = a_file (λ n l. h n l (λ i. elim i [ ]))
 put_all_holds end [] (v ∷ vs) a h = no_file
@@ -58,27 +58,27 @@ put_all_holds end (r ∷ rs) (v ∷ vs) {L} a h =
     put_holds {L = L} {M = λ n. L n × (nat_eq r.number n ≡ false)} (fits end (type_of_comp r.comp) v) r v (λ n l q. (l, q))
     (put_all_holds end rs vs {L = λ n. L n × (nat_eq r.number n ≡ false)} a (λ n l free. h n l.0 (λ i. not_first l.1 free i)))
 
-cleared : (n : ℕ) (ks : List Reg) (a : File) → (Among n ks → ⊥) → Holding (a n) → Holding (clear ks a n)
+cleared : (n : ℕ) (ks : List Reg) (a : File) → (AmongRegisters n ks → ⊥) → Holding (a n) → Holding (clear_registers ks a n)
 cleared n [] a free h = h
 cleared n (k ∷ ks) a free h = by (nat_eq k.number n) refl (cleared n ks a (λ i. free (later i)) h)
   where
-    by : (b : Bool) → nat_eq k.number n ≡ b → Holding (clear ks a n) → Holding (cond b None (clear ks a n))
+    by : (b : Bool) → nat_eq k.number n ≡ b → Holding (clear_registers ks a n) → Holding (cond b None (clear_registers ks a n))
     by true e g = absurd (free (first (eqb-true k.number n e)))
     by false e g = g
 
 -- ---- what is read is in the code
 
-module _ (c : Place) (m : Mach) where
+module _ (c : ActivationSetting) (m : Mach) where
   -- What this rests on: only parameters are live at the entry, and no register of a colour is in the code.
   pub record Assigned : Type 0 where
     pub steady : Steady c m
-    pub entry : (n : ℕ) → Live m n m.code → Among n m.params
-    pub colours : (r : Reg) → InCode r m.code → Among r.number m.colours → ⊥
+    pub entry : (n : ℕ) → Live m n m.code → AmongRegisters n m.params
+    pub colours : (r : Reg) → InCode r m.code → AmongRegisters r.number m.colours → ⊥
 
-  no_colour : Assigned → {n : ℕ} {code : List Instr} → Ending code m.code → Live m n code → Among n m.colours → ⊥
+  no_colour : Assigned → {n : ℕ} {code : List Instr} → Ending code m.code → Live m n code → AmongRegisters n m.colours → ⊥
   no_colour z {n} e (read {i = i} a) k =
       let x = number_among i.args a in
-      z.colours x.0 (args_in (stands_of e) x.1) (subst (λ q. Among q m.colours) (sym x.2) k)
+      z.colours x.0 (args_in (stands_of e) x.1) (subst (λ q. AmongRegisters q m.colours) (sym x.2) k)
   no_colour z e (on free l w) k = no_colour z (ending_leads l e) w k
   no_colour z e (aside r w) k = no_colour z (ending_raises r) w k
 
@@ -144,16 +144,16 @@ module _ (c : Place) (m : Mach) where
     ending_at (At l) = ending_label l m.code
 
     put_fine : (vs : List Value) (t : Target) (after : Around) → OneOf t (targets i.op) →
-        FineStep (wrote (code_at m.code next t) after (put_all c.setting.end i.results vs (clear (killed m i) a')))
+        FineStep (wrote (code_at m.code next t) after (put_all c.setting.end i.results vs (clear_registers (killed m i) a')))
     put_fine vs t after o =
-        by (put_all c.setting.end i.results vs (clear (killed m i) a')) refl
-        (put_all_holds c.setting.end i.results vs {L = λ n. Live m n (code_at m.code next t)} (clear (killed m i) a')
+        by (put_all c.setting.end i.results vs (clear_registers (killed m i) a')) refl
+        (put_all_holds c.setting.end i.results vs {L = λ n. Live m n (code_at m.code next t)} (clear_registers (killed m i) a')
         (λ n w free. let unkilled = dead n w in cleared n (killed m i) a' unkilled (stays n (across_step (free_both c m i free unkilled) (goes t o) w))))
       where
-        dead : (n : ℕ) → Live m n (code_at m.code next t) → Among n (killed m i) → ⊥
+        dead : (n : ℕ) → Live m n (code_at m.code next t) → AmongRegisters n (killed m i) → ⊥
         dead n w k = no_colour assigned (ending_at t) w (of_killed_by n m.colours (destroyed_by i.op) i.results k)
 
-        by : (x : Option File) → put_all c.setting.end i.results vs (clear (killed m i) a') ≡ x → Holds (λ n. Live m n (code_at m.code next t)) x →
+        by : (x : Option File) → put_all c.setting.end i.results vs (clear_registers (killed m i) a') ≡ x → Holds (λ n. Live m n (code_at m.code next t)) x →
             FineStep (wrote (code_at m.code next t) after x)
         by x e no_file = fine_halt
         by x e (a_file {a = d} q) =
@@ -163,7 +163,7 @@ module _ (c : Place) (m : Mach) where
               written = q;
               known =
                   known_of c m
-                  (put_all_known c m c.setting.end i.results vs (clear (killed m i) a') (λ r x. is_in_code (results_in (stands_of rel.ending) x))
+                  (put_all_known c m c.setting.end i.results vs (clear_registers (killed m i) a') (λ r x. is_in_code (results_in (stands_of rel.ending) x))
                   (clear_known c m (killed m i) a' known')) e;
             })
 
@@ -217,7 +217,7 @@ module _ (c : Place) (m : Mach) where
 
   -- ---- runs
 
-  data FineRun : Run State → Type 0 where
+  data FineRun : RunProgress State → Type 0 where
     fine_running : {s : State} {t : Tally} → Fine s.rest s.file → FineRun (Running s t)
     fine_asking : {call : Asked} {t : Tally} → FineRun (Asking call t)
     fine_ended : {d : Doing} {t : Tally} → FineRun (Ended d t)
@@ -225,11 +225,11 @@ module _ (c : Place) (m : Mach) where
 
   abbrev FineRuns : ℕ → Type 0
   FineRuns k = (rest : List Instr) (a : File) (around : Around) (t : Tally) → Fine rest a →
-      FineRun (run c m k (record { rest = rest; file = a; around = around }) t)
+      FineRun (run_of_mach c m k (record { rest = rest; file = a; around = around }) t)
 
   handed_runs : (k : ℕ) (call : Asked) (x : Doing → Step State) (ds : List Doing) (t : Tally) →
-      ((d : Doing) (t : Tally) → FineRun (onward (run c m k) (x d) t)) →
-      FineRun (handed (λ d t. onward (run c m k) (x d) t) call ds t)
+      ((d : Doing) (t : Tally) → FineRun (run_onward (run_of_mach c m k) (x d) t)) →
+      FineRun (handed (λ d t. run_onward (run_of_mach c m k) (x d) t) call ds t)
   handed_runs k call x [] t each = fine_asking
   handed_runs k call x (d ∷ ds) t each = each d (came_back call ds t)
 
@@ -237,7 +237,7 @@ module _ (c : Place) (m : Mach) where
   placed_runs call kept [] t = fine_asking
   placed_runs call kept (d ∷ ds) t = fine_ended
 
-  step_runs : (k : ℕ) → FineRuns k → {x : Step State} → FineStep x → (t : Tally) → FineRun (onward (run c m k) x t)
+  step_runs : (k : ℕ) → FineRuns k → {x : Step State} → FineStep x → (t : Tally) → FineRun (run_onward (run_of_mach c m k) x t)
   step_runs k ih (fine_walk rel) t = ih _ _ _ t rel
   step_runs k ih (fine_leap rel) t = ih _ _ _ (paid t) rel
   step_runs k ih (fine_deep rel) t = ih _ _ _ _ rel
@@ -251,7 +251,7 @@ module _ (c : Place) (m : Mach) where
   fine_runs assigned zero = λ rest a around t rel. fine_running rel
   fine_runs assigned (suc k) = λ rest a around t rel. step_runs k (fine_runs assigned k) (step_fine assigned rest a around rel) t
 
-  start_fine : Assigned → (arguments : List Value) (memory : Memory) (s : State) → start c m arguments memory ≡ Some s → Fine s.rest s.file
+  start_fine : Assigned → (arguments : List Value) (memory : Memory) (s : State) → mach_start c m arguments memory ≡ Some s → Fine s.rest s.file
   start_fine assigned arguments memory s is = by (put_all c.setting.end m.params arguments (λ n. None)) refl at_first is
     where
       no_state : (s : State) → None ≡ Some s → ⊥
@@ -263,12 +263,12 @@ module _ (c : Place) (m : Mach) where
       at_first : Holds (λ n. Live m n m.code) (put_all c.setting.end m.params arguments (λ n. None))
       at_first = put_all_holds c.setting.end m.params arguments {L = λ n. Live m n m.code} (λ n. None) (λ n l free. absurd (free (assigned.entry n l)))
 
-      by : (o : Option File) → put_all c.setting.end m.params arguments (λ n. None) ≡ o → Holds (λ n. Live m n m.code) o → begun m memory o ≡ Some s →
+      by : (o : Option File) → put_all c.setting.end m.params arguments (λ n. None) ≡ o → Holds (λ n. Live m n m.code) o → begin_mach m memory o ≡ Some s →
           Fine s.rest s.file
       by None e h b = absurd (no_state s b)
       by (Some a) e (a_file h) b =
           subst (λ (x : State). Fine x.rest x.file)
-          (some_state (record { rest = m.code; file = a; around = entered memory }) s b)
+          (some_state (record { rest = m.code; file = a; around = entry_around memory }) s b)
           (record {
             ending = all;
             reached = comes at_entry;
@@ -285,7 +285,7 @@ module _ (c : Place) (m : Mach) where
 
   -- A run that does not go wrong is nowhere stuck, where registers of one origin never differ.
   pub runs_proper : Assigned → ((just_written : List Reg) (s : State) → OriginsAgree m just_written s) → (arguments : List Value) (memory : Memory)
-      (doings : List Doing) (s : State) → start c m arguments memory ≡ Some s → (n : ℕ) → run c m n s (first_tally c doings) ≢ Wrong →
+      (doings : List Doing) (s : State) → mach_start c m arguments memory ≡ Some s → (n : ℕ) → run_of_mach c m n s (first_tally c doings) ≢ Wrong →
       Proper c m n s (first_tally c doings)
   runs_proper assigned agree arguments memory doings s is n right =
       record {

@@ -3,10 +3,10 @@ use Rattle.std.proofs.Common.{◌≡◌, ℕ, suc, ◌+◌, ◌<◌, ◌≤◌, 
 use Rattle.cmm_tree.specs.Rows.{row_of}
 use Rattle.cmm_tree.specs.View.{expr_view}
 use Rattle.cmm_tree.specs.declared.expr.Expr.{Expr}
-use Rattle.selection_rules.specs.Select.{width, width_row, regs_of, Named}
+use Rattle.selection_rules.specs.Select.{width, width_row, regs_of, NamedRegister}
 use Rattle.cmm_tree.specs.Measures.{count_of}
 use Rattle.selection_scope.proofs.Counts.{count-row}
-use Rattle.selection_scope.specs.Room.{HasRoom, indexes_in, indexes_in_row, most_numbers}
+use Rattle.selection_scope.specs.Room.{HasExpressionRoom, indexes_in, indexes_in_row, most_numbers}
 
 -- ---- the first part of a row of operands, which take a number each before those of their code
 
@@ -23,7 +23,7 @@ row-first b rest others e is room =
     omega (arith, wide, many, count, room)
 
 pub row-room-first : (b : ℕ) (rest others : List Expr) (e : Expr) → e ∷ others ≡ rest → b + (width_row (row_of rest) + indexes_in_row (row_of rest)) < most_numbers + length rest
-    → HasRoom b (expr_view e)
+    → HasExpressionRoom b (expr_view e)
 row-room-first b rest others e is room =
     let first = row-first b rest others e is room in
     let wide = row_wide others in
@@ -34,6 +34,6 @@ row_count es = count-row es
 
 -- ---- as many as
 
-pub length-regs : (env : List Named) (b : ℕ) (es : List Expr) → length (regs_of env b (row_of es)) ≡ length es
+pub length-regs : (env : List NamedRegister) (b : ℕ) (es : List Expr) → length (regs_of env b (row_of es)) ≡ length es
 length-regs env b [] = refl
 length-regs env b (e ∷ es) = ap suc (length-regs env (suc b) es)

@@ -17,21 +17,21 @@ use Rattle.cmm_meaning.specs.Evaluation.{comps_of_arguments}
 use Rattle.mach_ir.specs.declared.mach.Instr.{Instr}
 use Rattle.mach_ir.specs.declared.reg.Reg.{Reg}
 use Rattle.selection_rules.specs.Instructions as emit
-use Rattle.selection_rules.specs.Select.{Label, Code, fresh, inner_dest, inner_valued, select, select_waiting, select_filled, only_when, unless_symbol, symbol_of, call_of, moves_all, seats, result_seat, from_seat, regs_of, label_of, exit_to, cell_stores, chunk_for, header_offset, width}
+use Rattle.selection_rules.specs.Select.{Label, Code, fresh_register, inner_dest, inner_valued, select, select_waiting, select_filled, only_when, unless_symbol, called_symbol, call_of, moves_all, seats, result_seat, from_seat, regs_of, visible_label, exit_to_handler, cell_stores, chunk_for, header_offset, width}
 use Rattle.cmm_tree.specs.Measures.{count_of}
 use Rattle.selection_scope.proofs.Counts.{count-row}
 use Rattle.selection_operands.proofs.Waiting.{called-here}
 use Rattle.selection_operands.specs.Below.{node_code}
 use Rattle.selection_operands.specs.Operands.{lacks}
-use Rattle.selection_scope.specs.Scoping.{Visible, names_in}
+use Rattle.selection_scope.specs.Scoping.{LexicalScope, scoped_names}
 use Rattle.selection_scope.specs.declared.place.Place.{Place}
 
-pub exit-is : (scope : Visible) (place : Place) (label : LabelTree) (arguments : List Expr) (row base : ℕ) (regs : List Reg) (target : Option Label) (next left filled made : List Instr) (at label_at : ℕ)
+pub exit-is : (scope : LexicalScope) (place : Place) (label : LabelTree) (arguments : List Expr) (row base : ℕ) (regs : List Reg) (target : Option Label) (next left filled made : List Instr) (at label_at : ℕ)
     → row ≡ place.base + 1
     → base ≡ row + length arguments
     → regs ≡ regs_of scope.names row (row_of arguments)
-    → target ≡ label_of scope.labels label
-    → left ≡ exit_to target regs next
+    → target ≡ visible_label scope.labels label
+    → left ≡ exit_to_handler target regs next
     → filled ≡ select_filled scope.names scope.labels row base (row_of arguments) left
     → made ≡ select_waiting scope.names scope.labels row base (row_of arguments) filled
     → made ≡ node_code scope place (Exit at label_at label (row_of arguments)) next
@@ -43,8 +43,8 @@ exit-is scope place label arguments row base regs target next left filled made a
     let count : count_of es ≡ length arguments = count-row arguments in
     let row-is : row ≡ suc b = omega arith in
     let base-is : base ≡ suc b + count_of es = omega (arith, count) in
-    let whole : ℕ → ℕ → List Reg → Option Label → List Instr = λ r i x t. select_waiting env labels r i es (select_filled env labels r i es (exit_to t x next)) in
-    let T : Option Label = label_of labels label in
+    let whole : ℕ → ℕ → List Reg → Option Label → List Instr = λ r i x t. select_waiting env labels r i es (select_filled env labels r i es (exit_to_handler t x next)) in
+    let T : Option Label = visible_label labels label in
     m
     ∙ ap (select_waiting env labels row base es) (f ∙ ap (select_filled env labels row base es) l)
     ∙ ap (whole row base regs) ta
@@ -52,7 +52,7 @@ exit-is scope place label arguments row base regs target next left filled made a
     ∙ ap (λ k. whole k base (regs_of env k es) T) row-is
     ∙ ap (λ k. whole (suc b) k (regs_of env (suc b) es) T) base-is
 
-pub extcall-is : (scope : Visible) (place : Place) (type : Ty) (frame : Bool) (name : List ℕ) (arguments : List Expr) (result : Ret) (row count seated given base : ℕ) (regs args results : List Reg) (comps : List Comp) (d : Reg)
+pub extcall-is : (scope : LexicalScope) (place : Place) (type : Ty) (frame : Bool) (name : List ℕ) (arguments : List Expr) (result : Ret) (row count seated given base : ℕ) (regs args results : List Reg) (comps : List Comp) (d : Reg)
     (next taken called moved filled made : List Instr) (at result_at : ℕ)
     → row ≡ place.base + 1
     → count ≡ length arguments
@@ -61,12 +61,12 @@ pub extcall-is : (scope : Visible) (place : Place) (type : Ty) (frame : Bool) (n
     → base ≡ given + 1
     → regs ≡ regs_of scope.names row (row_of arguments)
     → args ≡ seats 0 seated regs
-    → comps ≡ comps_of_arguments (names_in scope) (row_of arguments)
+    → comps ≡ comps_of_arguments (scoped_names scope) (row_of arguments)
     → results ≡ result_seat given result
-    → type ≡ type_of (names_in scope) (Extcall at frame name (row_of arguments) result result_at)
+    → type ≡ type_of (scoped_names scope) (Extcall at frame name (row_of arguments) result result_at)
     → d ≡ inner_dest type place.base place.dest
     → taken ≡ from_seat given result d next
-    → called ≡ emit.external name comps result frame args results ∷ taken
+    → called ≡ emit.external_instruction name comps result frame args results ∷ taken
     → moved ≡ moves_all regs args called
     → filled ≡ select_filled scope.names scope.labels row base (row_of arguments) moved
     → made ≡ select_waiting scope.names scope.labels row base (row_of arguments) filled
@@ -81,11 +81,11 @@ extcall-is scope place type frame name arguments result row count seated given b
     let seated-is : seated ≡ suc b + count_of es = omega (arith, size) in
     let given-is : given ≡ suc b + count_of es + count_of es = omega (arith, size) in
     let base-is : base ≡ suc (suc b + count_of es + count_of es) = omega (arith, size) in
-    let own : Reg = inner_dest (type_of (names_in scope) (Extcall at frame name es result result_at)) b place.dest in
+    let own : Reg = inner_dest (type_of (scoped_names scope) (Extcall at frame name es result result_at)) b place.dest in
     let own-is : d ≡ own = de ∙ ap (λ k. inner_dest k b place.dest) te in
-    let inside : List Reg → List Reg → List Comp → List Reg → List Instr → List Instr = λ x y z u rest. moves_all x y (emit.external name z result frame y u ∷ rest) in
+    let inside : List Reg → List Reg → List Comp → List Reg → List Instr → List Instr = λ x y z u rest. moves_all x y (emit.external_instruction name z result frame y u ∷ rest) in
     let put : ℕ → ℕ → List Instr → List Instr = λ r i rest. select_waiting env labels r i es (select_filled env labels r i es rest) in
-    let C : List Comp = comps_of_arguments (names_in scope) es in
+    let C : List Comp = comps_of_arguments (scoped_names scope) es in
     let whole : ℕ → ℕ → ℕ → ℕ → List Reg → List Instr = λ r s g i x. put r i (inside x (seats 0 s x) C (result_seat g result) (from_seat g result own next)) in
     m
     ∙ ap (select_waiting env labels row base es) (f ∙ ap (select_filled env labels row base es) (v ∙ ap (moves_all regs args) c))
@@ -99,7 +99,7 @@ extcall-is scope place type frame name arguments result row count seated given b
     ∙ ap (λ k. whole (suc b) (suc b + count_of es) k base (regs_of env (suc b) es)) given-is
     ∙ ap (λ k. whole (suc b) (suc b + count_of es) (suc b + count_of es + count_of es) k (regs_of env (suc b) es)) base-is
 
-pub app-is : (scope : Visible) (place : Place) (type : Ty) (callee : Expr) (arguments : List Expr) (result : Ret) (row count seated given base inner : ℕ) (light called early wants : Bool) (f d : Reg) (regs args : List Reg)
+pub app-is : (scope : LexicalScope) (place : Place) (type : Ty) (callee : Expr) (arguments : List Expr) (result : Ret) (row count seated given base inner : ℕ) (light called early wants : Bool) (f d : Reg) (regs args : List Reg)
     (next left moved late filled now made : List Instr) (at result_at : ℕ)
     → row ≡ place.base + 2
     → count ≡ length arguments
@@ -107,17 +107,17 @@ pub app-is : (scope : Visible) (place : Place) (type : Ty) (callee : Expr) (argu
     → given ≡ seated + count
     → base ≡ given + 1
     → inner ≡ base + width (expr_view callee)
-    → IsAnnotated (names_in scope) callee
-    → f ≡ fresh (row - 1) callee.ty
-    → light ≡ is_light_address (names_in scope) (expr_view callee)
-    → called ≡ lacks (symbol_of (expr_view callee))
+    → IsAnnotated (scoped_names scope) callee
+    → f ≡ fresh_register (row - 1) callee.ty
+    → light ≡ is_light_address (scoped_names scope) (expr_view callee)
+    → called ≡ lacks (called_symbol (expr_view callee))
     → early ≡ not light && called
     → regs ≡ regs_of scope.names row (row_of arguments)
     → args ≡ seats 0 seated regs
-    → type ≡ type_of (names_in scope) (App at (expr_view callee) (row_of arguments) result result_at)
+    → type ≡ type_of (scoped_names scope) (App at (expr_view callee) (row_of arguments) result result_at)
     → wants ≡ inner_valued place.valued type
     → d ≡ inner_dest type place.base place.dest
-    → left ≡ call_of place.tail wants result (symbol_of (expr_view callee)) f args given d next
+    → left ≡ call_of place.tail wants result (called_symbol (expr_view callee)) f args given d next
     → moved ≡ moves_all regs args left
     → late ≡ only_when light (select scope.names scope.labels false false f base (expr_view callee)) moved
     → filled ≡ select_filled scope.names scope.labels row inner (row_of arguments) late
@@ -130,7 +130,7 @@ app-is scope place type callee arguments result row count seated given base inne
     let b = place.base in
     let es = row_of arguments in
     let e = expr_view callee in
-    let name = symbol_of e in
+    let name = called_symbol e in
     let size : count_of es ≡ length arguments = count-row arguments in
     let G : ℕ = suc (suc b) + count_of es + count_of es in
     let row-is : row ≡ suc (suc b) = omega arith in
@@ -139,14 +139,14 @@ app-is scope place type callee arguments result row count seated given base inne
     let given-is : given ≡ G = omega (arith, size) in
     let base-is : base ≡ suc G = omega (arith, size) in
     let inner-is : inner ≡ suc G + width e = omega (arith, size) in
-    let type' : Ty = type_of (names_in scope) (App at e es result result_at) in
+    let type' : Ty = type_of (scoped_names scope) (App at e es result result_at) in
     let own : Reg = inner_dest type' b place.dest in
     let own-is : d ≡ own = de ∙ ap (λ k. inner_dest k b place.dest) te in
     let W : Bool = inner_valued place.valued type' in
     let wants-is : wants ≡ W = we ∙ ap (inner_valued place.valued) te in
-    let F : Reg = fresh (suc b) (type_of (names_in scope) e) in
-    let register-is : f ≡ F = fe ∙ ap (λ k. fresh k callee.ty) number ∙ ap (fresh (suc b)) typed.type in
-    let K : Bool = is_light_address (names_in scope) e in
+    let F : Reg = fresh_register (suc b) (type_of (scoped_names scope) e) in
+    let register-is : f ≡ F = fe ∙ ap (λ k. fresh_register k callee.ty) number ∙ ap (fresh_register (suc b)) typed.type in
+    let K : Bool = is_light_address (scoped_names scope) e in
     let own-code : ℕ → Reg → Code = λ i r. select env labels false false r i e in
     let early-is : early ≡ not K && lacks name = ea ∙ ap (λ z. not z && called) le ∙ ap (λ z. not K && z) ca in
     let inside : ℕ → ℕ → ℕ → ℕ → Reg → List Reg → List Reg → List Instr = λ r g i j x y z. select_filled env labels r j es (only_when K (own-code i x) (moves_all y z (call_of place.tail W result name x z g own next))) in
@@ -176,16 +176,16 @@ app-is scope place type callee arguments result row count seated given base inne
     ∙ ap (λ k. whole (suc (suc b)) (suc (suc b) + count_of es) G k inner F (regs_of env (suc (suc b)) es)) base-is
     ∙ ap (λ k. whole (suc (suc b)) (suc (suc b) + count_of es) G (suc G) k F (regs_of env (suc (suc b)) es)) inner-is
 
-pub alloc-is : (scope : Visible) (place : Place) (type : Ty) (header : ℕ) (operands : List Expr) (row cells base : ℕ) (block word d : Reg) (regs : List Reg) (kind : Chunk)
+pub alloc-is : (scope : LexicalScope) (place : Place) (type : Ty) (header : ℕ) (operands : List Expr) (row cells base : ℕ) (block word d : Reg) (regs : List Reg) (kind : Chunk)
     (next moved stored filled headed named made_block made : List Instr) (at header_at : ℕ)
     → row ≡ place.base + 3
     → cells ≡ length operands
     → base ≡ row + cells
-    → block ≡ fresh (row - 2) ty.Val
-    → word ≡ fresh (row - 1) ty.Int
+    → block ≡ fresh_register (row - 2) ty.Val
+    → word ≡ fresh_register (row - 1) ty.Int
     → regs ≡ regs_of scope.names row (row_of operands)
     → kind ≡ chunk_for (nat_le (header % 256) 250)
-    → type ≡ type_of (names_in scope) (Alloc at header_at header (row_of operands))
+    → type ≡ type_of (scoped_names scope) (Alloc at header_at header (row_of operands))
     → d ≡ inner_dest type place.base place.dest
     → moved ≡ emit.move block d ∷ next
     → stored ≡ cell_stores kind block 0 regs moved
@@ -206,12 +206,12 @@ alloc-is scope place type header operands row cells base block word d regs kind 
     let base-is : base ≡ suc (suc (suc b)) + count_of es = omega (arith, size) in
     let p-number : row - 2 ≡ suc b = omega arith in
     let q-number : row - 1 ≡ suc (suc b) = omega arith in
-    let own : Reg = inner_dest (type_of (names_in scope) (Alloc at header_at header es)) b place.dest in
+    let own : Reg = inner_dest (type_of (scoped_names scope) (Alloc at header_at header es)) b place.dest in
     let own-is : d ≡ own = de ∙ ap (λ k. inner_dest k b place.dest) te in
-    let P : Reg = fresh (suc b) ty.Val in
-    let Q : Reg = fresh (suc (suc b)) ty.Int in
-    let p-is : block ≡ P = bl ∙ ap (λ k. fresh k ty.Val) p-number in
-    let q-is : word ≡ Q = wo ∙ ap (λ k. fresh k ty.Int) q-number in
+    let P : Reg = fresh_register (suc b) ty.Val in
+    let Q : Reg = fresh_register (suc (suc b)) ty.Int in
+    let p-is : block ≡ P = bl ∙ ap (λ k. fresh_register k ty.Val) p-number in
+    let q-is : word ≡ Q = wo ∙ ap (λ k. fresh_register k ty.Int) q-number in
     let K : Chunk = chunk_for (nat_le (header % 256) 250) in
     let whole : ℕ → ℕ → ℕ → Reg → Reg → List Reg → List Instr = λ r n i p q x.
     select_waiting env labels r i es

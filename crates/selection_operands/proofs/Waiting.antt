@@ -8,30 +8,30 @@ use Rattle.cmm_types.specs.Light.{is_light_address}
 use Rattle.cmm_types.specs.Types.{type_of}
 use Rattle.mach_ir.specs.declared.mach.Instr.{Instr}
 use Rattle.mach_ir.specs.declared.reg.Reg.{Reg}
-use Rattle.selection_rules.specs.Select.{Code, fresh, select, only_when, unless_symbol, select_waiting, select_filled, width}
+use Rattle.selection_rules.specs.Select.{Code, fresh_register, select, only_when, unless_symbol, select_waiting, select_filled, width}
 use Rattle.selection_operands.specs.Operands.{lacks}
-use Rattle.selection_scope.specs.Scoping.{Visible, names_in}
+use Rattle.selection_scope.specs.Scoping.{LexicalScope, scoped_names}
 
 -- the code of an operand, if it is needed here
-abbrev here : Visible → ℕ → Expr → List Instr → Bool → Reg → List Instr
+abbrev here : LexicalScope → ℕ → Expr → List Instr → Bool → Reg → List Instr
 here scope base e next needed r = only_when needed (select scope.names scope.labels false false r base (expr_view e)) next
 
-here-is : (scope : Visible) (reg base : ℕ) (e : Expr) (r : Reg) (needed now : Bool) (next made : List Instr)
+here-is : (scope : LexicalScope) (reg base : ℕ) (e : Expr) (r : Reg) (needed now : Bool) (next made : List Instr)
     → needed ≡ now
-    → IsAnnotated (names_in scope) e
-    → r ≡ fresh reg e.ty
+    → IsAnnotated (scoped_names scope) e
+    → r ≡ fresh_register reg e.ty
     → made ≡ here scope base e next needed r
-    → made ≡ here scope base e next now (fresh reg (type_of (names_in scope) (expr_view e)))
+    → made ≡ here scope base e next now (fresh_register reg (type_of (scoped_names scope) (expr_view e)))
 here-is scope reg base e r needed now next made w t f m =
-    m ∙ ap (λ x. here scope base e next x r) w ∙ ap (here scope base e next now) (f ∙ ap (fresh reg) t.type)
+    m ∙ ap (λ x. here scope base e next x r) w ∙ ap (here scope base e next now) (f ∙ ap (fresh_register reg) t.type)
 
-pub waiting-more : (scope : Visible) (n b reg base : ℕ) (r : Reg) (light needed : Bool) (e : Expr) (rest : List Expr) (next made : List Instr)
+pub waiting-more : (scope : LexicalScope) (n b reg base : ℕ) (r : Reg) (light needed : Bool) (e : Expr) (rest : List Expr) (next made : List Instr)
     → n ≡ suc reg
     → b ≡ base + width (expr_view e)
-    → light ≡ is_light_address (names_in scope) (expr_view e)
+    → light ≡ is_light_address (scoped_names scope) (expr_view e)
     → needed ≡ not light
-    → IsAnnotated (names_in scope) e
-    → r ≡ fresh reg e.ty
+    → IsAnnotated (scoped_names scope) e
+    → r ≡ fresh_register reg e.ty
     → made ≡ only_when needed (select scope.names scope.labels false false r base (expr_view e)) next
     → select_waiting scope.names scope.labels n b (row_of rest) made ≡ select_waiting scope.names scope.labels reg base (row_of (e ∷ rest)) next
 waiting-more scope n b reg base r light needed e rest next made p q l w t f m =
@@ -41,12 +41,12 @@ waiting-more scope n b reg base r light needed e rest next made p q l w t f m =
     ∙ ap (λ k. select_waiting env labels (suc reg) k (row_of rest) made) q
     ∙ ap (select_waiting env labels (suc reg) (base + width (expr_view e)) (row_of rest)) (here-is scope reg base e r needed _ next made (w ∙ ap not l) t f m)
 
-pub filled-more : (scope : Visible) (n b reg base : ℕ) (r : Reg) (light : Bool) (e : Expr) (rest : List Expr) (next made : List Instr)
+pub filled-more : (scope : LexicalScope) (n b reg base : ℕ) (r : Reg) (light : Bool) (e : Expr) (rest : List Expr) (next made : List Instr)
     → n ≡ suc reg
     → b ≡ base + width (expr_view e)
-    → light ≡ is_light_address (names_in scope) (expr_view e)
-    → IsAnnotated (names_in scope) e
-    → r ≡ fresh reg e.ty
+    → light ≡ is_light_address (scoped_names scope) (expr_view e)
+    → IsAnnotated (scoped_names scope) e
+    → r ≡ fresh_register reg e.ty
     → made ≡ only_when light (select scope.names scope.labels false false r base (expr_view e)) next
     → select_filled scope.names scope.labels n b (row_of rest) made ≡ select_filled scope.names scope.labels reg base (row_of (e ∷ rest)) next
 filled-more scope n b reg base r light e rest next made p q l t f m =

@@ -8,41 +8,41 @@ use Rattle.cmm_tree.specs.declared.expr.Expr.{Expr}
 use Rattle.cmm_types.specs.Annotated.{IsAnnotated}
 use Rattle.mach_ir.specs.declared.mach.Instr.{Instr}
 use Rattle.selection_rules.specs.Select.{Code, select}
-use Rattle.selection_scope.specs.Room.{HasRoom, most_tries}
-use Rattle.selection_scope.specs.Scoping.{Visible, names_in}
+use Rattle.selection_scope.specs.Room.{HasExpressionRoom, most_tries}
+use Rattle.selection_scope.specs.Scoping.{LexicalScope, scoped_names}
 use Rattle.selection_scope.specs.declared.place.Place.{Place}
 
 -- the code of an expression at a place
-abbrev pub code_at : Visible → Place → Expr → Code
-code_at scope place e =
+abbrev pub selected_code : LexicalScope → Place → Expr → Code
+selected_code scope place e =
     select scope.names scope.labels place.valued place.tail place.dest place.base (expr_view e)
 
 -- it may be called of an expression that holds its types, and that has room after the numbers before
 -- `first`, which are no fewer than the tries round it
-abbrev pub MayCall : (MutBor Visible → MutBor (List Instr) → Place → Bor Expr → Type 0) → ℕ → Type 0
+abbrev pub MayCall : (MutBor LexicalScope → MutBor (List Instr) → Place → Bor Expr → Type 0) → ℕ → Type 0
 MayCall may_call first =
-    (scope : MutBor Visible) (code : MutBor (List Instr)) (place : Place) (expr : Bor Expr)
+    (scope : MutBor LexicalScope) (code : MutBor (List Instr)) (place : Place) (expr : Bor Expr)
     → most_tries scope.now.labels ≤ first
     → first ≤ place.base
-    → HasRoom place.base (expr_view expr.now)
-    → IsAnnotated (names_in scope.now) expr.now
+    → HasExpressionRoom place.base (expr_view expr.now)
+    → IsAnnotated (scoped_names scope.now) expr.now
     → may_call scope code place expr
 
 -- it then puts the code of the expression before what there is, and leaves the scope as it was
-abbrev pub Selects : (MutBor Visible → MutBor (List Instr) → Place → Bor Expr
-    → Result Unit AllocError → MutBor Visible → MutBor (List Instr) → Type 0) → ℕ → Type 0
-Selects returns first =
-    (scope : MutBor Visible) (code : MutBor (List Instr)) (place : Place) (expr : Bor Expr)
-    (result : Result Unit AllocError) (left : MutBor Visible) (made : MutBor (List Instr))
+abbrev pub SelectsExpression : (MutBor LexicalScope → MutBor (List Instr) → Place → Bor Expr
+    → Result Unit AllocError → MutBor LexicalScope → MutBor (List Instr) → Type 0) → ℕ → Type 0
+SelectsExpression returns first =
+    (scope : MutBor LexicalScope) (code : MutBor (List Instr)) (place : Place) (expr : Bor Expr)
+    (result : Result Unit AllocError) (left : MutBor LexicalScope) (made : MutBor (List Instr))
     → most_tries scope.now.labels ≤ first
     → first ≤ place.base
-    → HasRoom place.base (expr_view expr.now)
-    → IsAnnotated (names_in scope.now) expr.now
+    → HasExpressionRoom place.base (expr_view expr.now)
+    → IsAnnotated (scoped_names scope.now) expr.now
     → returns scope code place expr result left made
     → OnOk result
-    ((made.now ≡ code_at scope.now place expr.now code.now) × (left.now ≡ scope.now))
+    ((made.now ≡ selected_code scope.now place expr.now code.now) × (left.now ≡ scope.now))
 
 -- the code of a tree at a place
-abbrev pub node_code : Visible → Place → Expression → Code
+abbrev pub node_code : LexicalScope → Place → Expression → Code
 node_code scope place e =
     select scope.names scope.labels place.valued place.tail place.dest place.base e

@@ -8,12 +8,12 @@ ghost use Rattle.cmm_types.specs.Lists.{AreAnnotated};
 ghost use Rattle.cmm_types.specs.Types.{type_of};
 ghost use Rattle.cmm_meaning.specs.Evaluation.{comps_of_arguments};
 ghost use Rattle.selection_rules.specs.Instructions as emit;
-ghost use Rattle.selection_rules.specs.Select.{symbol_of as symbol_in, call_of, exit_to, label_of, regs_of, result_seat};
+ghost use Rattle.selection_rules.specs.Select.{called_symbol as symbol_in, call_of, exit_to_handler, visible_label, regs_of, result_seat};
 ghost use Rattle.selection_operands.specs.Operands.{lacks};
 ghost use Rattle.selection_operands.specs.Calls.{call_numbers, seated_code};
-ghost use Rattle.selection_operands.specs.Below.{node_code, MayCall, Selects};
-ghost use Rattle.selection_scope.specs.Room.{HasRoom, most_numbers, most_tries};
-ghost use Rattle.selection_scope.specs.Scoping.{names_in};
+ghost use Rattle.selection_operands.specs.Below.{node_code, MayCall, SelectsExpression};
+ghost use Rattle.selection_scope.specs.Room.{HasExpressionRoom, most_numbers, most_tries};
+ghost use Rattle.selection_scope.specs.Scoping.{scoped_names};
 
 use crate::operands::{Below, Operand, filled, one, put_operand, waiting};
 use bs_words::{Comp, Name, Ret};
@@ -87,7 +87,7 @@ fn put_call(
     numbers: CallNumbers,
     arguments: &[Expr],
 ) -> Result<(), AllocError>
-    requires typed { AreAnnotated (names_in scope.now) arguments.now }
+    requires typed { AreAnnotated (scoped_names scope.now) arguments.now }
     requires row { numbers.row + length arguments.now < most_numbers }
     requires seats { numbers.seated + length arguments.now < most_numbers }
     ensures { OnOk result (code.new ≡ seated_code scope.now numbers (row_of arguments.now)
@@ -113,14 +113,14 @@ pub fn app<F: Fn(&mut Scope, &mut Backwards, Place, &Expr) -> Result<(), AllocEr
     written: Ret,
 ) -> Result<(), AllocError>
     requires callable { MayCall (F.pre below.now.select.now) below.now.first }
-    requires selects { Selects (F.post below.now.select.now) below.now.first }
+    requires selects { SelectsExpression (F.post below.now.select.now) below.now.first }
     requires tries { most_tries scope.old.labels ≤ node.place.base }
     requires begins { below.now.first ≡ node.place.base + 1 }
-    requires room { HasRoom node.place.base
+    requires room { HasExpressionRoom node.place.base
         (App 0 (expr_view callee.now) (row_of arguments.now) written 0) }
-    requires callee_typed { IsAnnotated (names_in scope.old) callee.now }
-    requires typed { AreAnnotated (names_in scope.old) arguments.now }
-    requires ty { (at result_at : ℕ) → node.ty ≡ type_of (names_in scope.old) (App at (expr_view
+    requires callee_typed { IsAnnotated (scoped_names scope.old) callee.now }
+    requires typed { AreAnnotated (scoped_names scope.old) arguments.now }
+    requires ty { (at result_at : ℕ) → node.ty ≡ type_of (scoped_names scope.old) (App at (expr_view
         callee.now) (row_of arguments.now) written result_at) }
     ensures code { OnOk result ((at result_at : ℕ) → code.new ≡ node_code scope.old node.place
         (App at (expr_view callee.now) (row_of arguments.now) written result_at) code.old) }
@@ -168,9 +168,9 @@ fn call_outside(
     arguments: &[Expr],
     args: &Regs,
 ) -> Result<(), AllocError>
-    requires { AreAnnotated (names_in scope.now) arguments.now }
-    ensures { OnOk result (code.new ≡ emit.external outside.entry.name.now (comps_of_arguments
-        (names_in scope.now) (row_of arguments.now)) outside.entry.result outside.entry.frame
+    requires { AreAnnotated (scoped_names scope.now) arguments.now }
+    ensures { OnOk result (code.new ≡ emit.external_instruction outside.entry.name.now (comps_of_arguments
+        (scoped_names scope.now) (row_of arguments.now)) outside.entry.result outside.entry.frame
         args.now (result_seat given outside.entry.result) ∷ code.old) }
 {
     let comps = comps_of_arguments(scope, arguments)?;
@@ -193,12 +193,12 @@ fn put_external(
     numbers: CallNumbers,
     arguments: &[Expr],
 ) -> Result<(), AllocError>
-    requires typed { AreAnnotated (names_in scope.now) arguments.now }
+    requires typed { AreAnnotated (scoped_names scope.now) arguments.now }
     requires row { numbers.row + length arguments.now < most_numbers }
     requires seats { numbers.seated + length arguments.now < most_numbers }
     ensures { OnOk result (code.new ≡ seated_code scope.now numbers (row_of arguments.now)
-        (λ args. emit.external outside.entry.name.now (comps_of_arguments
-        (names_in scope.now) (row_of arguments.now)) outside.entry.result outside.entry.frame
+        (λ args. emit.external_instruction outside.entry.name.now (comps_of_arguments
+        (scoped_names scope.now) (row_of arguments.now)) outside.entry.result outside.entry.frame
         args (result_seat numbers.given outside.entry.result) ∷ code.old)) }
 {
     let regs = regs_of(scope, numbers.row, arguments)?;
@@ -218,13 +218,13 @@ pub fn extcall<F: Fn(&mut Scope, &mut Backwards, Place, &Expr) -> Result<(), All
     arguments: &[Expr],
 ) -> Result<(), AllocError>
     requires callable { MayCall (F.pre below.now.select.now) below.now.first }
-    requires selects { Selects (F.post below.now.select.now) below.now.first }
+    requires selects { SelectsExpression (F.post below.now.select.now) below.now.first }
     requires tries { most_tries scope.old.labels ≤ node.place.base }
     requires begins { below.now.first ≡ node.place.base + 1 }
-    requires room { HasRoom node.place.base (Extcall 0 outside.frame outside.name.now
+    requires room { HasExpressionRoom node.place.base (Extcall 0 outside.frame outside.name.now
         (row_of arguments.now) outside.result 0) }
-    requires typed { AreAnnotated (names_in scope.old) arguments.now }
-    requires ty { (at result_at : ℕ) → node.ty ≡ type_of (names_in scope.old) (Extcall at
+    requires typed { AreAnnotated (scoped_names scope.old) arguments.now }
+    requires ty { (at result_at : ℕ) → node.ty ≡ type_of (scoped_names scope.old) (Extcall at
         outside.frame outside.name.now (row_of arguments.now)
         outside.result result_at) }
     ensures code { OnOk result ((at result_at : ℕ) → code.new ≡ node_code scope.old node.place
@@ -249,9 +249,9 @@ fn put_exit(
     row: u32,
     arguments: &[Expr],
 ) -> Result<(), AllocError>
-    requires typed { AreAnnotated (names_in scope.now) arguments.now }
+    requires typed { AreAnnotated (scoped_names scope.now) arguments.now }
     requires room { row + length arguments.now < most_numbers }
-    ensures { OnOk result (code.new ≡ exit_to (label_of scope.now.labels (label_view label.now))
+    ensures { OnOk result (code.new ≡ exit_to_handler (visible_label scope.now.labels (label_view label.now))
         (regs_of scope.now.names row (row_of arguments.now)) code.old) }
 {
     let regs = regs_of(scope, row, arguments)?;
@@ -269,13 +269,13 @@ pub fn exit<F: Fn(&mut Scope, &mut Backwards, Place, &Expr) -> Result<(), AllocE
     arguments: &[Expr],
 ) -> Result<(), AllocError>
     requires callable { MayCall (F.pre below.now.select.now) below.now.first }
-    requires selects { Selects (F.post below.now.select.now) below.now.first }
+    requires selects { SelectsExpression (F.post below.now.select.now) below.now.first }
     requires tries { most_tries scope.old.labels ≤ node.place.base }
     requires begins { below.now.first ≡ node.place.base + 1 }
-    requires room { HasRoom node.place.base
+    requires room { HasExpressionRoom node.place.base
         (Exit 0 0 (label_view label.now) (row_of arguments.now)) }
-    requires typed { AreAnnotated (names_in scope.old) arguments.now }
-    requires ty { (at label_at : ℕ) → node.ty ≡ type_of (names_in scope.old) (Exit at label_at
+    requires typed { AreAnnotated (scoped_names scope.old) arguments.now }
+    requires ty { (at label_at : ℕ) → node.ty ≡ type_of (scoped_names scope.old) (Exit at label_at
         (label_view label.now) (row_of arguments.now)) }
     ensures code { OnOk result ((at label_at : ℕ) → code.new ≡ node_code scope.old node.place
         (Exit at label_at (label_view label.now) (row_of arguments.now)) code.old) }
@@ -297,12 +297,12 @@ pub fn raise<F: Fn(&mut Scope, &mut Backwards, Place, &Expr) -> Result<(), Alloc
     value: &Expr,
 ) -> Result<(), AllocError>
     requires callable { MayCall (F.pre below.now.select.now) below.now.first }
-    requires selects { Selects (F.post below.now.select.now) below.now.first }
+    requires selects { SelectsExpression (F.post below.now.select.now) below.now.first }
     requires tries { most_tries scope.old.labels ≤ node.place.base }
     requires begins { below.now.first ≡ node.place.base + 1 }
-    requires room { HasRoom node.place.base (Raise 0 (expr_view value.now)) }
-    requires typed { IsAnnotated (names_in scope.old) value.now }
-    requires ty { (at : ℕ) → node.ty ≡ type_of (names_in scope.old) (Raise at (expr_view
+    requires room { HasExpressionRoom node.place.base (Raise 0 (expr_view value.now)) }
+    requires typed { IsAnnotated (scoped_names scope.old) value.now }
+    requires ty { (at : ℕ) → node.ty ≡ type_of (scoped_names scope.old) (Raise at (expr_view
         value.now)) }
     ensures code { OnOk result ((at : ℕ) → code.new ≡ node_code scope.old node.place
         (Raise at (expr_view value.now)) code.old) }

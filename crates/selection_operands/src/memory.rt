@@ -7,9 +7,9 @@ ghost use Rattle.cmm_types.specs.Annotated.{IsAnnotated};
 ghost use Rattle.cmm_types.specs.Lists.{AreAnnotated};
 ghost use Rattle.cmm_types.specs.Types.{Scoped, type_of};
 ghost use Rattle.selection_rules.specs.Select.{base_of, offset_of, chunk_for, cell_stores, regs_of};
-ghost use Rattle.selection_operands.specs.Below.{node_code, MayCall, Selects};
-ghost use Rattle.selection_scope.specs.Room.{HasRoom, most_numbers, most_tries};
-ghost use Rattle.selection_scope.specs.Scoping.{names_in};
+ghost use Rattle.selection_operands.specs.Below.{node_code, MayCall, SelectsExpression};
+ghost use Rattle.selection_scope.specs.Room.{HasExpressionRoom, most_numbers, most_tries};
+ghost use Rattle.selection_scope.specs.Scoping.{scoped_names};
 
 use crate::operands::{Below, Operand, both, filled, one, waiting};
 use bs_words::{Chunk, Ty};
@@ -74,12 +74,12 @@ pub fn load<F: Fn(&mut Scope, &mut Backwards, Place, &Expr) -> Result<(), AllocE
     address: &Expr,
 ) -> Result<(), AllocError>
     requires callable { MayCall (F.pre below.now.select.now) below.now.first }
-    requires selects { Selects (F.post below.now.select.now) below.now.first }
+    requires selects { SelectsExpression (F.post below.now.select.now) below.now.first }
     requires tries { most_tries scope.old.labels ≤ node.place.base }
     requires begins { below.now.first ≡ node.place.base + 1 }
-    requires room { HasRoom node.place.base (Load 0 chunk (expr_view address.now)) }
-    requires typed { IsAnnotated (names_in scope.old) address.now }
-    requires ty { (at : ℕ) → node.ty ≡ type_of (names_in scope.old) (Load at chunk (expr_view
+    requires room { HasExpressionRoom node.place.base (Load 0 chunk (expr_view address.now)) }
+    requires typed { IsAnnotated (scoped_names scope.old) address.now }
+    requires ty { (at : ℕ) → node.ty ≡ type_of (scoped_names scope.old) (Load at chunk (expr_view
         address.now)) }
     ensures code { OnOk result ((at : ℕ) → code.new ≡ node_code scope.old node.place
         (Load at chunk (expr_view address.now)) code.old) }
@@ -103,14 +103,14 @@ pub fn store<F: Fn(&mut Scope, &mut Backwards, Place, &Expr) -> Result<(), Alloc
     value: &Expr,
 ) -> Result<(), AllocError>
     requires callable { MayCall (F.pre below.now.select.now) below.now.first }
-    requires selects { Selects (F.post below.now.select.now) below.now.first }
+    requires selects { SelectsExpression (F.post below.now.select.now) below.now.first }
     requires tries { most_tries scope.old.labels ≤ node.place.base }
     requires begins { below.now.first ≡ node.place.base + 1 }
-    requires room { HasRoom node.place.base
+    requires room { HasExpressionRoom node.place.base
         (Store 0 chunk (expr_view address.now) (expr_view value.now)) }
-    requires address_typed { IsAnnotated (names_in scope.old) address.now }
-    requires value_typed { IsAnnotated (names_in scope.old) value.now }
-    requires ty { (at : ℕ) → node.ty ≡ type_of (names_in scope.old) (Store at chunk (expr_view
+    requires address_typed { IsAnnotated (scoped_names scope.old) address.now }
+    requires value_typed { IsAnnotated (scoped_names scope.old) value.now }
+    requires ty { (at : ℕ) → node.ty ≡ type_of (scoped_names scope.old) (Store at chunk (expr_view
         address.now) (expr_view value.now)) }
     ensures code { OnOk result ((at : ℕ) → code.new ≡ node_code scope.old node.place
         (Store at chunk (expr_view address.now) (expr_view value.now)) code.old) }
@@ -146,14 +146,14 @@ pub fn checkbound<F: Fn(&mut Scope, &mut Backwards, Place, &Expr) -> Result<(), 
     index: &Expr,
 ) -> Result<(), AllocError>
     requires callable { MayCall (F.pre below.now.select.now) below.now.first }
-    requires selects { Selects (F.post below.now.select.now) below.now.first }
+    requires selects { SelectsExpression (F.post below.now.select.now) below.now.first }
     requires tries { most_tries scope.old.labels ≤ node.place.base }
     requires begins { below.now.first ≡ node.place.base + 1 }
-    requires room { HasRoom node.place.base
+    requires room { HasExpressionRoom node.place.base
         (Checkbound 0 (expr_view bound.now) (expr_view index.now)) }
-    requires bound_typed { IsAnnotated (names_in scope.old) bound.now }
-    requires index_typed { IsAnnotated (names_in scope.old) index.now }
-    requires ty { (at : ℕ) → node.ty ≡ type_of (names_in scope.old) (Checkbound at (expr_view
+    requires bound_typed { IsAnnotated (scoped_names scope.old) bound.now }
+    requires index_typed { IsAnnotated (scoped_names scope.old) index.now }
+    requires ty { (at : ℕ) → node.ty ≡ type_of (scoped_names scope.old) (Checkbound at (expr_view
         bound.now) (expr_view index.now)) }
     ensures code { OnOk result ((at : ℕ) → code.new ≡ node_code scope.old node.place
         (Checkbound at (expr_view bound.now) (expr_view index.now)) code.old) }
@@ -199,7 +199,7 @@ fn put_cells(
     row: u32,
     operands: &[Expr],
 ) -> Result<(), AllocError>
-    requires typed { AreAnnotated (names_in scope.now) operands.now }
+    requires typed { AreAnnotated (scoped_names scope.now) operands.now }
     requires room { row + length operands.now < most_numbers }
     ensures { OnOk result (code.new ≡ cell_stores (chunk_for (nat_le (header % 256) 250)) block 0
         (regs_of scope.now.names row (row_of operands.now)) code.old) }
@@ -220,12 +220,12 @@ pub fn alloc<F: Fn(&mut Scope, &mut Backwards, Place, &Expr) -> Result<(), Alloc
     operands: &[Expr],
 ) -> Result<(), AllocError>
     requires callable { MayCall (F.pre below.now.select.now) below.now.first }
-    requires selects { Selects (F.post below.now.select.now) below.now.first }
+    requires selects { SelectsExpression (F.post below.now.select.now) below.now.first }
     requires tries { most_tries scope.old.labels ≤ node.place.base }
     requires begins { below.now.first ≡ node.place.base + 1 }
-    requires room { HasRoom node.place.base (Alloc 0 0 header (row_of operands.now)) }
-    requires typed { AreAnnotated (names_in scope.old) operands.now }
-    requires ty { (at header_at : ℕ) → node.ty ≡ type_of (names_in scope.old) (Alloc at header_at
+    requires room { HasExpressionRoom node.place.base (Alloc 0 0 header (row_of operands.now)) }
+    requires typed { AreAnnotated (scoped_names scope.old) operands.now }
+    requires ty { (at header_at : ℕ) → node.ty ≡ type_of (scoped_names scope.old) (Alloc at header_at
         header (row_of operands.now)) }
     ensures code { OnOk result ((at header_at : ℕ) → code.new ≡ node_code scope.old node.place
         (Alloc at header_at header (row_of operands.now)) code.old) }

@@ -5,10 +5,10 @@ ghost use Rattle.cmm_tree.specs.View.{expr_view};
 ghost use Rattle.cmm_types.specs.Annotated.{IsAnnotated};
 ghost use Rattle.cmm_types.specs.Lists.{AreAnnotated};
 ghost use Rattle.selection_rules.specs.Select.{ordered, select_waiting, select_filled, width_row};
-ghost use Rattle.selection_operands.specs.Below.{code_at, MayCall, Selects};
+ghost use Rattle.selection_operands.specs.Below.{selected_code, MayCall, SelectsExpression};
 ghost use Rattle.selection_operands.specs.Operands.{operand_code};
-ghost use Rattle.selection_scope.specs.Room.{HasRoom, indexes_in_row, most_numbers, most_tries};
-ghost use Rattle.selection_scope.specs.Scoping.{names_in};
+ghost use Rattle.selection_scope.specs.Room.{HasExpressionRoom, indexes_in_row, most_numbers, most_tries};
+ghost use Rattle.selection_scope.specs.Scoping.{scoped_names};
 
 use cmm_tree::Expr;
 use mach_ir::Reg;
@@ -51,12 +51,12 @@ pub fn one<F: Fn(&mut Scope, &mut Backwards, Place, &Expr) -> Result<(), AllocEr
     expr: &Expr,
 ) -> Result<(), AllocError>
     requires callable { MayCall (F.pre below.now.select.now) below.now.first }
-    requires selects { Selects (F.post below.now.select.now) below.now.first }
+    requires selects { SelectsExpression (F.post below.now.select.now) below.now.first }
     requires tries { most_tries scope.old.labels ≤ below.now.first }
     requires begins { below.now.first ≤ place.base }
-    requires room { HasRoom place.base (expr_view expr.now) }
-    requires typed { IsAnnotated (names_in scope.old) expr.now }
-    ensures code { OnOk result (code.new ≡ code_at scope.old place expr.now code.old) }
+    requires room { HasExpressionRoom place.base (expr_view expr.now) }
+    requires typed { IsAnnotated (scoped_names scope.old) expr.now }
+    ensures code { OnOk result (code.new ≡ selected_code scope.old place expr.now code.old) }
     ensures scope { OnOk result (scope.new ≡ scope.old) }
 {
     (below.select)(scope, code, place, expr)
@@ -70,11 +70,11 @@ pub fn put_operand<F: Fn(&mut Scope, &mut Backwards, Place, &Expr) -> Result<(),
     operand: &Operand<'_>,
 ) -> Result<(), AllocError>
     requires callable { MayCall (F.pre below.now.select.now) below.now.first }
-    requires selects { Selects (F.post below.now.select.now) below.now.first }
+    requires selects { SelectsExpression (F.post below.now.select.now) below.now.first }
     requires tries { most_tries scope.old.labels ≤ below.now.first }
     requires begins { below.now.first ≤ operand.now.base }
-    requires room { HasRoom operand.now.base (expr_view operand.now.expr.now) }
-    requires typed { IsAnnotated (names_in scope.old) operand.now.expr.now }
+    requires room { HasExpressionRoom operand.now.base (expr_view operand.now.expr.now) }
+    requires typed { IsAnnotated (scoped_names scope.old) operand.now.expr.now }
     ensures code { OnOk result (code.new ≡ operand_code scope.old operand.now code.old) }
     ensures scope { OnOk result (scope.new ≡ scope.old) }
 {
@@ -95,14 +95,14 @@ pub fn both<F: Fn(&mut Scope, &mut Backwards, Place, &Expr) -> Result<(), AllocE
     right: &Operand<'_>,
 ) -> Result<(), AllocError>
     requires callable { MayCall (F.pre below.now.select.now) below.now.first }
-    requires selects { Selects (F.post below.now.select.now) below.now.first }
+    requires selects { SelectsExpression (F.post below.now.select.now) below.now.first }
     requires tries { most_tries scope.old.labels ≤ below.now.first }
     requires left_begins { below.now.first ≤ left.now.base }
     requires right_begins { below.now.first ≤ right.now.base }
-    requires left_room { HasRoom left.now.base (expr_view left.now.expr.now) }
-    requires right_room { HasRoom right.now.base (expr_view right.now.expr.now) }
-    requires left_typed { IsAnnotated (names_in scope.old) left.now.expr.now }
-    requires right_typed { IsAnnotated (names_in scope.old) right.now.expr.now }
+    requires left_room { HasExpressionRoom left.now.base (expr_view left.now.expr.now) }
+    requires right_room { HasExpressionRoom right.now.base (expr_view right.now.expr.now) }
+    requires left_typed { IsAnnotated (scoped_names scope.old) left.now.expr.now }
+    requires right_typed { IsAnnotated (scoped_names scope.old) right.now.expr.now }
     ensures code { OnOk result (code.new ≡ ordered left_first
         (operand_code scope.old left.now) (operand_code scope.old right.now) code.old) }
     ensures scope { OnOk result (scope.new ≡ scope.old) }
@@ -127,13 +127,13 @@ pub fn waiting<F: Fn(&mut Scope, &mut Backwards, Place, &Expr) -> Result<(), All
     exprs: &[Expr],
 ) -> Result<(), AllocError>
     requires callable { MayCall (F.pre below.now.select.now) below.now.first }
-    requires selects { Selects (F.post below.now.select.now) below.now.first }
+    requires selects { SelectsExpression (F.post below.now.select.now) below.now.first }
     requires tries { most_tries scope.old.labels ≤ below.now.first }
     requires begins { below.now.first ≤ first }
     requires numbers { number + length exprs.now < most_numbers }
     requires room { first + (width_row (row_of exprs.now) + indexes_in_row (row_of exprs.now))
         < most_numbers + length exprs.now }
-    requires typed { AreAnnotated (names_in scope.old) exprs.now }
+    requires typed { AreAnnotated (scoped_names scope.old) exprs.now }
     ensures code { OnOk result (code.new ≡ select_waiting scope.old.names scope.old.labels
         number first (row_of exprs.now) code.old) }
     ensures scope { OnOk result (scope.new ≡ scope.old) }
@@ -167,13 +167,13 @@ pub fn filled<F: Fn(&mut Scope, &mut Backwards, Place, &Expr) -> Result<(), Allo
     exprs: &[Expr],
 ) -> Result<(), AllocError>
     requires callable { MayCall (F.pre below.now.select.now) below.now.first }
-    requires selects { Selects (F.post below.now.select.now) below.now.first }
+    requires selects { SelectsExpression (F.post below.now.select.now) below.now.first }
     requires tries { most_tries scope.old.labels ≤ below.now.first }
     requires begins { below.now.first ≤ first }
     requires numbers { number + length exprs.now < most_numbers }
     requires room { first + (width_row (row_of exprs.now) + indexes_in_row (row_of exprs.now))
         < most_numbers + length exprs.now }
-    requires typed { AreAnnotated (names_in scope.old) exprs.now }
+    requires typed { AreAnnotated (scoped_names scope.old) exprs.now }
     ensures code { OnOk result (code.new ≡ select_filled scope.old.names scope.old.labels
         number first (row_of exprs.now) code.old) }
     ensures scope { OnOk result (scope.new ≡ scope.old) }

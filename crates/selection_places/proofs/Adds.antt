@@ -7,7 +7,7 @@ use Rattle.mach_ir.specs.declared.mach.Instr.{Instr}
 use Rattle.mach_ir.specs.declared.mach.Test.{Test}
 use Rattle.mach_ir.specs.declared.op.Right.{Right}
 use Rattle.mach_ir.specs.declared.op.Right.TheVariants as right
-use Rattle.selection_rules.specs.Select.{Code, Shape, InRegisters, ConstantRight, ConstantLeft, PowerRight, unless_left, unless_right, ordered, only_when, unless_symbol, unless_constant, tested, Named, scopes}
+use Rattle.selection_rules.specs.Select.{Code, OperandShape, InRegisters, ConstantRight, ConstantLeft, PowerRight, unless_left, unless_right, ordered, only_when, unless_symbol, unless_constant, fused_test, NamedRegister, scopes}
 
 -- ---- operands in two parts
 
@@ -25,15 +25,15 @@ module _ (f : Expression → ℕ) where
   sum_of (More e rest) = f e + sum_of rest
 
   -- of the operands that do not wait, and of those that do
-  abbrev pub now_of : List Named → Expressions → ℕ
+  abbrev pub now_of : List NamedRegister → Expressions → ℕ
   now_of env NoMore = 0
   now_of env (More e rest) = part (not (is_light_address (scopes env) e)) (f e) + now_of env rest
 
-  abbrev pub later_of : List Named → Expressions → ℕ
+  abbrev pub later_of : List NamedRegister → Expressions → ℕ
   later_of env NoMore = 0
   later_of env (More e rest) = part (is_light_address (scopes env) e) (f e) + later_of env rest
 
-  pub in_parts : (env : List Named) (es : Expressions) → now_of env es + later_of env es ≡ sum_of es
+  pub in_parts : (env : List NamedRegister) (es : Expressions) → now_of env es + later_of env es ≡ sum_of es
   in_parts env NoMore = refl
   in_parts env (More e rest) =
       let here = part_both (is_light_address (scopes env) e) (f e) in
@@ -82,20 +82,20 @@ module _ {size : List Instr → ℕ} where
   constant right.Register e = e
   constant (right.Constant w) e = no_more
 
-  pub left : {code : Code} {n : ℕ} (s : Shape) → Adds size n code → Adds size n (unless_left s code)
+  pub left : {code : Code} {n : ℕ} (s : OperandShape) → Adds size n code → Adds size n (unless_left s code)
   left InRegisters e = e
   left (ConstantRight i) e = e
   left (ConstantLeft i) e = no_more
   left (PowerRight k) e = e
 
-  pub right_of : {code : Code} {n : ℕ} (s : Shape) → Adds size n code → Adds size n (unless_right s code)
+  pub right_of : {code : Code} {n : ℕ} (s : OperandShape) → Adds size n code → Adds size n (unless_right s code)
   right_of InRegisters e = e
   right_of (ConstantRight i) e = no_more
   right_of (ConstantLeft i) e = e
   right_of (PowerRight k) e = no_more
 
   pub fused : {value : Code} {n : ℕ} (o : Option Test) (one : Test → Code) → ((t : Test) → Adds size n (one t)) → Adds size n value →
-      Adds size n (λ next. tested o (λ t. one t next) (value next))
+      Adds size n (λ next. fused_test o (λ t. one t next) (value next))
   fused (Some t) one f v = f t
   fused None one f v = v
 

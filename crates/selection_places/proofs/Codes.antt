@@ -19,7 +19,7 @@ use Rattle.mach_ir.specs.declared.op.Right.{Right}
 use Rattle.mach_ir.specs.declared.op.Right.TheVariants as right
 use Rattle.mach_ir.specs.declared.reg.Reg.{Reg}
 use Rattle.selection_rules.specs.Instructions.{right_regs}
-use Rattle.selection_rules.specs.Select.{Code, Shape, InRegisters, ConstantRight, ConstantLeft, PowerRight, shape_of, shape_op, shape_right, shape_args, unless_left, unless_right, power_code, operator_code, Named, Label, scopes, reg_of, label_of, move_from, move_to, moves_all, exit_to, ordered, only_when, seat, result_seat, from_seat, symbol_of, unless_symbol, right_of, unless_constant, bound_test, comparison, tested, select_test, is_based, base_of, select_base, call_of, callee_regs, inner_dest, inner_valued, regs_of, count_cases, width, width_bound, width_labels, bound_name, env_after, raised_name, select, select_waiting, select_filled, select_bound, select_seq, select_cases, select_handlers, deeper, unless_bare, in_handlers, labels_from, cell_stores, params_from, with_params, fresh, seats, returns}
+use Rattle.selection_rules.specs.Select.{Code, OperandShape, InRegisters, ConstantRight, ConstantLeft, PowerRight, operation_shape, shape_op, shape_right, shape_args, unless_left, unless_right, power_code, operator_code, NamedRegister, Label, scopes, reg_of, visible_label, move_from, move_to, moves_all, exit_to_handler, ordered, only_when, seat, result_seat, from_seat, called_symbol, unless_symbol, bound_test_operand, unless_constant, bound_test, comparison, fused_test, select_test, is_based, base_of, select_base, call_of, callee_regs, inner_dest, inner_valued, regs_of, count_cases, width, width_bound, width_labels, bound_name, env_after, raised_name, select, select_waiting, select_filled, select_bound, select_seq, select_cases, select_handlers, labels_within_try, unless_bare, in_handlers, labels_from, cell_stores, params_from, with_params, fresh_register, seats, return_code}
 use Rattle.cmm_tree.specs.Measures.{count_of}
 use Rattle.selection_rules.proofs.Choices.{kept_when, kept_unless, kept_constant, kept_left, kept_right, kept_ordered}
 use Rattle.selection_places.proofs.Sets.{Role, Plain, New, Seated, left, right as in_right, it, Listed}
@@ -39,9 +39,9 @@ module _ (Q : Role → Reg → Type 0) where
   abbrev pub Within : (Role → Reg → Type 0) → Type 0
   Within A = (t : Role) (r : Reg) → A t r → Q t r
 
-  pub data EnvFine : List Named → Type 0 where
+  pub data EnvFine : List NamedRegister → Type 0 where
     no_names : EnvFine []
-    named : {x : Named} {env : List Named} → Q Plain x.reg → EnvFine env → EnvFine (x ∷ env)
+    named : {x : NamedRegister} {env : List NamedRegister} → Q Plain x.reg → EnvFine env → EnvFine (x ∷ env)
 
   pub data LabelsFine : List Label → Type 0 where
     no_labels : LabelsFine []
@@ -57,19 +57,19 @@ module _ (Q : Role → Reg → Type 0) where
   wants_type type q = q
 
   -- the value of an expression; an exit has none
-  abbrev pub WantsOf : List Named → Expression → Reg → Type 0
+  abbrev pub WantsOf : List NamedRegister → Expression → Reg → Type 0
   WantsOf env (Exit at label_at label arguments) d = Unit {0}
   WantsOf env e d = Wants (type_of (scopes env) e) d
 
-  pub wants_any : (env : List Named) (e : Expression) {d : Reg} → Q Plain d → WantsOf env e d
+  pub wants_any : (env : List NamedRegister) (e : Expression) {d : Reg} → Q Plain d → WantsOf env e d
   wants_any env (Exit at label_at label arguments) q = tt
   wants_any env e q = wants_type (type_of (scopes env) e) q
 
-  kept_wants : (type : Ty) (b : ℕ) → Within (Listed Plain (kept type b)) → Wants type (fresh b type)
+  kept_wants : (type : Ty) (b : ℕ) → Within (Listed Plain (kept type b)) → Wants type (fresh_register b type)
   kept_wants ty.NoValue b own = tt
   kept_wants type b own = own Plain _ (left (it refl refl))
 
-  kept_of_wants : (env : List Named) (b : ℕ) (e : Expression) → Within (Listed Plain (kept_of env b e)) → WantsOf env e (fresh b (type_of (scopes env) e))
+  kept_of_wants : (env : List NamedRegister) (b : ℕ) (e : Expression) → Within (Listed Plain (kept_of env b e)) → WantsOf env e (fresh_register b (type_of (scopes env) e))
   kept_of_wants env b (Exit at label_at label arguments) own = tt
   kept_of_wants env b e own = kept_wants (type_of (scopes env) e) b own
 
@@ -93,7 +93,7 @@ module _ (Q : Role → Reg → Type 0) where
     no_reg : RegFine None
     a_reg : {r : Reg} → Q Plain r → RegFine (Some r)
 
-  reg_fine : {env : List Named} → EnvFine env → (x : List ℕ) → RegFine (reg_of env x)
+  reg_fine : {env : List NamedRegister} → EnvFine env → (x : List ℕ) → RegFine (reg_of env x)
   reg_fine no_names x = no_reg
   reg_fine (named {x = n} {env = env} q rest) x = by (bytes_eq n.scoped.name x) (reg_fine rest x)
     where
@@ -105,11 +105,11 @@ module _ (Q : Role → Reg → Type 0) where
     no_label : LabelFine None
     a_label : {t : Label} → Each (Q Plain) t.params → LabelFine (Some t)
 
-  label_fine : {labels : List Label} → LabelsFine labels → (l : LabelTree) → LabelFine (label_of labels l)
+  label_fine : {labels : List Label} → LabelsFine labels → (l : LabelTree) → LabelFine (visible_label labels l)
   label_fine no_labels l = no_label
   label_fine (labelled {t = t} {labels = labels} q rest) l = by (same_label l t.label) (label_fine rest l)
     where
-      by : (b : Bool) → LabelFine (label_of labels l) → LabelFine (cond b (Some t) (label_of labels l))
+      by : (b : Bool) → LabelFine (visible_label labels l) → LabelFine (cond b (Some t) (visible_label labels l))
       by true others = a_label q
       by false others = others
 
@@ -117,7 +117,7 @@ module _ (Q : Role → Reg → Type 0) where
   labels_append no_labels y = y
   labels_append (labelled x xs) y = labelled x (labels_append xs y)
 
-  labels_deeper : {labels : List Label} → LabelsFine labels → LabelsFine (deeper labels)
+  labels_deeper : {labels : List Label} → LabelsFine labels → LabelsFine (labels_within_try labels)
   labels_deeper no_labels = no_labels
   labels_deeper (labelled x xs) = labelled x (labels_deeper xs)
 
@@ -134,12 +134,12 @@ module _ (Q : Role → Reg → Type 0) where
   labels_own b (Handle at label params body rest) own =
       labelled (listed Plain (params_from (suc b) params) (λ t r i. own t r (left i))) (labels_own (suc b + length params) rest (λ t r i. own t r (in_right i)))
 
-  pub params_env : (env : List Named) (params : List Parameter) (rs : List Reg) → Each (Q Plain) rs → EnvFine env → EnvFine (with_params params rs env)
+  pub params_env : (env : List NamedRegister) (params : List Parameter) (rs : List Reg) → Each (Q Plain) rs → EnvFine env → EnvFine (with_params params rs env)
   params_env env [] rs q fine = fine
   params_env env (p ∷ params) [] q fine = fine
   params_env env (p ∷ params) (r ∷ rs) (one q qs) fine = params_env _ params rs qs (named q fine)
 
-  bound_env : (env : List Named) (b : ℕ) (bs : Bindings) → Within (BoundOwn env b bs) → EnvFine env → EnvFine (env_after env b bs)
+  bound_env : (env : List NamedRegister) (b : ℕ) (bs : Bindings) → Within (BoundOwn env b bs) → EnvFine env → EnvFine (env_after env b bs)
   bound_env env b NoBinding own fine = fine
   bound_env env b (Bind at name declared e rest) own fine =
       bound_env (bound_name env b name declared e ∷ env) (suc (b + width e)) rest (λ t r i. own t r (in_right (in_right i)))
@@ -160,7 +160,7 @@ module _ (Q : Role → Reg → Type 0) where
   codes_moves (one a as') none P next z = z
   codes_moves (one a as') (one d ds) P next z = codes_moves as' ds P _ (plain (a_plain a) (one d none) refl z)
 
-  codes_exit : {o : Option Label} {from : List Reg} → LabelFine o → Each (Q Plain) from → Codes (exit_to o from)
+  codes_exit : {o : Option Label} {from : List Reg} → LabelFine o → Each (Q Plain) from → Codes (exit_to_handler o from)
   codes_exit no_label from P next z = z
   codes_exit (a_label to) from P next z = codes_moves from to P _ (plain none none refl z)
 
@@ -179,20 +179,20 @@ module _ (Q : Role → Reg → Type 0) where
   codes_constant r code e = kept_constant Codes (λ P next z. z) {x = code} r e
 
   codes_tested : {P : List Reg} (o : Option Test) (fused : Test → List Instr) (value : List Instr) → ((t : Test) → Coded Q [] P (fused t)) →
-      Coded Q [] P value → Coded Q [] P (tested o fused value)
+      Coded Q [] P value → Coded Q [] P (fused_test o fused value)
   codes_tested (Some t) fused value f v = f t
   codes_tested None fused value f v = v
 
-  codes_left : (s : Shape) (code : Code) → Codes code → Codes (unless_left s code)
+  codes_left : (s : OperandShape) (code : Code) → Codes code → Codes (unless_left s code)
   codes_left s code e = kept_left Codes (λ P next z. z) {x = code} s e
 
-  codes_right : (s : Shape) (code : Code) → Codes code → Codes (unless_right s code)
+  codes_right : (s : OperandShape) (code : Code) → Codes code → Codes (unless_right s code)
   codes_right s code e = kept_right Codes (λ P next z. z) {x = code} s e
 
   codes_unless : (o : Option (List ℕ)) (code : Code) → Codes code → Codes (unless_symbol o code)
   codes_unless o code e = kept_unless Codes (λ P next z. z) {x = code} o e
 
-  shape_plain : {P : List Reg} {x y : Reg} (s : Shape) → Q Plain x → Q Plain y → Each (Reads Q P) (shape_args s x y)
+  shape_plain : {P : List Reg} {x y : Reg} (s : OperandShape) → Q Plain x → Q Plain y → Each (Reads Q P) (shape_args s x y)
   shape_plain InRegisters x y = two_plain x y
   shape_plain (ConstantRight i) x y = a_plain x
   shape_plain (ConstantLeft i) x y = a_plain y
@@ -206,7 +206,7 @@ module _ (Q : Role → Reg → Type 0) where
       plain (a_plain x) (one y none) refl (plain (a_plain y) (one y none) refl (plain (two_plain x y) (one y none) refl
       (plain (a_plain y) (one y none) refl (plain (a_plain y) (one y none) refl (plain (two_plain x y) (one d none) refl z)))))
 
-  codes_operator : (s : Shape) (f : IntOp) {x y d : Reg} → Q Plain x → Q Plain y → Q Plain d → Codes (operator_code s f x y d)
+  codes_operator : (s : OperandShape) (f : IntOp) {x y d : Reg} → Q Plain x → Q Plain y → Q Plain d → Codes (operator_code s f x y d)
   codes_operator (PowerRight k) f x y d P next z = codes_power f k x y d P next z
   codes_operator InRegisters f x y d P next z = plain (two_plain x y) (one d none) refl z
   codes_operator (ConstantRight i) f x y d P next z = plain (a_plain x) (one d none) refl z
@@ -258,7 +258,7 @@ module _ (Q : Role → Reg → Type 0) where
       (codes_given n result g d P next z)
 
   mutual
-    pub codes_select : (env : List Named) (labels : List Label) (valued tail : Bool) (d : Reg) (b : ℕ) (e : Expression) → Within (Own env b e) →
+    pub codes_select : (env : List NamedRegister) (labels : List Label) (valued tail : Bool) (d : Reg) (b : ℕ) (e : Expression) → Within (Own env b e) →
         EnvFine env → LabelsFine labels → WantsOf env e d → Codes (select env labels valued tail d b e)
     codes_select env labels valued tail d b (Integer at w) own names ls wants P next z = plain none
         (one (inner_plain (type_of (scopes env) (Integer at w)) b d own wants) none) refl z
@@ -283,7 +283,7 @@ module _ (Q : Role → Reg → Type 0) where
         codes_select env labels false false _ (suc (suc b)) e (λ t r i. own t r (in_right i)) names ls (wants_any env e t) P _
         (codes_to t (reg_fine names name) P next z)
     codes_select env labels valued tail d b (Operator at op e g) own names ls wants P next z =
-        let s = shape_of op e g in
+        let s = operation_shape op e g in
         let type = type_of (scopes env) (Operator at op e g) in
         let d' = inner_plain type b d (λ t r i. own t r (left i)) wants in
         let x = own Plain _ (in_right (left (it refl refl))) in
@@ -311,11 +311,11 @@ module _ (Q : Role → Reg → Type 0) where
         let operands : Within (RowOwn env (base + width callee) arguments) = λ t r i. own t r
         (in_right (in_right (in_right (in_right (in_right (in_right i)))))) in
         codes_waiting env labels row (base + width callee) arguments operands regs names ls P _
-        (codes_when (not light) _ (codes_unless (symbol_of callee) _ code) P _
+        (codes_when (not light) _ (codes_unless (called_symbol callee) _ code) P _
         (codes_filled env labels row (base + width callee) arguments operands regs names ls P _
         (codes_when light _ code P _
         (codes_seated 0 seated (regs_of env row arguments) (listed Plain (regs_of env row arguments) regs) places P _
-        (codes_call tail (inner_valued valued type) result (symbol_of callee) (seats 0 seated (regs_of env row arguments)) given f places gives d' P next z)))))
+        (codes_call tail (inner_valued valued type) result (called_symbol callee) (seats 0 seated (regs_of env row arguments)) given f places gives d' P next z)))))
     codes_select env labels valued tail d b (Extcall at frame name arguments result result_at) own names ls wants P next z =
         let type = type_of (scopes env) (Extcall at frame name arguments result result_at) in
         let row = suc b in
@@ -369,9 +369,9 @@ module _ (Q : Role → Reg → Type 0) where
         let d' = inner_plain type b d (λ t r i. own t r (left i)) wants in
         let row = suc (suc (suc b)) in
         let base = row + count_of operands in
-        let p : Reg = fresh (suc b) ty.Val in
-        let new : Q New (fresh (suc b) ty.Val) = own New _ (in_right (left (it refl refl))) in
-        let q = own Plain (fresh (suc (suc b)) ty.Int) (in_right (in_right (left (it refl refl)))) in
+        let p : Reg = fresh_register (suc b) ty.Val in
+        let new : Q New (fresh_register (suc b) ty.Val) = own New _ (in_right (left (it refl refl))) in
+        let q = own Plain (fresh_register (suc (suc b)) ty.Int) (in_right (in_right (left (it refl refl)))) in
         let regs : Within (Listed Plain (regs_of env row operands)) = λ t r i. own t r (in_right (in_right (in_right (left i)))) in
         let cells : Within (RowOwn env base operands) = λ t r i. own t r (in_right (in_right (in_right (in_right i)))) in
         let there : Reads Q (p ∷ P) p = reads_new new (coded.first refl) in
@@ -403,9 +403,9 @@ module _ (Q : Role → Reg → Type 0) where
         let y = own Plain _ (in_right (left (it refl refl))) in
         codes_ordered (is_left_first (scopes env) e g) _ _
         (codes_select env labels false false _ (suc (suc (suc b))) e (λ t r i. own t r (in_right (in_right (left i)))) names ls (wants_any env e x))
-        (codes_constant (right_of bound_test g) _ (codes_select env labels false false _ (suc (suc (suc b)) + width e) g
+        (codes_constant (bound_test_operand bound_test g) _ (codes_select env labels false false _ (suc (suc (suc b)) + width e) g
         (λ t r i. own t r (in_right (in_right (in_right i)))) names ls (wants_any env g y))) P _
-        (plain (right_plain (right_of bound_test g) x y) none refl z)
+        (plain (right_plain (bound_test_operand bound_test g) x y) none refl z)
     codes_select env labels valued tail d b (Raise at e) own names ls wants P next z =
         let x = own Plain _ (left (it refl refl)) in
         let y = own Seated (seat 0 (suc (suc b)) comp.Val) (in_right (left (it refl refl))) in
@@ -423,11 +423,11 @@ module _ (Q : Role → Reg → Type 0) where
     codes_select env labels valued tail d b (Try at body name_at name handler) own names ls wants P next z =
         let type = type_of (scopes env) (Try at body name_at name handler) in
         let d' = inner_plain type b d (λ t r i. own t r (left i)) wants in
-        let x = own Plain (fresh (suc (suc (suc b))) ty.Val) (in_right (left (it refl refl))) in
+        let x = own Plain (fresh_register (suc (suc (suc b))) ty.Val) (in_right (left (it refl refl))) in
         let y = own Seated (seat 0 (suc (suc (suc (suc b)))) comp.Val) (in_right (in_right (left (it refl refl)))) in
         let base = suc (suc (suc (suc (suc b)))) in
         plain none none refl
-        (codes_select env (deeper labels) (inner_valued valued type) false _ base body (λ t r i. own t r (in_right (in_right (in_right (left i))))) names
+        (codes_select env (labels_within_try labels) (inner_valued valued type) false _ base body (λ t r i. own t r (in_right (in_right (in_right (left i))))) names
         (labels_deeper ls) (wants_any env body d') P _
         (plain none none refl
         (handles y
@@ -436,28 +436,28 @@ module _ (Q : Role → Reg → Type 0) where
         (λ t r i. own t r (in_right (in_right (in_right (in_right i))))) (named x names) ls
         (wants_any (raised_name name (suc (suc (suc b))) ∷ env) handler d') P _ (plain none none refl z))))))
 
-    codes_base : (env : List Named) (labels : List Label) (t b : ℕ) (e : Expression) → Q Plain (fresh t (type_of (scopes env) (base_of e))) → Within
+    codes_base : (env : List NamedRegister) (labels : List Label) (t b : ℕ) (e : Expression) → Q Plain (fresh_register t (type_of (scopes env) (base_of e))) → Within
         (BaseOwn env b e (Own env b e)) → EnvFine env → LabelsFine labels →
-        (Within (Own env b e) → Q Plain (fresh t (type_of (scopes env) e)) → Codes (select env labels false false (fresh t (type_of (scopes env) e)) b e)) →
-        Codes (select_base env labels t b e (select env labels false false (fresh t (type_of (scopes env) e)) b e))
+        (Within (Own env b e) → Q Plain (fresh_register t (type_of (scopes env) e)) → Codes (select env labels false false (fresh_register t (type_of (scopes env) e)) b e)) →
+        Codes (select_base env labels t b e (select env labels false false (fresh_register t (type_of (scopes env) e)) b e))
     codes_base env labels t b (Operator at op base (Integer at' w)) q own names ls whole P next z =
         by (is_based op w) (λ own q. codes_select env labels false false _ b base own names ls (wants_any env base q)) q own
       where
-        by : (c : Bool) → (Within (Own env b base) → Q Plain (fresh t (type_of (scopes env) base)) → Codes
-            (select env labels false false (fresh t (type_of (scopes env) base)) b base)) → Q Plain
-            (fresh t (type_of (scopes env) (cond c base (Operator at op base (Integer at' w))))) → Within
+        by : (c : Bool) → (Within (Own env b base) → Q Plain (fresh_register t (type_of (scopes env) base)) → Codes
+            (select env labels false false (fresh_register t (type_of (scopes env) base)) b base)) → Q Plain
+            (fresh_register t (type_of (scopes env) (cond c base (Operator at op base (Integer at' w))))) → Within
             (Either c (Own env b base) (Own env b (Operator at op base (Integer at' w)))) →
-            Coded Q [] P (cond c (select env labels false false (fresh t (type_of (scopes env) base)) b base next)
-            (select env labels false false (fresh t (type_of (scopes env) (Operator at op base (Integer at' w)))) b
+            Coded Q [] P (cond c (select env labels false false (fresh_register t (type_of (scopes env) base)) b base next)
+            (select env labels false false (fresh_register t (type_of (scopes env) (Operator at op base (Integer at' w)))) b
             (Operator at op base (Integer at' w)) next))
         by true inner q own = inner own q P next z
         by false inner q own = whole own q P next z
     codes_base env labels t b e q own names ls whole P next z = whole own q P next z
 
-    codes_test : (env : List Named) (labels : List Label) (l b : ℕ) (e : Expression) → Within (Own env b e) → EnvFine env → LabelsFine labels →
+    codes_test : (env : List NamedRegister) (labels : List Label) (l b : ℕ) (e : Expression) → Within (Own env b e) → EnvFine env → LabelsFine labels →
         (P : List Reg) (value next : List Instr) → Coded Q [] P value → Coded Q [] P next → Coded Q [] P (select_test env labels l b e value next)
     codes_test env labels l b (Operator at op e g) own names ls P value next v z =
-        let s = shape_of op e g in
+        let s = operation_shape op e g in
         let x = own Plain _ (in_right (left (it refl refl))) in
         let y = own Plain _ (in_right (in_right (left (it refl refl)))) in
         codes_tested (comparison (shape_op s op) (shape_right s)) _ value
@@ -470,7 +470,7 @@ module _ (Q : Role → Reg → Type 0) where
         v
     codes_test env labels l b e own names ls P value next v z = v
 
-    codes_cases : (env : List Named) (labels : List Label) (valued tail : Bool) (d : Reg) (all : List ℕ) (end l b : ℕ) (cs : Cases) → Within
+    codes_cases : (env : List NamedRegister) (labels : List Label) (valued tail : Bool) (d : Reg) (all : List ℕ) (end l b : ℕ) (cs : Cases) → Within
         (CasesOwn env b cs) → EnvFine env → LabelsFine labels → Q Plain d → Codes (select_cases env labels valued tail d all end l b cs)
     codes_cases env labels valued tail d all end l b NoCase own names ls q P next z = z
     codes_cases env labels valued tail d all end l b (Choose indexes body rest) own names ls q P next z =
@@ -478,7 +478,7 @@ module _ (Q : Role → Reg → Type 0) where
         (codes_select env labels valued tail d b body (λ t r i. own t r (left i)) names ls (wants_any env body q) P _
         (codes_cases env labels valued tail d all end (suc l) (b + width body) rest (λ t r i. own t r (in_right i)) names ls q P next z))
 
-    codes_waiting : (env : List Named) (labels : List Label) (b i : ℕ) (es : Expressions) → Within (RowOwn env i es) → Within
+    codes_waiting : (env : List NamedRegister) (labels : List Label) (b i : ℕ) (es : Expressions) → Within (RowOwn env i es) → Within
         (Listed Plain (regs_of env b es)) → EnvFine env → LabelsFine labels → Codes (select_waiting env labels b i es)
     codes_waiting env labels b i NoMore own regs names ls P next z = z
     codes_waiting env labels b i (More e rest) own regs names ls P next z =
@@ -486,7 +486,7 @@ module _ (Q : Role → Reg → Type 0) where
         (codes_when (not (is_light_address (scopes env) e)) _ (codes_select env labels false false _ i e (λ t r i. own t r (left i)) names ls
         (wants_any env e (regs Plain _ (left (it refl refl))))) P next z)
 
-    codes_filled : (env : List Named) (labels : List Label) (b i : ℕ) (es : Expressions) → Within (RowOwn env i es) → Within
+    codes_filled : (env : List NamedRegister) (labels : List Label) (b i : ℕ) (es : Expressions) → Within (RowOwn env i es) → Within
         (Listed Plain (regs_of env b es)) → EnvFine env → LabelsFine labels → Codes (select_filled env labels b i es)
     codes_filled env labels b i NoMore own regs names ls P next z = z
     codes_filled env labels b i (More e rest) own regs names ls P next z =
@@ -494,7 +494,7 @@ module _ (Q : Role → Reg → Type 0) where
         (codes_when (is_light_address (scopes env) e) _ (codes_select env labels false false _ i e (λ t r i. own t r (left i)) names ls
         (wants_any env e (regs Plain _ (left (it refl refl))))) P next z)
 
-    codes_bound : (env : List Named) (labels : List Label) (b : ℕ) (bs : Bindings) → Within (BoundOwn env b bs) → EnvFine env → LabelsFine labels → Codes
+    codes_bound : (env : List NamedRegister) (labels : List Label) (b : ℕ) (bs : Bindings) → Within (BoundOwn env b bs) → EnvFine env → LabelsFine labels → Codes
         (select_bound env labels b bs)
     codes_bound env labels b NoBinding own names ls P next z = z
     codes_bound env labels b (Bind at name declared e rest) own names ls P next z =
@@ -503,7 +503,7 @@ module _ (Q : Role → Reg → Type 0) where
         (codes_bound (bound_name env b name declared e ∷ env) labels (suc (b + width e)) rest (λ t r i. own t r (in_right (in_right i)))
         (named x names) ls P next z)
 
-    codes_seq : (env : List Named) (labels : List Label) (valued tail : Bool) (d : Reg) (b : ℕ) (es : Expressions) → Within (SeqOwn env b es) →
+    codes_seq : (env : List NamedRegister) (labels : List Label) (valued tail : Bool) (d : Reg) (b : ℕ) (es : Expressions) → Within (SeqOwn env b es) →
         EnvFine env → LabelsFine labels → Q Plain d → Codes (select_seq env labels valued tail d b es)
     codes_seq env labels valued tail d b NoMore own names ls q P next z = z
     codes_seq env labels valued tail d b (More e NoMore) own names ls q P next z =
@@ -512,7 +512,7 @@ module _ (Q : Role → Reg → Type 0) where
         codes_select env labels false false _ (suc b) e (λ t r i. own t r (in_right (left i))) names ls (kept_of_wants env b e (λ t r i. own t r (left i))) P _
         (codes_seq env labels valued tail d (suc (b + width e)) (More g rest) (λ t r i. own t r (in_right (in_right i))) names ls q P next z)
 
-    codes_handlers : (env : List Named) (labels : List Label) (valued tail : Bool) (d : Reg) (end l b : ℕ) (hs : Handlers) → Within
+    codes_handlers : (env : List NamedRegister) (labels : List Label) (valued tail : Bool) (d : Reg) (end l b : ℕ) (hs : Handlers) → Within
         (HandlersOwn env l b hs) → Within (LabelsOwn l hs) → EnvFine env → LabelsFine labels → Q Plain d →
         Codes (select_handlers env labels valued tail d end l b hs)
     codes_handlers env labels valued tail d end l b NoHandler own params names ls q P next z = z
@@ -534,6 +534,6 @@ module _ (Q : Role → Reg → Type 0) where
   codes_entry (x ∷ from) [] S P s q e next z = absurd (omega (arith, e))
   codes_entry (x ∷ from) (y ∷ to) S P (one s ss) (one q qs) e next z = codes_entry from to (x ∷ S) P ss qs (omega (arith, e)) _ (empties s q z)
 
-  pub codes_returns : (n : ℕ) (result : Ret) {d : Reg} → Q Plain d → Each (Q Seated) (result_seat n result) → Coded Q [] [] (returns d n result)
+  pub codes_returns : (n : ℕ) (result : Ret) {d : Reg} → Q Plain d → Each (Q Seated) (result_seat n result) → Coded Q [] [] (return_code d n result)
   codes_returns n ret.Unit q none = asks none (gives_none refl) refl ends
   codes_returns n (ret.Comp c) q (one s none) = fills (reads_plain q) s none (asks (one (reads_seat s (coded.first refl)) none) (gives_none refl) refl ends)

@@ -6,8 +6,8 @@ use Rattle.bs_words.specs.declared.types.Comp.TheVariants as comp
 use Rattle.cmm_tree.specs.Tree.{FunctionTree}
 use Rattle.cmm_types.proofs.Containing.{contains_none, contains_cases}
 use Rattle.mach_ir.specs.Meaning.{killed}
-use Rattle.mach_ir.specs.Placed.{colours, IsFresh, AllocatesFresh}
-use Rattle.mach_ir.specs.Walks.{Among, first, later, Writes, IsRegister, Stands, here, below}
+use Rattle.mach_ir.specs.Placed.{colour_numbers, IsFresh, AllocatesFresh}
+use Rattle.mach_ir.specs.Walks.{AmongRegisters, first, later, Writes, IsRegister, StandsAsInstr, here, below}
 use Rattle.mach_ir.specs.declared.blocks.NewBlock.{NewBlock}
 use Rattle.mach_ir.specs.declared.mach.Instr.{Instr}
 use Rattle.mach_ir.specs.declared.mach.MachOp.{MachOp}
@@ -29,17 +29,17 @@ use Rattle.selection_places.proofs.Whole.{Whole, whole_block, params_of, HasRole
 
 -- ---- one allocation for each register
 
-no_mark_at : {l : ℕ} {i : Instr} {next code : List Instr} → NoMark makes l code → Stands i next code → makes l i ≡ true → ⊥
+no_mark_at : {l : ℕ} {i : Instr} {next code : List Instr} → NoMark makes l code → StandsAsInstr i next code → makes l i ≡ true → ⊥
 no_mark_at numbers.none s e = elim s [ ]
 no_mark_at (numbers.one free n) here e = true≢false (sym e ∙ free)
 no_mark_at (numbers.one free n) (below s) e = no_mark_at n s e
 
-distinct_at : {l : ℕ} {i : Instr} {next code : List Instr} → Distinct makes code → Stands i next code → makes l i ≡ true → NoMark makes l next
+distinct_at : {l : ℕ} {i : Instr} {next code : List Instr} → Distinct makes code → StandsAsInstr i next code → makes l i ≡ true → NoMark makes l next
 distinct_at nil s e = elim s [ ]
 distinct_at {l} (cons apart d) here e = apart l e
 distinct_at (cons apart d) (below s) e = distinct_at d s e
 
-one_place : (l : ℕ) {i j : Instr} {next others code : List Instr} → Distinct makes code → Stands i next code → Stands j others code → makes l i ≡ true →
+one_place : (l : ℕ) {i j : Instr} {next others code : List Instr} → Distinct makes code → StandsAsInstr i next code → StandsAsInstr j others code → makes l i ≡ true →
     makes l j ≡ true → others ≡ next
 one_place l nil s t e g = elim s [ ]
 one_place l (cons apart d) here here e g = refl
@@ -64,7 +64,7 @@ heavy_alloc (mach.Mark f) e = refl
 data AllocOf (Q : Role → Reg → Type 0) : Instr → Type 0 where
   alloc_of : {block : NewBlock} {p : Reg} → Q New p → p.comp ≡ comp.Val → AllocOf Q (emit.alloc block p)
 
-alloc_at : {Q : Role → Reg → Type 0} {S P : List Reg} {code : List Instr} {i : Instr} {next : List Instr} → Coded Q S P code → Stands i next code →
+alloc_at : {Q : Role → Reg → Type 0} {S P : List Reg} {code : List Instr} {i : Instr} {next : List Instr} → Coded Q S P code → StandsAsInstr i next code →
     is_alloc i.op ≡ true → AllocOf Q i
 alloc_at ends s e = elim s [ ]
 alloc_at (plain a u n x) here e = absurd (true≢false (sym e ∙ n))
@@ -94,16 +94,16 @@ module _ (Q : Role → Reg → Type 0) (lo hi k : ℕ) (tells : Block Q lo hi k)
   no_seat q x e = true≢false (sym (not_role Seated q x e))
 
   -- none of these has its number
-  none_among : {rs : List Reg} → Each (λ q. q.number ≡ r.number → ⊥) rs → Among r.number rs → ⊥
+  none_among : {rs : List Reg} → Each (λ q. q.number ≡ r.number → ⊥) rs → AmongRegisters r.number rs → ⊥
   none_among each a = let f = found a in each_of each f.reg f.member f.same
 
-  gives_none_of : {i : Instr} {G : List Reg} → Gives Q i G → Among r.number i.results → ⊥
-  gives_none_of (gives_none e) a = elim (subst (λ rs. Among r.number rs) e a) [ ]
-  gives_none_of (gives_one {y = y} e u) a = none_among (one (no_seat y u) none) (subst (λ rs. Among r.number rs) e a)
+  gives_none_of : {i : Instr} {G : List Reg} → Gives Q i G → AmongRegisters r.number i.results → ⊥
+  gives_none_of (gives_none e) a = elim (subst (λ rs. AmongRegisters r.number rs) e a) [ ]
+  gives_none_of (gives_one {y = y} e u) a = none_among (one (no_seat y u) none) (subst (λ rs. AmongRegisters r.number rs) e a)
 
   -- what writes it allocates it
-  pub allocates : {S P : List Reg} {code : List Instr} {j : Instr} {others : List Instr} → Coded Q S P code → Stands j others code →
-      Among r.number j.results → makes r.number j ≡ true
+  pub allocates : {S P : List Reg} {code : List Instr} {j : Instr} {others : List Instr} → Coded Q S P code → StandsAsInstr j others code →
+      AmongRegisters r.number j.results → makes r.number j ≡ true
   allocates ends s a = elim s [ ]
   allocates (plain b u n x) here a = absurd (none_among (each_map no_plain u) a)
   allocates (plain b u n x) (below s) a = allocates x s a
@@ -123,9 +123,9 @@ module _ (Q : Role → Reg → Type 0) (lo hi k : ℕ) (tells : Block Q lo hi k)
   pub record Before (j : Instr) (rest code : List Instr) : Type 0 where
     pub instr : Instr
     pub next : List Instr
-    pub stands : Stands instr next code
+    pub stands : StandsAsInstr instr next code
     pub allocated : makes r.number instr ≡ true
-    pub further : Stands j rest next
+    pub further : StandsAsInstr j rest next
 
   one_more : {i j : Instr} {rest code : List Instr} {P : List Reg} → Member r P ⊎ Before j rest code → Member r P ⊎ Before j rest (i ∷ code)
   one_more (inl m) = inl m
@@ -139,11 +139,11 @@ module _ (Q : Role → Reg → Type 0) (lo hi k : ℕ) (tells : Block Q lo hi k)
   seat_of q (reads x) e = read_of q x e
   seat_of q (reads_seat x m) e = absurd (no_seat q x e)
 
-  read_among : {P rs : List Reg} → Each (λ q. q.number ≡ r.number → Member r P) rs → Among r.number rs → Member r P
+  read_among : {P rs : List Reg} → Each (λ q. q.number ≡ r.number → Member r P) rs → AmongRegisters r.number rs → Member r P
   read_among each a = let f = found a in each_of each f.reg f.member f.same
 
   -- where it is read it was allocated before
-  pub allocated : {S P : List Reg} {code : List Instr} {j : Instr} {rest : List Instr} → Coded Q S P code → Stands j rest code → Among r.number j.args →
+  pub allocated : {S P : List Reg} {code : List Instr} {j : Instr} {rest : List Instr} → Coded Q S P code → StandsAsInstr j rest code → AmongRegisters r.number j.args →
       Member r P ⊎ Before j rest code
   allocated ends s a = elim s [ ]
   allocated (plain b u n x) here a = inl (read_among (each_map read_of b) a)
@@ -171,11 +171,11 @@ module _ (Q : Role → Reg → Type 0) (lo hi k : ℕ) (tells : Block Q lo hi k)
       by (inl (coded.later m)) = inl m
       by (inr b) = one_more (inr b)
 
-stands_within : {i : Instr} {next : List Instr} (run : List Instr) → Stands i next (run ++ i ∷ next)
+stands_within : {i : Instr} {next : List Instr} (run : List Instr) → StandsAsInstr i next (run ++ i ∷ next)
 stands_within [] = here
 stands_within (x ∷ run) = below (stands_within run)
 
-stands_in : (run : List Instr) {i j : Instr} {next code : List Instr} → Stands j (run ++ i ∷ next) code → Stands i next code
+stands_in : (run : List Instr) {i j : Instr} {next code : List Instr} → StandsAsInstr j (run ++ i ∷ next) code → StandsAsInstr i next code
 stands_in run here = below (stands_within run)
 stands_in run (below s) = below (stands_in run s)
 
@@ -186,25 +186,25 @@ listed_seats : {Q : Role → Reg → Type 0} (rs : List Reg) → ((r : Reg) → 
 listed_seats [] own = none
 listed_seats (r ∷ rs) own = one (a_seat (own r (left (it refl refl)))) (listed_seats rs (λ q i. own q (in_right i)))
 
-module _ (f : FunctionTree) (i : Instr) (next : List Instr) (s : Stands i next (selected f).code) (p : Reg) (new : Whole f New p)
+module _ (f : FunctionTree) (i : Instr) (next : List Instr) (s : StandsAsInstr i next (selected f).code) (p : Reg) (new : Whole f New p)
     (made : makes p.number i ≡ true) where
   no_seated : (q : Reg) → HasSeat (Whole f) q → q.number ≡ p.number → ⊥
   no_seated q (a_seat u) e = no_seat (Whole f) _ _ _ (whole_block f) p new q u e
 
-  written_once : (j : Instr) (others : List Instr) → Stands j others (selected f).code → Writes (selected f) j p.number → others ≡ next
+  written_once : (j : Instr) (others : List Instr) → StandsAsInstr j others (selected f).code → Writes (selected f) j p.number → others ≡ next
   written_once j others t w =
       ⊎_elim (λ a. one_place p.number (selected_makes_once f) s t made (allocates (Whole f) _ _ _ (whole_block f) p new (selected_coded f) t a))
       (λ a. absurd (not_killed a))
       (among_cases j.results (killed (selected f) j) w)
     where
-      not_killed : Among p.number (killed (selected f) j) → ⊥
+      not_killed : AmongRegisters p.number (killed (selected f) j) → ⊥
       not_killed a =
           let g = found a in
           let c = killed_member (selected f).colours j g.member in
-          no_seated g.reg (each_of (listed_seats (colour_regs 0 colours) (λ r i. left i)) g.reg c) g.same
+          no_seated g.reg (each_of (listed_seats (colour_regs 0 colour_numbers) (λ r i. left i)) g.reg c) g.same
 
-  not_param : Among p.number (selected f).params → ⊥
-  not_param a = let g = found a in no_seated g.reg (each_of (listed_seats (seats 0 rules.first (params_of f)) (λ r i. in_right (left i))) g.reg g.member) g.same
+  not_param : AmongRegisters p.number (selected f).params → ⊥
+  not_param a = let g = found a in no_seated g.reg (each_of (listed_seats (seats 0 rules.first_after_colours (params_of f)) (λ r i. in_right (left i))) g.reg g.member) g.same
 
   own_one : (q : Reg) → IsRegister (selected f) q → q.origin ≡ p.origin → q ≡ p
   own_one q x e = by_role (has_role f q x)
@@ -215,7 +215,7 @@ module _ (f : FunctionTree) (i : Instr) (next : List Instr) (s : Stands i next (
       by_role : HasRole (Whole f) q → q ≡ p
       by_role (has t u) = same (Whole f) _ _ _ (whole_block f) p new t q u number
 
-  not_read : (j : Instr) (run : List Instr) → Stands j (run ++ i ∷ next) (selected f).code → Among p.number j.args → ⊥
+  not_read : (j : Instr) (run : List Instr) → StandsAsInstr j (run ++ i ∷ next) (selected f).code → AmongRegisters p.number j.args → ⊥
   not_read j run t a = by (allocated (Whole f) _ _ _ (whole_block f) p new (selected_coded f) t a)
     where
       by : Member p [] ⊎ Before (Whole f) _ _ _ (whole_block f) p new j (run ++ i ∷ next) (selected f).code → ⊥
@@ -239,7 +239,7 @@ selected_allocates f = record {
       (member_of i.results r c);
 }
   where
-    by : (i : Instr) (next : List Instr) → Stands i next (selected f).code → AllocOf (Whole f) i → (r : Reg) → Member r i.results → IsFresh
+    by : (i : Instr) (next : List Instr) → StandsAsInstr i next (selected f).code → AllocOf (Whole f) i → (r : Reg) → Member r i.results → IsFresh
         (selected f) i next r
     by i next s (alloc_of {block = block} {p = p} new val) r (coded.first e) =
         subst (λ z. IsFresh (selected f) i next z) (sym e) (fresh_new f i next s p new (eq-eqb p.number p.number refl))
@@ -248,7 +248,7 @@ selected_allocates f = record {
 -- ---- its component
 
 data Somewhere (i : Instr) (code : List Instr) : Type 0 where
-  somewhere : {next : List Instr} → Stands i next code → Somewhere i code
+  somewhere : {next : List Instr} → StandsAsInstr i next code → Somewhere i code
 
 somewhere_in : (code : List Instr) (i : Instr) → Contains code i → Somewhere i code
 somewhere_in [] i c = absurd (contains_none i c)

@@ -13,7 +13,7 @@ use Rattle.cmm_types.specs.Standing.{Visible, labels_of, lasting_labels_of}
 use Rattle.cmm_types.specs.Types.{type_of}
 use Rattle.cmm_types.specs.declared.role.Role.TheVariants as role
 use Rattle.mach_ir.specs.Sizes.{OpenAtMost}
-use Rattle.selection_rules.specs.Select.{Named, scopes, params_from, with_params, width, width_bound, width_labels, bound_name, env_after, count_cases, raised_name, is_based, selected}
+use Rattle.selection_rules.specs.Select.{NamedRegister, scopes, params_from, with_params, width, width_bound, width_labels, bound_name, env_after, count_cases, raised_name, is_based, selected}
 use Rattle.selection_laws.specs.Fits.{FunctionFits}
 use Rattle.selection_laws.proofs.Accepting.{left as former, right as latter}
 use Rattle.selection_rules.proofs.Exits.{scopes_params, scopes_after}
@@ -27,14 +27,14 @@ one_of ty.NoValue b c = refl
 one_of type b c = refl
 
 -- one register for the value of an expression, and none where it has no value
-abbrev keeps : List Named → Expression → ℕ
+abbrev keeps : List NamedRegister → Expression → ℕ
 keeps env e = length (kept (type_of (scopes env) e) 0)
 
-own : (env : List Named) (b : ℕ) (e : Expression) → length (dropped (type_of (scopes env) e) b) + keeps env e ≡ 1
+own : (env : List NamedRegister) (b : ℕ) (e : Expression) → length (dropped (type_of (scopes env) e) b) + keeps env e ≡ 1
 own env b e = one_of (type_of (scopes env) e) b 0
 
 -- an exit leaves none, whatever its type
-kept_few : (env : List Named) (b : ℕ) (e : Expression) → length (kept_of env b e) ≤ keeps env e
+kept_few : (env : List NamedRegister) (b : ℕ) (e : Expression) → length (kept_of env b e) ≤ keeps env e
 kept_few env b (Exit at label_at label arguments) = omega arith
 kept_few env b e = by (type_of (scopes env) e)
   where
@@ -52,17 +52,17 @@ outer_value at ty.NoValue none = absurd (none (fault.NoValue at) here)
 outer_value at t none = refl
 
 -- with one register for its value, where it leaves one
-abbrev Few : List Named → ℕ → Expression → Type 0
+abbrev Few : List NamedRegister → ℕ → Expression → Type 0
 Few env b e = opens env b e + keeps env e ≤ values_in e
 
 -- as an operand
-abbrev AsOperand : List Named → ℕ → Expression → Type 0
+abbrev AsOperand : List NamedRegister → ℕ → Expression → Type 0
 AsOperand env b e = opens env b e + 1 ≤ values_in e
 
-taken : (env : List Named) (b : ℕ) (e : Expression) → Faultless (role_faults role.Taken (place_of e) (type_of (scopes env) e)) → Few env b e → AsOperand env b e
+taken : (env : List NamedRegister) (b : ℕ) (e : Expression) → Faultless (role_faults role.Taken (place_of e) (type_of (scopes env) e)) → Few env b e → AsOperand env b e
 taken env b e none few = let one = taken_value (place_of e) (type_of (scopes env) e) none in omega (arith, few, one)
 
-outer : (env : List Named) (b : ℕ) (e : Expression) → Faultless (role_faults role.Outer (place_of e) (type_of (scopes env) e)) → Few env b e → AsOperand env b e
+outer : (env : List NamedRegister) (b : ℕ) (e : Expression) → Faultless (role_faults role.Outer (place_of e) (type_of (scopes env) e)) → Few env b e → AsOperand env b e
 outer env b e none few = let one = outer_value (place_of e) (type_of (scopes env) e) none in omega (arith, few, one)
 
 chosen : (q : Bool) (j k n : ℕ) → j + 1 ≤ n → k + 1 ≤ n → either q j k + 1 ≤ n
@@ -71,7 +71,7 @@ chosen false j k n x y = y
 
 module _ (d : List ℕ → Option DefinedSymbol) where
   mutual
-    few : (env : List Named) (labels : List Visible) (b : ℕ) (e : Expression) → Faultless (faults_in d (scopes env) labels e) → Few env b e
+    few : (env : List NamedRegister) (labels : List Visible) (b : ℕ) (e : Expression) → Faultless (faults_in d (scopes env) labels e) → Few env b e
     few env labels b (Integer at w) none = let one = own env b (Integer at w) in omega (arith, one)
     few env labels b (Pointer at w) none = let one = own env b (Pointer at w) in omega (arith, one)
     few env labels b (Symbol at name) none = let one = own env b (Symbol at name) in omega (arith, one)
@@ -162,14 +162,14 @@ module _ (d : List ℕ → Option DefinedSymbol) where
         let y = few_row env labels (suc (suc (suc b)) + count_of operands) operands (latter none) in
         omega (arith, one, y)
 
-    few_base : (env : List Named) (labels : List Visible) (b : ℕ) (e : Expression) → Faultless (faults_in d (scopes env) labels e) → AsOperand env b e →
+    few_base : (env : List NamedRegister) (labels : List Visible) (b : ℕ) (e : Expression) → Faultless (faults_in d (scopes env) labels e) → AsOperand env b e →
         base_opens env b e (opens env b e) + 1 ≤ values_in e
     few_base env labels b (Operator at op base (Integer at' w)) none whole =
         let x = few env labels b base (former (former none)) in
         chosen (is_based op w) (opens env b base) (opens env b (Operator at op base (Integer at' w))) _ (omega (arith, x)) whole
     few_base env labels b e none whole = whole
 
-    few_row : (env : List Named) (labels : List Visible) (b : ℕ) (es : Expressions) → Faultless (row_faults role.Taken d (scopes env) labels es) →
+    few_row : (env : List NamedRegister) (labels : List Visible) (b : ℕ) (es : Expressions) → Faultless (row_faults role.Taken d (scopes env) labels es) →
         count_of es + row_opens env b es ≤ row_total own_values es
     few_row env labels b NoMore none = omega arith
     few_row env labels b (More e rest) none =
@@ -177,7 +177,7 @@ module _ (d : List ℕ → Option DefinedSymbol) where
         let y = few_row env labels (b + width e) rest (latter none) in
         omega (arith, x, y)
 
-    few_outer : (env : List Named) (labels : List Visible) (b : ℕ) (es : Expressions) → Faultless (row_faults role.Outer d (scopes env) labels es) →
+    few_outer : (env : List NamedRegister) (labels : List Visible) (b : ℕ) (es : Expressions) → Faultless (row_faults role.Outer d (scopes env) labels es) →
         count_of es + row_opens env b es ≤ row_total own_values es
     few_outer env labels b NoMore none = omega arith
     few_outer env labels b (More e rest) none =
@@ -185,7 +185,7 @@ module _ (d : List ℕ → Option DefinedSymbol) where
         let y = few_outer env labels (b + width e) rest (latter none) in
         omega (arith, x, y)
 
-    few_bound : (env : List Named) (labels : List Visible) (b : ℕ) (bs : Bindings) → Faultless (bindings_faults d (scopes env) labels bs) →
+    few_bound : (env : List NamedRegister) (labels : List Visible) (b : ℕ) (bs : Bindings) → Faultless (bindings_faults d (scopes env) labels bs) →
         bound_opens env b bs ≤ names_in bs + bindings_total own_values bs
     few_bound env labels b NoBinding none = omega arith
     few_bound env labels b (Bind at name declared e rest) none =
@@ -193,7 +193,7 @@ module _ (d : List ℕ → Option DefinedSymbol) where
         let y = few_bound (bound_name env b name declared e ∷ env) labels (suc (b + width e)) rest (latter none) in
         omega (arith, x, y)
 
-    few_seq : (env : List Named) (labels : List Visible) (b : ℕ) (es : Expressions) → Faultless (row_faults role.Visited d (scopes env) labels es) →
+    few_seq : (env : List NamedRegister) (labels : List Visible) (b : ℕ) (es : Expressions) → Faultless (row_faults role.Visited d (scopes env) labels es) →
         seq_opens env b es ≤ row_total own_values es
     few_seq env labels b NoMore none = omega arith
     few_seq env labels b (More e rest) none =
@@ -202,7 +202,7 @@ module _ (d : List ℕ → Option DefinedSymbol) where
         let y = few_seq env labels (suc (b + width e)) rest (latter none) in
         omega (arith, most, x, y)
 
-    few_cases : (env : List Named) (labels : List Visible) (b : ℕ) (cs : Cases) → Faultless (cases_faults d (scopes env) labels cs) →
+    few_cases : (env : List NamedRegister) (labels : List Visible) (b : ℕ) (cs : Cases) → Faultless (cases_faults d (scopes env) labels cs) →
         cases_opens env b cs ≤ cases_total own_values cs
     few_cases env labels b NoCase none = omega arith
     few_cases env labels b (Choose indexes body rest) none =
@@ -210,7 +210,7 @@ module _ (d : List ℕ → Option DefinedSymbol) where
         let y = few_cases env labels (b + width body) rest (latter none) in
         omega (arith, x, y)
 
-    few_handlers : (env : List Named) (labels : List Visible) (l b : ℕ) (hs : Handlers) → Faultless (handlers_faults d (scopes env) labels hs) →
+    few_handlers : (env : List NamedRegister) (labels : List Visible) (l b : ℕ) (hs : Handlers) → Faultless (handlers_faults d (scopes env) labels hs) →
         count_params hs + handlers_opens env l b hs ≤ params_in hs + handlers_total own_values hs
     few_handlers env labels l b NoHandler none = omega arith
     few_handlers env labels l b (Handle at label params body rest) none =

@@ -4,12 +4,12 @@ use Rattle.std.specs.Prelude.{◌≢◌, nat_eq, nat_le}
 use Rattle.bs_words.specs.declared.types.Loc.{Loc}
 use Rattle.bs_words.specs.declared.types.Loc.TheVariants as loc
 use Rattle.cmm_tree.specs.Tree.{FunctionTree}
-use Rattle.mach_ir.specs.Placed.{colours, IsPlaced, in_colour, HasColours, PlacesAgree, WellPlaced}
+use Rattle.mach_ir.specs.Placed.{colour_numbers, HasColourOrSlot, in_colour, HasColourRegisters, LocationsAgree, WellPlaced}
 use Rattle.mach_ir.specs.Walks.{IsRegister, is_param, Joined, one_way, other_way, Meets, at_write, at_params}
 use Rattle.mach_ir.specs.declared.reg.Reg.{Reg}
 use Rattle.places_rules.specs.Places.{ColoursLow}
 use Rattle.places_rules.proofs.Open.{machine_open}
-use Rattle.selection_rules.specs.Select.{selected, first, seats, colour_regs}
+use Rattle.selection_rules.specs.Select.{selected, first_after_colours, seats, colour_regs}
 use Rattle.selection_places.proofs.Sets.{Role, Plain, New, Seated, IsColour, left, right as in_right, it, Listed}
 use Rattle.selection_places.proofs.Coded as coded
 use Rattle.selection_places.proofs.Coded.{Member, later, Each, none, one, each_of, seats_apart}
@@ -74,22 +74,22 @@ meets_apart f r q x y apart (at_params a live) fixed same =
     let open_q : q.loc ≢ loc.Unset = λ e. fixed (same ∙ e) in
     let soon = live_soon (Whole f) (plain_open f) (new_open f) (selected f) (selected_numbers f) _ (selected_coded f) q y open_q refl live all in
     let there = soon_in (Whole f) (plain_open f) (new_open f) q open_q (selected_coded f) soon in
-    let q_in = ⊎_elim (λ z. z) (λ z. absurd (not_in_none z)) (from_onto (seats 0 first (params_of f)) [] there) in
+    let q_in = ⊎_elim (λ z. z) (λ z. absurd (not_in_none z)) (from_onto (seats 0 first_after_colours (params_of f)) [] there) in
     let p = found a in
     let is_r = selected_numbers f p.reg r (is_param (contains_of p.member)) x p.same in
-    let r_in = subst (λ z. Member z (seats 0 first (params_of f))) is_r p.member in
-    apart (ap (λ (z : Reg). z.number) (one_seat 0 first (params_of f) r q r_in q_in same fixed))
+    let r_in = subst (λ z. Member z (seats 0 first_after_colours (params_of f))) is_r p.member in
+    apart (ap (λ (z : Reg). z.number) (one_seat 0 first_after_colours (params_of f) r q r_in q_in same fixed))
 
 joined_apart : (f : FunctionTree) (r q : Reg) → IsRegister (selected f) r → IsRegister (selected f) q → Joined (selected f) r.number q.number →
     r.loc ≢ loc.Unset → r.loc ≡ q.loc → ⊥
 joined_apart f r q x y (one_way apart meets) fixed same = meets_apart f r q x y apart meets fixed same
 joined_apart f r q x y (other_way apart meets) fixed same = meets_apart f q r y x (λ e. apart (sym e)) meets (λ e. fixed (same ∙ e)) (sym same)
 
-placed : {r : Reg} → (r.loc ≡ loc.Unset) ⊎ IsColour r.loc → (r.loc ≡ loc.Unset) ⊎ IsPlaced r
+placed : {r : Reg} → (r.loc ≡ loc.Unset) ⊎ IsColour r.loc → (r.loc ≡ loc.Unset) ⊎ HasColourOrSlot r
 placed (inl e) = inl e
 placed (inr c) = inr (in_colour c.colour c.among c.is)
 
-pub selected_agree : (f : FunctionTree) → PlacesAgree (IsRegister (selected f)) (Joined (selected f))
+pub selected_agree : (f : FunctionTree) → LocationsAgree (IsRegister (selected f)) (Joined (selected f))
 selected_agree f =
     record {
       places = λ r x. placed (selected_stands f r x);
@@ -110,7 +110,7 @@ abbrev Ranks : ℕ → List ℕ → Type 0
 Ranks n [] = Unit {0}
 Ranks n (c ∷ cs) = (n ≡ number_of c) × Ranks (suc n) cs
 
-ranks : Ranks 0 colours
+ranks : Ranks 0 colour_numbers
 ranks = (
   refl,
   (
@@ -159,13 +159,13 @@ low_numbers : (n : ℕ) (cs : List ℕ) (k : ℕ) → n + length cs ≤ k → Ea
 low_numbers n [] k le = none
 low_numbers n (c ∷ cs) k le = one (omega (arith, le)) (low_numbers (suc n) cs k (omega (arith, le)))
 
-colours_low : Each (λ (r : Reg). r.number < first) (colour_regs 0 colours)
-colours_low = low_numbers 0 colours first (omega arith)
+colours_low : Each (λ (r : Reg). r.number < first_after_colours) (colour_regs 0 colour_numbers)
+colours_low = low_numbers 0 colour_numbers first_after_colours (omega arith)
 
-least : (f : FunctionTree) (r q : Reg) → Member r (colour_regs 0 colours) → HasRole (Whole f) q → q.loc ≡ r.loc → r.number ≤ q.number
+least : (f : FunctionTree) (r q : Reg) → Member r (colour_regs 0 colour_numbers) → HasRole (Whole f) q → q.loc ≡ r.loc → r.number ≤ q.number
 least f r q m (has t (left i)) e =
-    let a = each_of (numbered 0 colours ranks) r m in
-    let b = each_of (numbered 0 colours ranks) q (listed_member Seated t q (colour_regs 0 colours) i) in
+    let a = each_of (numbered 0 colour_numbers ranks) r m in
+    let b = each_of (numbered 0 colour_numbers ranks) q (listed_member Seated t q (colour_regs 0 colour_numbers) i) in
     same r.number q.number (a ∙ ap number_at (sym e) ∙ sym b)
   where
     same : (n k : ℕ) → n ≡ k → n ≤ k
@@ -179,9 +179,9 @@ at_colours : (n : ℕ) (cs : List ℕ) → Each (λ (r : Reg). (c : ℕ) × (r.l
 at_colours n [] = none
 at_colours n (c ∷ cs) = one (c, refl) (at_colours (suc n) cs)
 
-low : (f : FunctionTree) (r q : Reg) → Member r (colour_regs 0 colours) → HasRole (Whole f) q → q.loc ≡ loc.Unset → r.number < q.number
+low : (f : FunctionTree) (r q : Reg) → Member r (colour_regs 0 colour_numbers) → HasRole (Whole f) q → q.loc ≡ loc.Unset → r.number < q.number
 low f r q m (has t (left i)) o =
-    let at = each_of (at_colours 0 colours) q (listed_member Seated t q (colour_regs 0 colours) i) in
+    let at = each_of (at_colours 0 colour_numbers) q (listed_member Seated t q (colour_regs 0 colour_numbers) i) in
     absurd (machine_open at.1 o)
 low f r q m (has t (in_right i)) o =
     let above = (others_block f).from t q i in
@@ -190,10 +190,10 @@ low f r q m (has t (in_right i)) o =
 
 -- The registers of the colours have lower numbers than those whose places are open.
 pub selected_low : (f : FunctionTree) → ColoursLow (selected f)
-selected_low f r q c x o = low f r q (member_of (colour_regs 0 colours) r c) (has_role f q x) o
+selected_low f r q c x o = low f r q (member_of (colour_regs 0 colour_numbers) r c) (has_role f q x) o
 
-pub selected_colours : (f : FunctionTree) → HasColours (selected f)
-selected_colours f = record { each = refl; least = λ r q c x e. least f r q (member_of (colour_regs 0 colours) r c) (has_role f q x) e }
+pub selected_colours : (f : FunctionTree) → HasColourRegisters (selected f)
+selected_colours f = record { each = refl; least = λ r q c x e. least f r q (member_of (colour_regs 0 colour_numbers) r c) (has_role f q x) e }
 
 -- Selected code is well placed.
 pub selected_placed : (f : FunctionTree) → WellPlaced (selected f)

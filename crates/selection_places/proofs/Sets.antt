@@ -6,7 +6,7 @@ use Rattle.std.proofs.lemmas.List.Elements.{Contains-append_right, Contains-appe
 use Rattle.bs_words.specs.declared.types.Loc.{Loc}
 use Rattle.bs_words.specs.declared.types.Loc.TheVariants as loc
 use Rattle.cmm_types.proofs.Containing.{contains_head}
-use Rattle.mach_ir.specs.Placed.{colours}
+use Rattle.mach_ir.specs.Placed.{colour_numbers}
 use Rattle.mach_ir.specs.declared.reg.Reg.{Reg}
 
 -- What a register is for: it is open and any code may write it, or it is open and one allocation writes it, or it has
@@ -18,7 +18,7 @@ pub data Role : Type 0 where
 
 pub record IsColour (l : Loc) : Type 0 where
   pub colour : ℕ
-  pub among : Contains colours colour
+  pub among : Contains colour_numbers colour
   pub is : l ≡ loc.Machine colour
 
 abbrev pub PlaceOf : Role → Loc → Type 0

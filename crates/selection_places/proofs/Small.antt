@@ -9,12 +9,12 @@ use Rattle.bs_words.specs.declared.types.Ret.{Ret}
 use Rattle.bs_words.specs.declared.types.Ret.TheVariants as ret
 use Rattle.cmm_tree.specs.Tree.{FunctionTree, Expression, Integer, Pointer, Symbol, Name, Nothing, Float, Let, Assign, Operator, Load, Store, Alloc, App, Extcall, Checkbound, Raise, Seq, If, Switch, Catch, Exit, Try, Expressions, NoMore, More, Bindings, NoBinding, Bind, Cases, NoCase, Choose, Handlers, NoHandler, Handle}
 use Rattle.cmm_types.specs.Types.{Scoped, type_of, body_type, result_of}
-use Rattle.mach_ir.specs.Placed.{colours}
+use Rattle.mach_ir.specs.Placed.{colour_numbers}
 use Rattle.mach_ir.specs.Sizes.{Size, HasSize, OpenAtMost}
 use Rattle.mach_ir.specs.Walks.{IsRegister}
 use Rattle.mach_ir.specs.declared.reg.Reg.{Reg}
 use Rattle.places_rules.proofs.Open.{machine_open, slot_open, machine_slot}
-use Rattle.selection_rules.specs.Select.{Named, scopes, selected, first, seat, seats, result_seat, params_from, colour_regs, regs_of, width, is_based}
+use Rattle.selection_rules.specs.Select.{NamedRegister, scopes, selected, first_after_colours, seat, seats, result_seat, params_from, colour_regs, regs_of, width, is_based}
 use Rattle.selection_laws.specs.Fits.{Fits, RowFits, BindingsFit, CasesFit, HandlersFit, FunctionFits}
 use Rattle.selection_places.proofs.Sets.{Role, Plain, New, Seated, IsColour, Block, is_seated, left, right as in_right, One, it, Listed}
 use Rattle.selection_places.proofs.Owned.{dropped, kept_of, Own_drop, Own, BaseOwn, RowOwn, BoundOwn, SeqOwn, CasesOwn, HandlersOwn, LabelsOwn, Either}
@@ -89,7 +89,7 @@ not_listed r u [] e x = x
 not_listed r u (q ∷ rs) e (left x) = not_one e x
 not_listed r u (q ∷ rs) e (in_right x) = not_listed r u rs e x
 
-not_dropped : (r : Reg) (env : List Named) (b : ℕ) (e : Expression) → Own_drop env b e Seated r → ⊥
+not_dropped : (r : Reg) (env : List NamedRegister) (b : ℕ) (e : Expression) → Own_drop env b e Seated r → ⊥
 not_dropped r env b e x = not_listed r Plain (dropped (type_of (scopes env) e) b) refl x
 
 not_label : (r : Reg) (b : ℕ) (hs : Handlers) → LabelsOwn b hs Seated r → ⊥
@@ -102,7 +102,7 @@ chosen A B true r f g x = f x
 chosen A B false r f g x = g x
 
 mutual
-  fixed : (env : List Named) (names : List Scoped) (b : ℕ) (e : Expression) → Fits names e → (r : Reg) → Own env b e Seated r → r.loc ≢ loc.Unset
+  fixed : (env : List NamedRegister) (names : List Scoped) (b : ℕ) (e : Expression) → Fits names e → (r : Reg) → Own env b e Seated r → r.loc ≢ loc.Unset
   fixed env names b (Integer at w) fits r x u = not_dropped r env b (Integer at w) x
   fixed env names b (Pointer at w) fits r x u = not_dropped r env b (Pointer at w) x
   fixed env names b (Symbol at name) fits r x u = not_dropped r env b (Symbol at name) x
@@ -185,44 +185,44 @@ mutual
   fixed env names b (Alloc at header_at header operands) fits r (in_right (in_right (in_right (in_right x)))) u = fixed_row env names _ operands
       (fits.1).1 r x u
 
-  fixed_base : (env : List Named) (names : List Scoped) (b : ℕ) (e : Expression) → Fits names e → (r : Reg) → (Own env b e Seated r → r.loc ≢ loc.Unset) →
+  fixed_base : (env : List NamedRegister) (names : List Scoped) (b : ℕ) (e : Expression) → Fits names e → (r : Reg) → (Own env b e Seated r → r.loc ≢ loc.Unset) →
       BaseOwn env b e (Own env b e) Seated r → r.loc ≢ loc.Unset
   fixed_base env names b (Operator at op base (Integer at' w)) fits r whole x u =
       chosen (Own env b base) (Own env b (Operator at op base (Integer at' w))) (is_based op w) r (λ z. fixed env names b base fits.0 r z u) (λ z. whole z u) x
   fixed_base env names b e fits r whole x u = whole x u
 
-  fixed_row : (env : List Named) (names : List Scoped) (b : ℕ) (es : Expressions) → RowFits names es → (r : Reg) → RowOwn env b es Seated r → r.loc ≢ loc.Unset
+  fixed_row : (env : List NamedRegister) (names : List Scoped) (b : ℕ) (es : Expressions) → RowFits names es → (r : Reg) → RowOwn env b es Seated r → r.loc ≢ loc.Unset
   fixed_row env names b NoMore fits r x u = x
   fixed_row env names b (More e rest) fits r (left x) u = fixed env names _ e fits.0 r x u
   fixed_row env names b (More e rest) fits r (in_right x) u = fixed_row env names _ rest fits.1 r x u
 
-  fixed_bound : (env : List Named) (names : List Scoped) (b : ℕ) (bs : Bindings) → BindingsFit names bs → (r : Reg) → BoundOwn env b bs Seated r →
+  fixed_bound : (env : List NamedRegister) (names : List Scoped) (b : ℕ) (bs : Bindings) → BindingsFit names bs → (r : Reg) → BoundOwn env b bs Seated r →
       r.loc ≢ loc.Unset
   fixed_bound env names b NoBinding fits r x u = x
   fixed_bound env names b (Bind at name declared e rest) fits r (left x) u = not_one refl x
   fixed_bound env names b (Bind at name declared e rest) fits r (in_right (left x)) u = fixed env names _ e fits.0 r x u
   fixed_bound env names b (Bind at name declared e rest) fits r (in_right (in_right x)) u = fixed_bound _ _ _ rest fits.1 r x u
 
-  fixed_seq : (env : List Named) (names : List Scoped) (b : ℕ) (es : Expressions) → RowFits names es → (r : Reg) → SeqOwn env b es Seated r → r.loc ≢ loc.Unset
+  fixed_seq : (env : List NamedRegister) (names : List Scoped) (b : ℕ) (es : Expressions) → RowFits names es → (r : Reg) → SeqOwn env b es Seated r → r.loc ≢ loc.Unset
   fixed_seq env names b NoMore fits r x u = x
   fixed_seq env names b (More e rest) fits r (left x) u = not_listed r Plain (kept_of env b e) refl x
   fixed_seq env names b (More e rest) fits r (in_right (left x)) u = fixed env names _ e fits.0 r x u
   fixed_seq env names b (More e rest) fits r (in_right (in_right x)) u = fixed_seq env names _ rest fits.1 r x u
 
-  fixed_cases : (env : List Named) (names : List Scoped) (b : ℕ) (cs : Cases) → CasesFit names cs → (r : Reg) → CasesOwn env b cs Seated r → r.loc ≢ loc.Unset
+  fixed_cases : (env : List NamedRegister) (names : List Scoped) (b : ℕ) (cs : Cases) → CasesFit names cs → (r : Reg) → CasesOwn env b cs Seated r → r.loc ≢ loc.Unset
   fixed_cases env names b NoCase fits r x u = x
   fixed_cases env names b (Choose indexes body rest) fits r (left x) u = fixed env names _ body fits.0 r x u
   fixed_cases env names b (Choose indexes body rest) fits r (in_right x) u = fixed_cases env names _ rest fits.1 r x u
 
-  fixed_handlers : (env : List Named) (names : List Scoped) (l b : ℕ) (hs : Handlers) → HandlersFit names hs → (r : Reg) → HandlersOwn env l b hs Seated r →
+  fixed_handlers : (env : List NamedRegister) (names : List Scoped) (l b : ℕ) (hs : Handlers) → HandlersFit names hs → (r : Reg) → HandlersOwn env l b hs Seated r →
       r.loc ≢ loc.Unset
   fixed_handlers env names l b NoHandler fits r x u = x
   fixed_handlers env names l b (Handle at label params body rest) fits r (left x) u = fixed _ _ _ body fits.0 r x u
   fixed_handlers env names l b (Handle at label params body rest) fits r (in_right x) u = fixed_handlers env names _ _ rest fits.1 r x u
 
 whole_fixed : (f : FunctionTree) → FunctionFits f → (r : Reg) → Whole f Seated r → r.loc ≢ loc.Unset
-whole_fixed f fits r (left x) u = colours_fixed 0 colours r x u
-whole_fixed f fits r (in_right (left x)) u = seats_fixed 0 first (params_of f)
+whole_fixed f fits r (left x) u = colours_fixed 0 colour_numbers r x u
+whole_fixed f fits r (in_right (left x)) u = seats_fixed 0 first_after_colours (params_of f)
     (let same = params_length (moved_at f) f.params in let few = fits.params in omega (arith, same, few)) r x u
 whole_fixed f fits r (in_right (in_right (left x))) u = not_listed r Plain (params_of f) refl x
 whole_fixed f fits r (in_right (in_right (in_right (left x)))) u = not_one refl x

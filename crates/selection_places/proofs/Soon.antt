@@ -7,7 +7,7 @@ use Rattle.bs_words.specs.declared.types.Loc.TheVariants as loc
 use Rattle.cmm_types.proofs.Containing.{contains_head, contains_tail}
 use Rattle.mach_ir.specs.Acts.{On, At}
 use Rattle.mach_ir.specs.Meaning.{Destroyed, Nothing, Temporaries, Everything, is_destroyed, same_colour, is_at_one_of, killed_among, killed_by, killed, destroyed_by, has_label, is_handler_of, after_label, from_handler}
-use Rattle.mach_ir.specs.Walks.{Among, first, later, Leads, goes, raises, Live, read, on, aside, LiveAfter, after_step, Writes, IsRegister, is_colour, is_in_code, Stands}
+use Rattle.mach_ir.specs.Walks.{AmongRegisters, first, later, WalkStep, goes, raises, Live, read, on, aside, LiveAfter, after_step, Writes, IsRegister, is_colour, is_in_code, StandsAsInstr}
 use Rattle.mach_ir.specs.declared.mach.Instr.{Instr}
 use Rattle.mach_ir.specs.declared.mach.Mach.{Mach}
 use Rattle.mach_ir.specs.declared.mach.MachOp.{MachOp}
@@ -75,7 +75,7 @@ is_pure _ = false
 -- what reads registers alone reads this one before it writes it, up to the first other instruction, which may read it, too
 pub data Soon (q : Reg) : List Instr → Type 0 where
   reads_now : {i : Instr} {next : List Instr} → Member q i.args → Soon q (i ∷ next)
-  past : {i : Instr} {next : List Instr} → is_pure i.op ≡ true → (Among q.number i.results → ⊥) → Soon q next → Soon q (i ∷ next)
+  past : {i : Instr} {next : List Instr} → is_pure i.op ≡ true → (AmongRegisters q.number i.results → ⊥) → Soon q next → Soon q (i ∷ next)
 
 -- of an instruction after which a register is read soon
 pub data Fine (q : Reg) (i : Instr) : Type 0 where
@@ -97,7 +97,7 @@ heavy_pure (mach.Op (op.Calling f)) e = refl
 heavy_pure (mach.Op (op.Leaving f)) e = refl
 heavy_pure (mach.Mark f) e = refl
 
-same_number : {q d : Reg} → q ≡ d → Among q.number (d ∷ [])
+same_number : {q d : Reg} → q ≡ d → AmongRegisters q.number (d ∷ [])
 same_number e = first (ap (λ (z : Reg). z.number) (sym e))
 
 module _ (Q : Role → Reg → Type 0) (open_plain : (r : Reg) → Q Plain r → r.loc ≡ loc.Unset) (open_new : (r : Reg) → Q New r → r.loc ≡ loc.Unset) (q : Reg)
@@ -204,7 +204,7 @@ pub record Found (n : ℕ) (rs : List Reg) : Type 0 where
   pub member : Member reg rs
   pub same : reg.number ≡ n
 
-pub found : {n : ℕ} {rs : List Reg} → Among n rs → Found n rs
+pub found : {n : ℕ} {rs : List Reg} → AmongRegisters n rs → Found n rs
 found (first {r = r} e) = record { reg = r; member = coded.first refl; same = e }
 found (later a) = let f = found a in record { reg = f.reg; member = coded.later f.member; same = f.same }
 
@@ -212,11 +212,11 @@ pub contains_of : {r : Reg} {rs : List Reg} → Member r rs → Contains rs r
 contains_of {r} (coded.first {q = q} {qs = qs} e) = subst (λ z. Contains (q ∷ qs) z) (sym e) (contains_head q qs)
 contains_of {r} (coded.later {q = q} {qs = qs} m) = contains_tail q qs r (contains_of m)
 
-among_left : {n : ℕ} {xs : List Reg} (ys : List Reg) → Among n xs → Among n (xs ++ ys)
+among_left : {n : ℕ} {xs : List Reg} (ys : List Reg) → AmongRegisters n xs → AmongRegisters n (xs ++ ys)
 among_left ys (first e) = first e
 among_left ys (later a) = later (among_left ys a)
 
-pub among_cases : {n : ℕ} (xs ys : List Reg) → Among n (xs ++ ys) → Among n xs ⊎ Among n ys
+pub among_cases : {n : ℕ} (xs ys : List Reg) → AmongRegisters n (xs ++ ys) → AmongRegisters n xs ⊎ AmongRegisters n ys
 among_cases [] ys a = inr a
 among_cases (x ∷ xs) ys (first e) = inl (first e)
 among_cases (x ∷ xs) ys (later a) = ⊎_elim (λ z. inl (later z)) (λ z. inr z) (among_cases xs ys a)
@@ -293,13 +293,13 @@ module _ (Q : Role → Reg → Type 0) (open_plain : (r : Reg) → Q Plain r →
       by s = by' (fine w s)
         where
           by' : Fine q i → Soon q (i ∷ next)
-          by' (straight p apart) = past p (λ a. unwritten (among_left (killed m i) (subst (λ z. Among z i.results) e a))) s
-          by' (given p no_label g) = absurd (unwritten (among_left (killed m i) (subst (λ rs. Among n rs) (sym g) (first e))))
+          by' (straight p apart) = past p (λ a. unwritten (among_left (killed m i) (subst (λ z. AmongRegisters z i.results) e a))) s
+          by' (given p no_label g) = absurd (unwritten (among_left (killed m i) (subst (λ rs. AmongRegisters n rs) (sym g) (first e))))
   live_soon e (on unwritten (goes (At l) o) live) w = absurd (not_labelled l (labelled l m.code) (live_soon e live (label_ending (labelled l m.code))))
   live_soon e (aside (raises {l = l} b t) live) w = absurd (not_handled l (handled l m.code) (live_soon e live (handler_ending (handled l m.code))))
 
   -- where a write goes on to a place before which it is read soon, it goes on after the instruction
-  goes_on : {i : Instr} {next to : List Instr} → Leads m i next to → Soon q to → Soon q next
+  goes_on : {i : Instr} {next to : List Instr} → WalkStep m i next to → Soon q to → Soon q next
   goes_on (goes On o) s = s
   goes_on (goes (At l) o) s = absurd (not_labelled l (labelled l m.code) s)
 
@@ -311,19 +311,19 @@ module _ (Q : Role → Reg → Type 0) (open_plain : (r : Reg) → Q Plain r →
     is_other : (s : Reg) → IsRegister m s → s.number ≡ r.number → s ≡ r
     is_other s x e = numbers s r x other e
 
-    result_fine : {i : Instr} {next : List Instr} → Ending (i ∷ next) m.code → Fine q i → Among r.number i.results → ⊥
+    result_fine : {i : Instr} {next : List Instr} → Ending (i ∷ next) m.code → Fine q i → AmongRegisters r.number i.results → ⊥
     result_fine {i} w (straight p stands) a =
         let f = found a in
         let is_r = is_other f.reg (is_in_code (results_in (stands_of w) (contains_of f.member))) f.same in
         apart (sym f.same ∙ ap (λ (z : Reg). z.number) (stands f.reg f.member (ap (λ (z : Reg). z.loc) is_r ∙ same)))
-    result_fine {i} w (given p no_label g) a = by (subst (λ rs. Among r.number rs) g a)
+    result_fine {i} w (given p no_label g) a = by (subst (λ rs. AmongRegisters r.number rs) g a)
       where
-        by : Among r.number (q ∷ []) → ⊥
+        by : AmongRegisters r.number (q ∷ []) → ⊥
         by (first e) = apart (sym e)
         by (later b) = elim b [ ]
 
-    killed_fine : {i : Instr} → Fine q i → Among r.number (killed m i) → ⊥
-    killed_fine {i} (straight p stands) a = elim (subst (λ rs. Among r.number rs) (pure_kills i.op m.colours i.results p) a) [ ]
+    killed_fine : {i : Instr} → Fine q i → AmongRegisters r.number (killed m i) → ⊥
+    killed_fine {i} (straight p stands) a = elim (subst (λ rs. AmongRegisters r.number rs) (pure_kills i.op m.colours i.results p) a) [ ]
     killed_fine {i} (given p no_label g) a =
         let f = found a in
         let k = killed_from m.colours (destroyed_by i.op) i.results f.member in
@@ -331,7 +331,7 @@ module _ (Q : Role → Reg → Type 0) (open_plain : (r : Reg) → Q Plain r →
         let there = subst (λ rs. is_at_one_of f.reg.loc rs ≡ false) g k.elsewhere in
         true≢false (sym (ap (λ b. b || false) (colour_same colour (ap (λ (z : Reg). z.loc) is_r ∙ same))) ∙ there)
 
-    pub written_fine : (i : Instr) (next : List Instr) → Stands i next m.code → Writes m i r.number → LiveAfter m q.number i next → ⊥
+    pub written_fine : (i : Instr) (next : List Instr) → StandsAsInstr i next m.code → Writes m i r.number → LiveAfter m q.number i next → ⊥
     written_fine i next stands w (after_step leads live) =
         let there = ending_of stands in
         let f = fine there (goes_on leads (live_soon refl live (ending_leads leads there))) in

@@ -9,12 +9,12 @@ use Rattle.cmm_types.proofs.Containing.{contains_none, contains_cases, contains_
 use Rattle.cmm_types.specs.Types.{body_type, result_of}
 use Rattle.mach_ir.specs.Keeps.{OriginsAgree}
 use Rattle.mach_ir.specs.Meaning.{Held, State}
-use Rattle.mach_ir.specs.Placed.{colours}
-use Rattle.mach_ir.specs.Walks.{Among, InCode, in_args, in_results, further, IsRegister, is_param, is_colour, is_in_code}
+use Rattle.mach_ir.specs.Placed.{colour_numbers}
+use Rattle.mach_ir.specs.Walks.{AmongRegisters, InCode, in_args, in_results, further, IsRegister, is_param, is_colour, is_in_code}
 use Rattle.mach_ir.specs.Walks as walks
 use Rattle.mach_ir.specs.declared.mach.Instr.{Instr}
 use Rattle.mach_ir.specs.declared.reg.Reg.{Reg}
-use Rattle.selection_rules.specs.Select.{Named, selected, first, params_from, with_params, is_no_value, fresh, seats, result_seat, colour_regs}
+use Rattle.selection_rules.specs.Select.{NamedRegister, selected, first_after_colours, params_from, with_params, is_no_value, fresh_register, seats, result_seat, colour_regs}
 use Rattle.selection_laws.proofs.WellFormed.{NumbersTell}
 use Rattle.selection_places.proofs.Sets.{Role, Plain, New, Seated, Both, left, right as in_right, One, it, Listed, Block, block_in, block_few, block_then, no_block}
 use Rattle.selection_places.proofs.Owned.{Own, opens, own_block, params_block, seats_block, result_block, block_seated, fresh_block}
@@ -27,7 +27,7 @@ use Rattle.selection_rules.proofs.Rows.{seats_length}
 -- ---- the parts of a function
 
 abbrev pub moved_at : FunctionTree → ℕ
-moved_at f = first + length f.params
+moved_at f = first_after_colours + length f.params
 
 -- the number of the register of its value
 abbrev pub value_at : FunctionTree → ℕ
@@ -36,22 +36,22 @@ value_at f = moved_at f + length f.params
 abbrev pub params_of : FunctionTree → List Reg
 params_of f = params_from (moved_at f) f.params
 
-abbrev pub env_of : FunctionTree → List Named
+abbrev pub env_of : FunctionTree → List NamedRegister
 env_of f = with_params f.params (params_of f) []
 
 -- all but those of the colours
 abbrev pub Others : FunctionTree → Role → Reg → Type 0
 Others f t r =
-    Both (Listed Seated (seats 0 first (params_of f)))
+    Both (Listed Seated (seats 0 first_after_colours (params_of f)))
     (Both (Listed Plain (params_of f))
-    (Both (One Plain (fresh (value_at f) (body_type f)))
+    (Both (One Plain (fresh_register (value_at f) (body_type f)))
     (Both (Listed Seated (result_seat (suc (value_at f)) (result_of (body_type f))))
     (Own (env_of f) (suc (suc (value_at f))) f.body)))) t r
 
 abbrev pub Whole : FunctionTree → Role → Reg → Type 0
-Whole f t r = Both (Listed Seated (colour_regs 0 colours)) (Others f) t r
+Whole f t r = Both (Listed Seated (colour_regs 0 colour_numbers)) (Others f) t r
 
-colours_block : (n : ℕ) (cs : List ℕ) → ((c : ℕ) → Contains cs c → Contains colours c) → Block (Listed Seated (colour_regs n cs)) n (n + length cs) 0
+colours_block : (n : ℕ) (cs : List ℕ) → ((c : ℕ) → Contains cs c → Contains colour_numbers c) → Block (Listed Seated (colour_regs n cs)) n (n + length cs) 0
 colours_block n [] inside = block_in (no_block n) (omega arith)
 colours_block n (c ∷ cs) inside =
     block_in
@@ -64,10 +64,10 @@ colours_block n (c ∷ cs) inside =
 abbrev pub opens_of : FunctionTree → ℕ
 opens_of f = 0 + (length f.params + (1 + (0 + opens (env_of f) (suc (suc (value_at f))) f.body)))
 
-pub others_block : (f : FunctionTree) → Block (Others f) first (selected f).labels (opens_of f)
+pub others_block : (f : FunctionTree) → Block (Others f) first_after_colours (selected f).labels (opens_of f)
 others_block f =
     let same = params_length (moved_at f) f.params in
-    block_then (block_in (seats_block 0 first (params_of f)) (omega (arith, same)))
+    block_then (block_in (seats_block 0 first_after_colours (params_of f)) (omega (arith, same)))
     (block_then (params_block (moved_at f) f.params)
     (block_then (fresh_block (value_at f) (body_type f))
     (block_then (result_block (suc (value_at f)) (result_of (body_type f)))
@@ -78,26 +78,26 @@ others_block f =
     (omega arith) (omega arith)
 
 pub whole_block : (f : FunctionTree) → Block (Whole f) 0 (selected f).labels (opens_of f)
-whole_block f = block_few (block_then (block_in (colours_block 0 colours (λ c m. m)) (omega arith)) (others_block f) (omega arith) (omega arith)) (omega arith)
+whole_block f = block_few (block_then (block_in (colours_block 0 colour_numbers (λ c m. m)) (omega arith)) (others_block f) (omega arith) (omega arith)) (omega arith)
 
 -- the code has these roles among any that have those of all but the colours
 coded_in : (f : FunctionTree) (Q : Role → Reg → Type 0) → ((t : Role) (r : Reg) → Others f t r → Q t r) →
-    Coded Q (onto (seats 0 first (params_of f)) []) [] (selected f).code
+    Coded Q (onto (seats 0 first_after_colours (params_of f)) []) [] (selected f).code
 coded_in f Q own =
     let type : Ty = body_type f in
-    let from = seats 0 first (params_of f) in
+    let from = seats 0 first_after_colours (params_of f) in
     let from_fine = listed Q Seated from (λ t r i. own t r (left i)) in
     let to_fine = listed Q Plain (params_of f) (λ t r i. own t r (in_right (left i))) in
-    let d = own Plain (fresh (value_at f) type) (in_right (in_right (left (it refl refl)))) in
+    let d = own Plain (fresh_register (value_at f) type) (in_right (in_right (left (it refl refl)))) in
     let gives = listed Q Seated (result_seat (suc (value_at f)) (result_of type)) (λ t r i. own t r (in_right (in_right (in_right (left i))))) in
     let env = env_of f in
-    codes_entry Q from (params_of f) [] [] from_fine to_fine (seats_length 0 first (params_of f)) _
+    codes_entry Q from (params_of f) [] [] from_fine to_fine (seats_length 0 first_after_colours (params_of f)) _
     (codes_select Q env [] (not (is_no_value type)) true _ (suc (suc (value_at f))) f.body
     (λ t r i. own t r (in_right (in_right (in_right (in_right i)))))
     (params_env Q [] f.params (params_of f) to_fine no_names) no_labels (wants_any Q env f.body d) [] _
     (codes_returns Q (suc (value_at f)) (result_of type) d gives))
 
-pub selected_coded : (f : FunctionTree) → Coded (Whole f) (onto (seats 0 first (params_of f)) []) [] (selected f).code
+pub selected_coded : (f : FunctionTree) → Coded (Whole f) (onto (seats 0 first_after_colours (params_of f)) []) [] (selected f).code
 selected_coded f = coded_in f (Whole f) (λ t r i. in_right i)
 
 -- ---- each register has a role
@@ -155,23 +155,23 @@ listed_in u [] own = none
 listed_in u (r ∷ rs) own = one (has u (own u r (left (it refl refl)))) (listed_in u rs (λ t q i. own t q (in_right i)))
 
 pub has_role : (f : FunctionTree) (r : Reg) → IsRegister (selected f) r → HasRole (Whole f) r
-has_role f r (is_param c) = each_of (listed_in Seated (seats 0 first (params_of f)) (λ t r i. in_right (left i))) r (member_of _ r c)
-has_role f r (is_colour c) = each_of (listed_in Seated (colour_regs 0 colours) (λ t r i. left i)) r (member_of _ r c)
+has_role f r (is_param c) = each_of (listed_in Seated (seats 0 first_after_colours (params_of f)) (λ t r i. in_right (left i))) r (member_of _ r c)
+has_role f r (is_colour c) = each_of (listed_in Seated (colour_regs 0 colour_numbers) (λ t r i. left i)) r (member_of _ r c)
 has_role f r (is_in_code i) = in_coded (selected_coded f) i
 
 -- ---- no instruction reads or writes a register of a colour
 
-above_colours : (f : FunctionTree) (r : Reg) → HasRole (Others f) r → first ≤ r.number
+above_colours : (f : FunctionTree) (r : Reg) → HasRole (Others f) r → first_after_colours ≤ r.number
 above_colours f r (has t x) = (others_block f).from t r x
 
-below_colours : (n : ℕ) (cs : List ℕ) (k : ℕ) → Among k (colour_regs n cs) → k < n + length cs
+below_colours : (n : ℕ) (cs : List ℕ) (k : ℕ) → AmongRegisters k (colour_regs n cs) → k < n + length cs
 below_colours n [] k i = elim i [ ]
 below_colours n (c ∷ cs) k (walks.first e) = omega (arith, e)
 below_colours n (c ∷ cs) k (walks.later i) = let less = below_colours (suc n) cs k i in omega (arith, less)
 
-pub colours_apart : (f : FunctionTree) (r : Reg) → InCode r (selected f).code → Among r.number (selected f).colours → ⊥
+pub colours_apart : (f : FunctionTree) (r : Reg) → InCode r (selected f).code → AmongRegisters r.number (selected f).colours → ⊥
 colours_apart f r i a =
-    let most = below_colours 0 colours r.number a in
+    let most = below_colours 0 colour_numbers r.number a in
     let least = above_colours f r (in_coded (coded_in f (Others f) (λ t q x. x)) i) in
     omega (arith, most, least)
 

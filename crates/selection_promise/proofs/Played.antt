@@ -11,7 +11,7 @@ use Rattle.walk_tables.specs.AddrLive.{IsLiveIn}
 use Rattle.cmm_meaning.specs.Alone.{IsProperEnd}
 use Rattle.cmm_meaning.specs.Evaluation.{Evaluation}
 use Rattle.cmm_meaning.specs.Extends.{Extends}
-use Rattle.meaning_laws.specs.Pace.{pending}
+use Rattle.meaning_laws.specs.Pace.{pending_calls}
 use Rattle.meaning_laws.specs.Units.{world_of}
 use Rattle.meaning_laws.proofs.Extends.{extends_need}
 use Rattle.mach_ir.specs.Acts.{Around}
@@ -19,7 +19,7 @@ use Rattle.mach_ir.specs.Keeps.{Keeps}
 use Rattle.mach_ir.specs.Keeps as kept
 use Rattle.mach_ir.specs.declared.mach.Mach.{Mach}
 use Rattle.mach_ir.specs.Meaning.{State}
-use Rattle.mach_ir.specs.Runs.{Tally, Run, Wrong}
+use Rattle.mach_ir.specs.Runs.{Tally, RunProgress, Wrong}
 use Rattle.selection_rules.specs.Select.{selected, width}
 use Rattle.selection_rules.proofs.Plays.{Alike, Meets, returned, threw, running, asking, improper, left_by_exit}
 use Rattle.selection_laws.specs.Fits.{FunctionFits}
@@ -27,18 +27,18 @@ use Rattle.selection_walks.proofs.Keeps.{accepted_keeps, accepted_proper}
 use Rattle.selection_promise.specs.Runs.{Beside, EndsAs, PlaysAs, evaluated}
 use Rattle.selection_promise.specs.Runs as spec
 
-beside : (f : FunctionTree) (n u : ℕ) (e : Evaluation) (t : Tally) → Alike t (world_of e) → t.units ≡ u → u + (pending e + (world_of e).left) ≤ n →
+beside : (f : FunctionTree) (n u : ℕ) (e : Evaluation) (t : Tally) → Alike t (world_of e) → t.units ≡ u → u + (pending_calls e + (world_of e).left) ≤ n →
     n ≤ (world_of e).left + nodes_in f.body * suc u → Beside f n e t
 beside f n u e t a same no_more enough =
     record {
       asked = a.asked;
       doings = a.doings;
       need = a.need;
-      no_more = subst (λ k. k + (pending e + (world_of e).left) ≤ n) (sym same) no_more;
+      no_more = subst (λ k. k + (pending_calls e + (world_of e).left) ≤ n) (sym same) no_more;
       enough = subst (λ k. n ≤ (world_of e).left + nodes_in f.body * suc k) (sym same) enough;
     }
 
-ends_as : (f : FunctionTree) (n u : ℕ) (e : Evaluation) (r : Run State) → IsProperEnd e → u + (pending e + (world_of e).left) ≤ n →
+ends_as : (f : FunctionTree) (n u : ℕ) (e : Evaluation) (r : RunProgress State) → IsProperEnd e → u + (pending_calls e + (world_of e).left) ≤ n →
     n ≤ (world_of e).left + nodes_in f.body * suc u → Meets u e r → EndsAs f n e r
 ends_as f n u _ _ is no_more enough (returned a same) = spec.returned (beside f n u _ _ a same no_more enough)
 ends_as f n u _ _ is no_more enough (threw a same) = spec.threw (beside f n u _ _ a same no_more enough)
@@ -48,7 +48,7 @@ ends_as f n u _ _ is no_more enough (asking a same) = spec.asking (beside f n u 
 ends_as f n u _ _ is no_more enough improper = absurd is
 ends_as f n u _ _ is no_more enough left_by_exit = absurd is
 
-not_wrong : {f : FunctionTree} {n : ℕ} {e : Evaluation} {r : Run State} → EndsAs f n e r → r ≢ Wrong
+not_wrong : {f : FunctionTree} {n : ℕ} {e : Evaluation} {r : RunProgress State} → EndsAs f n e r → r ≢ Wrong
 not_wrong (spec.returned b) e = cc
 not_wrong (spec.threw b) e = cc
 not_wrong (spec.running b heap) e = cc
@@ -79,7 +79,7 @@ trails_need x y t =
     extends_need e
 
 -- what two runs that are alike have come to, where the second has allocated no more
-moved : {f : FunctionTree} {n : ℕ} {e : Evaluation} {r q : Run State} → EndsAs f n e r → kept.Alike (kept.SuitRound kept.Trails) r q → EndsAs f n e q
+moved : {f : FunctionTree} {n : ℕ} {e : Evaluation} {r q : RunProgress State} → EndsAs f n e r → kept.RunsAlike (kept.SuitRound kept.Trails) r q → EndsAs f n e q
 moved (spec.returned b) kept.both_ended = spec.returned b
 moved (spec.threw b) kept.both_ended = spec.threw b
 moved (spec.running b heap) (kept.both_running {s = s} {u = u} z) = spec.running b (let less = trails_need s.around u.around z in omega (arith, heap, less))

@@ -14,8 +14,8 @@ use Rattle.cmm_tree.specs.Symbols.{DefinedSymbol}
 use Rattle.cmm_tree.specs.Tree.{FunctionTree, Parameter}
 use Rattle.cmm_types.specs.Gathered.{comp_faults, params_faults}
 use Rattle.mach_ir.specs.Formed.{comps}
-use Rattle.mach_ir.specs.Sizes.{HasSize, IsSmall}
-use Rattle.selection_rules.specs.Select.{selected, first, comp_of, params_from, seats, width}
+use Rattle.mach_ir.specs.Sizes.{HasSize, IsSmallSize}
+use Rattle.selection_rules.specs.Select.{selected, first_after_colours, comp_of_type, params_from, seats, width}
 use Rattle.selection_laws.proofs.Accepting.{left, right, accepted_fits, holds_if}
 use Rattle.selection_laws.proofs.Proper.{selected_seated}
 use Rattle.selection_laws.proofs.Widths.{few_numbers}
@@ -39,7 +39,7 @@ few_tokens f none = leb-true f.tokens 32000 (holds_if (nat_le f.tokens most_toke
 
 -- ---- parameters
 
-no_float : (c : Comp) (at : ℕ) → Faultless (comp_faults c at) → comp_of (type_of_comp c) ≡ c
+no_float : (c : Comp) (at : ℕ) → Faultless (comp_faults c at) → comp_of_type (type_of_comp c) ≡ c
 no_float comp.Int at none = refl
 no_float comp.Val at none = refl
 no_float comp.Addr at none = refl
@@ -80,7 +80,7 @@ sized f covered =
       labels = omega (arith, labels, narrow);
     }
 
-size_small : (tokens : ℕ) → tokens ≤ 32000 → IsSmall (size_by tokens)
+size_small : (tokens : ℕ) → tokens ≤ 32000 → IsSmallSize (size_by tokens)
 size_small tokens few = record { places = omega (arith, few); operands = omega (arith, few); registers = omega (arith, few); labels = omega (arith, few) }
 
 -- ---- the promise
@@ -94,7 +94,7 @@ promised defined f is =
     let narrow = narrow_body f covered in
     record {
       name = refl;
-      params = params_comps 0 first (first + length f.params) f.params (left typed);
+      params = params_comps 0 first_after_colours (first_after_colours + length f.params) f.params (left typed);
       result = refl;
       plays = plays_as defined f (omega (arith, narrow, few)) fits typed is.settled;
       formed = selected_well_formed f fits;

@@ -11,11 +11,11 @@ use Rattle.cmm_meaning.specs.Evaluation.{Evaluation, Gives, Raises, Stops, OutOf
 use Rattle.cmm_meaning.specs.Evaluation as evaluation
 use Rattle.cmm_meaning.specs.Setting.{Setting}
 use Rattle.cmm_meaning.specs.State.{Doing, Gave, Threw, Asked, World, Here}
-use Rattle.meaning_laws.specs.Pace.{pending}
+use Rattle.meaning_laws.specs.Pace.{pending_calls}
 use Rattle.meaning_laws.specs.Units.{world_of}
 use Rattle.mach_ir.specs.Keeps.{Proper}
-use Rattle.mach_ir.specs.Meaning.{State, start, run}
-use Rattle.mach_ir.specs.Runs.{Place, Tally, Run, Running, Asking, Ended, first_tally}
+use Rattle.mach_ir.specs.Meaning.{State, mach_start, run_of_mach}
+use Rattle.mach_ir.specs.Runs.{ActivationSetting, Tally, RunProgress, Running, Asking, Ended, first_tally}
 use Rattle.mach_ir.specs.declared.mach.Mach.{Mach}
 use Rattle.selection_rules.specs.Bounded.{AllBounded, BoundedMemory, BoundedDoings, BoundedSymbols}
 
@@ -30,12 +30,12 @@ pub record Beside (f : FunctionTree) (n : ℕ) (e : Evaluation) (t : Tally) : Ty
   pub need : t.need ≡ (world_of e).stack_need
   -- it has spent at most one unit for each node that has begun, and has one left for a call that it
   -- asks for
-  pub no_more : t.units + (pending e + (world_of e).left) ≤ n
+  pub no_more : t.units + (pending_calls e + (world_of e).left) ≤ n
   -- between two units no more nodes begin than the body has
   pub enough : n ≤ (world_of e).left + nodes_in f.body * suc t.units
 
 -- a run has come to the end of an evaluation
-pub data EndsAs (f : FunctionTree) (n : ℕ) : Evaluation → Run State → Type 0 where
+pub data EndsAs (f : FunctionTree) (n : ℕ) : Evaluation → RunProgress State → Type 0 where
   returned : {v : Option Value} {h : Here} {w : World} {t : Tally} →
       Beside f n (Gives v h w) t → EndsAs f n (Gives v h w) (Ended (Gave v w.memory) t)
   threw : {v : Value} {h : Here} {w : World} {t : Tally} →
@@ -49,25 +49,25 @@ pub data EndsAs (f : FunctionTree) (n : ℕ) : Evaluation → Run State → Type
       EndsAs f n (Stops (evaluation.Asking call) w) (Asking call t)
 
 -- the evaluation of a function alone, at a place
-abbrev pub evaluated : Place → FunctionTree → List Value → Memory → List Doing → ℕ → Evaluation
+abbrev pub evaluated : ActivationSetting → FunctionTree → List Value → Memory → List Doing → ℕ → Evaluation
 evaluated c f arguments memory doings n =
     alone c.setting.end c.setting.symbol c.setting.parameters c.frame f arguments c.below memory
     doings n
 
 -- A run of so many steps comes to the end of an evaluation, and is nowhere stuck on the way.
-pub record Comes (c : Place) (f : FunctionTree) (m : Mach) (n : ℕ) (e : Evaluation) (s : State)
+pub record ComesToEnd (c : ActivationSetting) (f : FunctionTree) (m : Mach) (n : ℕ) (e : Evaluation) (s : State)
     (t : Tally) : Type 0 where
   pub steps : ℕ
-  pub ends : EndsAs f n e (run c m steps s t)
+  pub ends : EndsAs f n e (run_of_mach c m steps s t)
   pub proper : Proper c m steps s t
 
 -- The function begins, and where the evaluation is proper it comes to its end.
-pub record Plays (c : Place) (f : FunctionTree) (m : Mach) (arguments : List Value) (memory : Memory)
+pub record Plays (c : ActivationSetting) (f : FunctionTree) (m : Mach) (arguments : List Value) (memory : Memory)
     (doings : List Doing) (n : ℕ) : Type 0 where
   pub begun : State
-  pub begins : start c m arguments memory ≡ Some begun
+  pub begins : mach_start c m arguments memory ≡ Some begun
   pub comes : IsProperEnd (evaluated c f arguments memory doings n) →
-      Comes c f m n (evaluated c f arguments memory doings n) begun (first_tally c doings)
+      ComesToEnd c f m n (evaluated c f arguments memory doings n) begun (first_tally c doings)
 
 -- The symbols of a file stand for words and functions, and its data holds the block that a failed
 -- bound test raises.
@@ -85,7 +85,7 @@ pub record HoldWords (arguments : List Value) (memory : Memory) (doings : List D
 -- number of units.
 abbrev pub PlaysAs : FunctionTree → Mach → Type 0
 PlaysAs f m =
-    (c : Place) → IsSetting c.setting → (arguments : List Value) (memory : Memory)
+    (c : ActivationSetting) → IsSetting c.setting → (arguments : List Value) (memory : Memory)
     (doings : List Doing) (n : ℕ) → HoldWords arguments memory doings →
     fit_parameters c.setting.end (comps_of f) arguments ≡ true →
     Plays c f m arguments memory doings n

@@ -14,7 +14,7 @@ use Rattle.mach_ir.specs.Formed.{WellFormed, comps}
 use Rattle.mach_ir.specs.Keeps.{IsNamedIn, NamesSymbol, NamesExternal}
 use Rattle.mach_ir.specs.Placed.{WellPlaced, AllocatesFresh}
 use Rattle.mach_ir.specs.Seats.{Seated}
-use Rattle.mach_ir.specs.Sizes.{Size, HasSize, IsSmall, OpenAtMost}
+use Rattle.mach_ir.specs.Sizes.{Size, HasSize, IsSmallSize, OpenAtMost}
 use Rattle.mach_ir.specs.Walks.{IsRegister, NoAddrLive}
 use Rattle.mach_ir.specs.declared.blocks.NewBlock.{NewBlock}
 use Rattle.mach_ir.specs.declared.mach.Instr.{Instr}
@@ -74,7 +74,7 @@ pub record Selects (f : FunctionTree) (m : Mach) : Type 0 where
   -- offsets are words, and every number fits its type
   pub offsets : All (λ (i : Instr). OffsetFits i.op) m.code
   pub size : HasSize m (size_by f.tokens)
-  pub small : IsSmall (size_by f.tokens)
+  pub small : IsSmallSize (size_by f.tokens)
   -- it names no symbol and no external call that the text does not name
   pub symbols : (name : List ℕ) → IsNamedIn (NamesSymbol name) m → FunctionNames f name
   pub externals : (row : External) → IsNamedIn (NamesExternal row) m → FunctionCalls f row

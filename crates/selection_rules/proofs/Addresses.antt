@@ -19,12 +19,12 @@ use Rattle.meaning_laws.specs.Interaction.{Part, onward, of_type, only_value, wi
 use Rattle.meaning_laws.specs.Interaction as part
 use Rattle.mach_ir.specs.Acts.{moved_by}
 use Rattle.mach_ir.specs.Forms.{is_immediate_12}
-use Rattle.mach_ir.specs.Runs.{Place, Continues}
+use Rattle.mach_ir.specs.Runs.{ActivationSetting, Continues}
 use Rattle.mach_ir.specs.Meaning.{File}
 use Rattle.mach_ir.specs.declared.mach.Instr.{Instr}
 use Rattle.mach_ir.specs.declared.mach.Mach.{Mach}
-use Rattle.selection_rules.specs.Select.{Named, Label, scopes, fresh, ordered, width, is_address_sum, is_based, offset_of, base_of, select, select_base}
-use Rattle.selection_rules.specs.Follow.{text_of, Follows, fails}
+use Rattle.selection_rules.specs.Select.{NamedRegister, Label, scopes, fresh_register, ordered, width, is_address_sum, is_based, offset_of, base_of, select, select_base}
+use Rattle.selection_rules.specs.Follow.{text_setting, FollowsText, fails}
 use Rattle.selection_rules.proofs.Files.{Holds, Under, named_under, Stands}
 use Rattle.selection_rules.proofs.Parts.{Placed, Within, placed_in, Lower, Stable, stable_inner, And, stable_and, at, Level, Outs, of_type_some, node_follows}
 use Rattle.selection_rules.proofs.Operands.{Selected, operand, ready_at, outs_and}
@@ -59,26 +59,26 @@ pub base_moves : (op : IntOp) (s : List ℕ) (w : ℕ) (u : Value) → is_based 
 base_moves op s zero u e = absurd (no_zero (is_address_sum op) (is_immediate_12 0) e)
 base_moves op s (suc w) u e = based_sum op s w u (both_true (is_address_sum op) (is_immediate_12 (suc w) && not (nat_eq (suc w) 0)) e)
 
-module _ (c : Place) (m : Mach) (turns : ℕ) (ts : List ℕ) where
-  abbrev pub whole_code : List Named → List Label → ℕ → ℕ → Expression → List Instr → List Instr
-  whole_code env labels t i e = select env labels false false (fresh t (type_of (scopes env) e)) i e
+module _ (c : ActivationSetting) (m : Mach) (turns : ℕ) (ts : List ℕ) where
+  abbrev pub whole_code : List NamedRegister → List Label → ℕ → ℕ → Expression → List Instr → List Instr
+  whole_code env labels t i e = select env labels false false (fresh_register t (type_of (scopes env) e)) i e
 
   -- the base of an address is in a register
   abbrev pub SelectedAddress : Expression → Type 1
   SelectedAddress e =
-      (B : Type 0) (env : List Named) (labels : List Label) (t b i : ℕ) (next : List Instr) (P : File → Type 0) (go : Value → Here → Memory → Part B) (k : Leaves B → Does) →
+      (B : Type 0) (env : List NamedRegister) (labels : List Label) (t b i : ℕ) (next : List Instr) (P : File → Type 0) (go : Value → Here → Memory → Part B) (k : Leaves B → Does) →
       width e < 2 ^ 60 → Lower b labels → Under b env → 21 ≤ b → b ≤ t → t < i → Stable env i t P → Placed m ts (select_base env labels t i e (whole_code env labels t i e) next) →
       Outs c m turns ts env labels P k → (h : Here) (f : File) (memory : Memory) → Level c m turns ts h → Stands env h.names f → P f →
-      ((u : Value) (h : Here) (f : File) (memory : Memory) → Level c m turns ts h → Stands env h.names f → P f → Holds (fresh t (type_of (scopes env) (base_of e))) u f →
-      Follows c m (go (moved_by (offset_of e) u) h memory k) (Continues (at c m turns ts next f memory))) →
-      Follows c m (with_value (does (text_of c) turns e false h memory) go k) (Continues (at c m turns ts (select_base env labels t i e (whole_code env labels t i e) next) f memory))
+      ((u : Value) (h : Here) (f : File) (memory : Memory) → Level c m turns ts h → Stands env h.names f → P f → Holds (fresh_register t (type_of (scopes env) (base_of e))) u f →
+      FollowsText c m (go (moved_by (offset_of e) u) h memory k) (Continues (at c m turns ts next f memory))) →
+      FollowsText c m (with_value (does (text_setting c) turns e false h memory) go k) (Continues (at c m turns ts (select_base env labels t i e (whole_code env labels t i e) next) f memory))
 
   pub whole_address : (e : Expression) → Selected c m turns ts e →
-      (B : Type 0) (env : List Named) (labels : List Label) (t b i : ℕ) (next : List Instr) (P : File → Type 0) (go : Value → Here → Memory → Part B) (k : Leaves B → Does) →
+      (B : Type 0) (env : List NamedRegister) (labels : List Label) (t b i : ℕ) (next : List Instr) (P : File → Type 0) (go : Value → Here → Memory → Part B) (k : Leaves B → Does) →
       width e < 2 ^ 60 → Lower b labels → Under b env → 21 ≤ b → b ≤ t → t < i → Stable env i t P → Placed m ts (whole_code env labels t i e next) →
       Outs c m turns ts env labels P k → (h : Here) (f : File) (memory : Memory) → Level c m turns ts h → Stands env h.names f → P f →
-      ((u : Value) (h : Here) (f : File) (memory : Memory) → Level c m turns ts h → Stands env h.names f → P f → Holds (fresh t (type_of (scopes env) e)) u f → Follows c m (go u h memory k) (Continues (at c m turns ts next f memory))) →
-      Follows c m (with_value (does (text_of c) turns e false h memory) go k) (Continues (at c m turns ts (whole_code env labels t i e next) f memory))
+      ((u : Value) (h : Here) (f : File) (memory : Memory) → Level c m turns ts h → Stands env h.names f → P f → Holds (fresh_register t (type_of (scopes env) e)) u f → FollowsText c m (go u h memory k) (Continues (at c m turns ts next f memory))) →
+      FollowsText c m (with_value (does (text_setting c) turns e false h memory) go k) (Continues (at c m turns ts (whole_code env labels t i e next) f memory))
   whole_address e se B env labels t b i next P go k fine lower under first bt ti stable placed outs h f memory level s p on =
       operand c m turns ts e se fine t i next go k (ready_at c m turns ts (type_of (scopes env) e) t i lower under first bt ti) stable placed outs h f memory level s p
       (λ u h f memory level s p fu hu. on u h f memory level s p hu)
@@ -88,16 +88,16 @@ module _ (c : Place) (m : Mach) (turns : ℕ) (ts : List ℕ) where
     sum = Operator place op base (Integer place' w)
 
     based_address : is_based op w ≡ true → Selected c m turns ts base →
-        (B : Type 0) (env : List Named) (labels : List Label) (t b i : ℕ) (next : List Instr) (P : File → Type 0) (go : Value → Here → Memory → Part B) (k : Leaves B → Does) →
+        (B : Type 0) (env : List NamedRegister) (labels : List Label) (t b i : ℕ) (next : List Instr) (P : File → Type 0) (go : Value → Here → Memory → Part B) (k : Leaves B → Does) →
         width sum < 2 ^ 60 → Lower b labels → Under b env → 21 ≤ b → b ≤ t → t < i → Stable env i t P → Placed m ts (whole_code env labels t i base next) →
         Outs c m turns ts env labels P k → (h : Here) (f : File) (memory : Memory) → Level c m turns ts h → Stands env h.names f → P f →
-        ((u : Value) (h : Here) (f : File) (memory : Memory) → Level c m turns ts h → Stands env h.names f → P f → Holds (fresh t (type_of (scopes env) base)) u f →
-        Follows c m (go (moved_by w u) h memory k) (Continues (at c m turns ts next f memory))) →
-        Follows c m (with_value (does (text_of c) turns sum false h memory) go k) (Continues (at c m turns ts (whole_code env labels t i base next) f memory))
+        ((u : Value) (h : Here) (f : File) (memory : Memory) → Level c m turns ts h → Stands env h.names f → P f → Holds (fresh_register t (type_of (scopes env) base)) u f →
+        FollowsText c m (go (moved_by w u) h memory k) (Continues (at c m turns ts next f memory))) →
+        FollowsText c m (with_value (does (text_setting c) turns sum false h memory) go k) (Continues (at c m turns ts (whole_code env labels t i base next) f memory))
     based_address is sb B env labels t b i next P go k fine lower under first bt ti stable placed outs h f memory level s p on =
         node_follows c m turns ts sum h memory
-        (both (is_left_first (scope h) base (Integer place' w)) (does (text_of c) turns base false) (does (text_of c) turns (Integer place' w) false) h memory step) taking _ s
-        (constant_operand c m turns place' w h memory (λ x h memory. with_value (does (text_of c) turns base false h memory) (λ v h memory. step v x h memory)) kk _ refl
+        (both (is_left_first (scope h) base (Integer place' w)) (does (text_setting c) turns base false) (does (text_setting c) turns (Integer place' w) false) h memory step) taking _ s
+        (constant_operand c m turns place' w h memory (λ x h memory. with_value (does (text_setting c) turns base false h memory) (λ v h memory. step v x h memory)) kk _ refl
         (operand c m turns ts base sb (omega (arith, fine)) t i next (λ v h memory. step v (Word w) h memory) kk
         (ready_at c m turns ts (type_of (scopes env) base) t i lower under first bt ti) stable placed
         (record { exit = λ l values h f memory level r p. outs.exit l values h f memory level r p; raising = λ v fv h f memory level r p. outs.raising v fv h f memory level r p }) h f memory level s p
@@ -112,8 +112,8 @@ module _ (c : Place) (m : Mach) (turns : ℕ) (ts : List ℕ) where
         step : Value → Value → Here → Memory → Part (Option Value)
         step = λ v x h memory. proper (apply op (sizes memory) v x) memory (λ u. part.gives (Some u) h memory)
 
-        by : (u : Value) (h : Here) (f : File) (memory : Memory) → Level c m turns ts h → Stands env h.names f → P f → Holds (fresh t (type_of (scopes env) base)) u f → (r : Result Value Kind) → Moved (moved_by w u) r →
-            Follows c m (proper r memory (λ v. part.gives (Some v) h memory) kk) (Continues (at c m turns ts next f memory))
+        by : (u : Value) (h : Here) (f : File) (memory : Memory) → Level c m turns ts h → Stands env h.names f → P f → Holds (fresh_register t (type_of (scopes env) base)) u f → (r : Result Value Kind) → Moved (moved_by w u) r →
+            FollowsText c m (proper r memory (λ v. part.gives (Some v) h memory) kk) (Continues (at c m turns ts next f memory))
         by u h f memory level s p hu r improper = fails
         by u h f memory level s p hu r moved =
             of_type_some c m turns ts taking (Continues (at c m turns ts next f memory)) (type_of (scopes env) sum) (moved_by w u) h memory (λ fit'. on u h f memory level s p hu) (λ none'. fails)
@@ -122,27 +122,27 @@ module _ (c : Place) (m : Mach) (turns : ℕ) (ts : List ℕ) where
     sum_address sb ss B env labels t b i next P go k fine lower under first bt ti stable placed outs h f memory level s p on = by (is_based op w) refl placed on
       where
         by : (q : Bool) → is_based op w ≡ q → Placed m ts (cond q (whole_code env labels t i base next) (whole_code env labels t i sum next)) →
-            ((u : Value) (h : Here) (f : File) (memory : Memory) → Level c m turns ts h → Stands env h.names f → P f → Holds (fresh t (type_of (scopes env) (cond q base sum))) u f →
-            Follows c m (go (moved_by (cond q w 0) u) h memory k) (Continues (at c m turns ts next f memory))) →
-            Follows c m (with_value (does (text_of c) turns sum false h memory) go k) (Continues (at c m turns ts (cond q (whole_code env labels t i base next) (whole_code env labels t i sum next)) f memory))
+            ((u : Value) (h : Here) (f : File) (memory : Memory) → Level c m turns ts h → Stands env h.names f → P f → Holds (fresh_register t (type_of (scopes env) (cond q base sum))) u f →
+            FollowsText c m (go (moved_by (cond q w 0) u) h memory k) (Continues (at c m turns ts next f memory))) →
+            FollowsText c m (with_value (does (text_setting c) turns sum false h memory) go k) (Continues (at c m turns ts (cond q (whole_code env labels t i base next) (whole_code env labels t i sum next)) f memory))
         by true is placed on = based_address is sb B env labels t b i next P go k fine lower under first bt ti stable placed outs h f memory level s p on
         by false is placed on = whole_address sum ss B env labels t b i next P go k fine lower under first bt ti stable placed outs h f memory level s p on
 
   -- an address and another operand, in the order in which they are evaluated
-  pub address_two : {B : Type 0} {env : List Named} {labels : List Label} {b d : ℕ} {P : File → Type 0} (left_first : Bool) (left e : Expression) → SelectedAddress left → Selected c m turns ts e → width left < 2 ^ 60 → width e < 2 ^ 60 →
+  pub address_two : {B : Type 0} {env : List NamedRegister} {labels : List Label} {b d : ℕ} {P : File → Type 0} (left_first : Bool) (left e : Expression) → SelectedAddress left → Selected c m turns ts e → width left < 2 ^ 60 → width e < 2 ^ 60 →
       (nx ny ix iy : ℕ) (next : List Instr) (go : Value → Value → Here → Memory → Part B) (k : Leaves B → Does) → Lower b labels → Under b env → 21 ≤ b → Stable env b d P →
       b ≤ nx → b ≤ ny → nx < ix → ny < iy → nx < iy → ny < ix → (nx ≡ ny → ⊥) →
       ((rest : List Instr) → Within rest (select_base env labels nx ix left (whole_code env labels nx ix left) rest)) →
       ((rest : List Instr) → Within rest (whole_code env labels ny iy e rest)) →
       Placed m ts (ordered left_first (select_base env labels nx ix left (whole_code env labels nx ix left)) (whole_code env labels ny iy e) next) →
       Outs c m turns ts env labels P k → (h : Here) (f : File) (memory : Memory) → Level c m turns ts h → Stands env h.names f → P f →
-      ((u w : Value) (h : Here) (f : File) (memory : Memory) → Level c m turns ts h → Stands env h.names f → P f → Holds (fresh nx (type_of (scopes env) (base_of left))) u f → Holds (fresh ny (type_of (scopes env) e)) w f →
-      Follows c m (go (moved_by (offset_of left) u) w h memory k) (Continues (at c m turns ts next f memory))) →
-      Follows c m (both left_first (does (text_of c) turns left false) (does (text_of c) turns e false) h memory go k)
+      ((u w : Value) (h : Here) (f : File) (memory : Memory) → Level c m turns ts h → Stands env h.names f → P f → Holds (fresh_register nx (type_of (scopes env) (base_of left))) u f → Holds (fresh_register ny (type_of (scopes env) e)) w f →
+      FollowsText c m (go (moved_by (offset_of left) u) w h memory k) (Continues (at c m turns ts next f memory))) →
+      FollowsText c m (both left_first (does (text_setting c) turns left false) (does (text_setting c) turns e false) h memory go k)
       (Continues (at c m turns ts (ordered left_first (select_base env labels nx ix left (whole_code env labels nx ix left)) (whole_code env labels ny iy e) next) f memory))
   address_two {B} {env} {labels} {b} {d} {P} false left e sl se fl fe nx ny ix iy next go k lower under first stable bx by' xx yy xy yx apart el er placed outs h f memory level s p on =
-      let y = fresh ny (type_of (scopes env) e) in
-      operand c m turns ts e se fe ny iy (select_base env labels nx ix left (whole_code env labels nx ix left) next) (λ w h memory. with_value (does (text_of c) turns left false h memory) (λ v h memory. go v w h memory)) k
+      let y = fresh_register ny (type_of (scopes env) e) in
+      operand c m turns ts e se fe ny iy (select_base env labels nx ix left (whole_code env labels nx ix left) next) (λ w h memory. with_value (does (text_setting c) turns left false h memory) (λ v h memory. go v w h memory)) k
       (ready_at c m turns ts (type_of (scopes env) e) ny iy lower under first by' yy) (stable_inner ny iy by' (omega (arith, by', yy)) stable) placed outs h f memory level s p
       (λ w h f memory level s p fw hw.
       sl B env labels nx b ix next (And P y w) (λ v h memory. go v w h memory) k fl lower under first bx xx
@@ -150,8 +150,8 @@ module _ (c : Place) (m : Mach) (turns : ℕ) (ts : List ℕ) where
       (placed_in (er (select_base env labels nx ix left (whole_code env labels nx ix left) next)) placed) (outs_and c m turns ts y w outs) h f memory level s (record { rest = p; holds = hw })
       (λ u h f memory level s p hu. on u w h f memory level s p.rest hu p.holds))
   address_two {B} {env} {labels} {b} {d} {P} true left e sl se fl fe nx ny ix iy next go k lower under first stable bx by' xx yy xy yx apart el er placed outs h f memory level s p on =
-      let x = fresh nx (type_of (scopes env) (base_of left)) in
-      sl B env labels nx b ix (whole_code env labels ny iy e next) P (λ v h memory. with_value (does (text_of c) turns e false h memory) (λ w h memory. go v w h memory)) k fl lower under first bx xx
+      let x = fresh_register nx (type_of (scopes env) (base_of left)) in
+      sl B env labels nx b ix (whole_code env labels ny iy e next) P (λ v h memory. with_value (does (text_setting c) turns e false h memory) (λ w h memory. go v w h memory)) k fl lower under first bx xx
       (stable_inner nx ix bx (omega (arith, bx, xx)) stable) placed outs h f memory level s p
       (λ u h f memory level s p hu.
       operand c m turns ts {P = And P x u} e se fe ny iy next (λ w h memory. go (moved_by (offset_of left) u) w h memory) k

@@ -18,13 +18,13 @@ use Rattle.meaning_laws.specs.Interaction.{onward, of_type, proper, does, waitin
 use Rattle.mach_ir.specs.declared.reg.Reg.{Reg}
 use Rattle.mach_ir.specs.declared.mach.Instr.{Instr}
 use Rattle.mach_ir.specs.declared.mach.Mach.{Mach}
-use Rattle.mach_ir.specs.Runs.{Place, Continues}
-use Rattle.mach_ir.specs.Meaning.{State, File, with_held, on_act, put}
-use Rattle.mach_ir.specs.Acts.{Around, Goes, On, moved_by, access_act, stored_act, first_written, header_written, after_store, only_if, is_among, without, same_cell, cells_from}
-use Rattle.selection_rules.specs.Kept.{on_values}
-use Rattle.selection_rules.specs.Select.{Named, Label, scopes, fresh, inner_valued, inner_dest, regs_of, chunk_for, cell_stores, select, select_filled, width, header_offset}
+use Rattle.mach_ir.specs.Runs.{ActivationSetting, Continues}
+use Rattle.mach_ir.specs.Meaning.{State, File, with_held, on_act, assign_register}
+use Rattle.mach_ir.specs.Acts.{Around, Goes, On, moved_by, access_act, stored_act, first_written, header_written, after_store, stuck_unless, is_among_cells, without, same_cell, cells_from}
+use Rattle.selection_rules.specs.Kept.{on_lossless_values}
+use Rattle.selection_rules.specs.Select.{NamedRegister, Label, scopes, fresh_register, inner_valued, inner_dest, regs_of, chunk_for, cell_stores, select, select_filled, width, header_offset}
 use Rattle.cmm_tree.specs.Measures.{count_of}
-use Rattle.selection_rules.specs.Follow.{Follows, walks, fails}
+use Rattle.selection_rules.specs.Follow.{FollowsText, walks, fails}
 use Rattle.selection_rules.proofs.Files.{Holds, put_same, holds_put, under_more, named_under, IsNamed, Stands, stands_put}
 use Rattle.selection_rules.proofs.Parts.{Placed, lower_more, Stable, stable_inner, new, And, stable_and, at, Level, any, After, after_typed, node_follows, Ready, lands}
 use Rattle.selection_rules.proofs.Leaves.{ready_inner, stable_dest, move_follows}
@@ -37,7 +37,7 @@ use Rattle.mach_ir.specs.declared.op.Access.TheVariants as access
 use Rattle.meaning_laws.specs.Interaction as part
 use Rattle.selection_rules.proofs.Rows as rows
 use Rattle.selection_rules.specs.Instructions as emit
-use Rattle.selection_rules.specs.Follow.{text_of}
+use Rattle.selection_rules.specs.Follow.{text_setting}
 
 -- ---- blocks
 
@@ -61,7 +61,7 @@ not_same i j apart = by (nat_eq i j) refl
 other_block : (s i j : ℕ) → (i ≡ j → ⊥) → same_cell (InBlock s i) (InBlock s j) ≡ false
 other_block s i j apart = ap (λ b. b && nat_eq i j) (same_nat s) ∙ not_same i j apart
 
-no_header : (s i k : ℕ) → is_among (InHeader s) (cells_from s i k) ≡ false
+no_header : (s i k : ℕ) → is_among_cells (InHeader s) (cells_from s i k) ≡ false
 no_header s i zero = refl
 no_header s i (suc k) = no_header s (suc i) k
 
@@ -137,7 +137,7 @@ module _ (m0 : Memory) (header : ℕ) where
         ∙ ap (λ b. cond b (Ok (with_value (mem cells) (InBlock s i) v)) (Err (misfit T))) fv
         ∙ ap Ok (with_is done zs v)
 
-    module _ (c : Place) (m : Mach) (turns : ℕ) (ts : List ℕ) (x : Does) (next : List Instr) (f : File) (p : Reg) (its : Holds p (Block s 0) f) where
+    module _ (c : ActivationSetting) (m : Mach) (turns : ℕ) (ts : List ℕ) (x : Does) (next : List Instr) (f : File) (p : Reg) (its : Holds p (Block s 0) f) where
       abbrev round : List Value → List Cell → Around
       round cells unwritten = record { memory = mem cells; unwritten = unwritten; tries = ts; raised = None }
 
@@ -153,15 +153,15 @@ module _ (m0 : Memory) (header : ℕ) where
           ap (λ y. stored_act k a (cell_at (mem cells) (memory_of.width k) y) y v) (moved_small s (8 * i) (omega (arith, small, less)))
           ∙ ap (λ w. stored_act k a (cell_at (mem cells) w place) place v) wide
           ∙ ap (λ o. stored_act k a o place v) (cell_is cells i less small)
-          ∙ ap (λ b. cond (b || is_among (InBlock s i) u) (first_written k a (InBlock s i) place v) (after_store a (InBlock s i ∷ u) (stored k (mem cells) place v))) (same_block s i)
-          ∙ ap (λ w. only_if (nat_eq w 8) (after_store a (without (InBlock s i) (InBlock s i ∷ u)) (stored k (mem cells) place v))) wide
+          ∙ ap (λ b. cond (b || is_among_cells (InBlock s i) u) (first_written k a (InBlock s i) place v) (after_store a (InBlock s i ∷ u) (stored k (mem cells) place v))) (same_block s i)
+          ∙ ap (λ w. stuck_unless (nat_eq w 8) (after_store a (without (InBlock s i) (InBlock s i ∷ u)) (stored k (mem cells) place v))) wide
           ∙ ap (λ b. after_store a (cond b (without (InBlock s i) u) (InBlock s i ∷ without (InBlock s i) u)) (stored k (mem cells) place v)) (same_block s i)
           ∙ ap (λ w. after_store a w (stored k (mem cells) place v)) (without_lower s i (suc i) n (omega arith))
           ∙ ap (λ r. after_store a u r) (stored_is done zs v small less fv)
 
       stores_follow : (rs : List Reg) (vs done : List Value) → Row c.setting.end f rs (map Some vs) → all_fit (end_of_data m0) T vs ≡ true → 8 * (length done + length vs) < 2 ^ 63 →
-          Follows c m x (Continues (record { rest = next; file = f; around = round (done ++ vs) [] })) →
-          Follows c m x (Continues (record { rest = cell_stores k p (length done) rs next; file = f; around = round (done ++ replicate (length vs) (Word 0)) (cells_from s (length done) (length vs)) }))
+          FollowsText c m x (Continues (record { rest = next; file = f; around = round (done ++ vs) [] })) →
+          FollowsText c m x (Continues (record { rest = cell_stores k p (length done) rs next; file = f; around = round (done ++ replicate (length vs) (Word 0)) (cells_from s (length done) (length vs)) }))
       stores_follow [] [] done row fit small follows = follows
       stores_follow [] (v ∷ vs) done row fit small follows = elim row [ ]
       stores_follow (r ∷ rs) [] done row fit small follows = elim row [ ]
@@ -171,18 +171,18 @@ module _ (m0 : Memory) (header : ℕ) where
           let done' = done ++ v ∷ [] in
           let longer : length done' ≡ suc (length done) = (let e = length-append done (v ∷ []) in omega (arith, e)) in
           let cells : done' ++ zs ≡ done ++ v ∷ zs = append_assoc done (v ∷ []) zs in
-          let rest : Follows c m x (Continues (record { rest = cell_stores k p (length done') rs next; file = f; around = round (done' ++ zs) (cells_from s (length done') (length vs)) })) =
+          let rest : FollowsText c m x (Continues (record { rest = cell_stores k p (length done') rs next; file = f; around = round (done' ++ zs) (cells_from s (length done') (length vs)) })) =
           stores_follow rs vs done' row (both_right (fits (end_of_data m0) T v) (all_fit (end_of_data m0) T vs) fit) (omega (arith, small, longer))
-          (subst (λ cs. Follows c m x (Continues (record { rest = next; file = f; around = round cs [] }))) (sym (append_assoc done (v ∷ []) vs)) follows) in
+          (subst (λ cs. FollowsText c m x (Continues (record { rest = next; file = f; around = round cs [] }))) (sym (append_assoc done (v ∷ []) vs)) follows) in
           let instr : Instr = emit.store k (8 * length done) p r in
           let code = cell_stores k p (suc (length done)) rs next in
           let a = round (done ++ Word 0 ∷ zs) (cells_from s (length done) (suc (length vs))) in
-          walks (subst (λ o. Follows c m x (on_values c m instr code f a (with_held o (with_held (f r.number) (Some []))))) (sym its.is)
-          (subst (λ o. Follows c m x (on_values c m instr code f a (with_held (Some (record { comp = p.comp; value = Block s 0 })) (with_held o (Some []))))) (sym hr.is)
-          (subst (λ y. Follows c m x (on_act c m instr code f a y))
+          walks (subst (λ o. FollowsText c m x (on_lossless_values c m instr code f a (with_held o (with_held (f r.number) (Some []))))) (sym its.is)
+          (subst (λ o. FollowsText c m x (on_lossless_values c m instr code f a (with_held (Some (record { comp = p.comp; value = Block s 0 })) (with_held o (Some []))))) (sym hr.is)
+          (subst (λ y. FollowsText c m x (on_act c m instr code f a y))
           (sym (store_act done zs v (length vs) (omega (arith, small, long)) (omega (arith, long)) (both_left (fits (end_of_data m0) T v) (all_fit (end_of_data m0) T vs) fit)))
-          (subst (λ cs. Follows c m x (Continues (record { rest = code; file = f; around = round cs (cells_from s (suc (length done)) (length vs)) }))) cells
-          (subst (λ n. Follows c m x (Continues (record { rest = cell_stores k p n rs next; file = f; around = round (done' ++ zs) (cells_from s n (length vs)) }))) longer rest)))))
+          (subst (λ cs. FollowsText c m x (Continues (record { rest = code; file = f; around = round cs (cells_from s (suc (length done)) (length vs)) }))) cells
+          (subst (λ n. FollowsText c m x (Continues (record { rest = cell_stores k p n rs next; file = f; around = round (done' ++ zs) (cells_from s n (length vs)) }))) longer rest)))))
         where
           both_left : (a b : Bool) → a && b ≡ true → a ≡ true
           both_left true b e = refl
@@ -218,16 +218,16 @@ module _ (m0 : Memory) (header : ℕ) (ts : List ℕ) where
       let v = Word header in
       ap (λ y. stored_act chunk.Int a (cell_at (mem m0 header cells) 8 y) y v) (moved_small its header_offset (omega arith))
       ∙ ap (λ o. stored_act chunk.Int a o place v) (header_cell cells small)
-      ∙ ap (λ b. cond (b || is_among (InHeader its) u) (first_written chunk.Int a (InHeader its) place v) (after_store a (InHeader its ∷ u) (stored chunk.Int (mem m0 header cells) place v))) (same_nat its)
+      ∙ ap (λ b. cond (b || is_among_cells (InHeader its) u) (first_written chunk.Int a (InHeader its) place v) (after_store a (InHeader its ∷ u) (stored chunk.Int (mem m0 header cells) place v))) (same_nat its)
       ∙ ap (λ (b : HeapBlock). header_written chunk.Int a its (Word b.header) v) (block_is m0 header cells)
-      ∙ ap (λ b. only_if b (Goes [] On (around_of (mem m0 header cells) (without (InHeader its) (InHeader its ∷ u))))) (same_nat header)
+      ∙ ap (λ b. stuck_unless b (Goes [] On (around_of (mem m0 header cells) (without (InHeader its) (InHeader its ∷ u))))) (same_nat header)
       ∙ ap (λ b. Goes [] On (around_of (mem m0 header cells) (cond b (without (InHeader its) u) (InHeader its ∷ without (InHeader its) u)))) (same_nat its)
       ∙ ap (λ w. Goes [] On (around_of (mem m0 header cells) w)) (without_header its 0 n)
 
 -- ---- the form
 
-module _ (c : Place) (m : Mach) (turns : ℕ) (ts : List ℕ) where
-  module _ (place header_at header : ℕ) (operands : Expressions) (env : List Named) (labels : List Label) (valued tail : Bool) (d : Reg) (b : ℕ) (next : List Instr) (P : File → Type 0) (k : Leaves (Option Value) → Does) where
+module _ (c : ActivationSetting) (m : Mach) (turns : ℕ) (ts : List ℕ) where
+  module _ (place header_at header : ℕ) (operands : Expressions) (env : List NamedRegister) (labels : List Label) (valued tail : Bool) (d : Reg) (b : ℕ) (next : List Instr) (P : File → Type 0) (k : Leaves (Option Value) → Does) where
     abbrev T : Ty
     T = type_of (scopes env) (Alloc place header_at header operands)
 
@@ -235,10 +235,10 @@ module _ (c : Place) (m : Mach) (turns : ℕ) (ts : List ℕ) where
     kk = λ l. onward (λ v h memory. of_type c.setting.end T v h memory) l k
 
     abbrev p : Reg
-    p = fresh (suc b) ty.Val
+    p = fresh_register (suc b) ty.Val
 
     abbrev q : Reg
-    q = fresh (suc (suc b)) ty.Int
+    q = fresh_register (suc (suc b)) ty.Int
 
     abbrev row : ℕ
     row = suc (suc (suc b))
@@ -274,7 +274,7 @@ module _ (c : Place) (m : Mach) (turns : ℕ) (ts : List ℕ) where
     cells_follow : (chosen : Bool) → type_of_cells header ≡ cond chosen ty.Val ty.Int → Ready c m turns ts env labels b d → Stable env b d.number P → After c m turns ts None env labels (inner_valued valued T) tail (inner_dest T b d) next P kk →
         8 * count_of operands < 2 ^ 63 → (vs : List Value) (h : Here) (f : File) (memory : Memory) → Level c m turns ts h → Stands env h.names f → P f → Holds p (Block (length memory.blocks) 0) f → Row c.setting.end f regs (map Some vs) →
         length vs ≡ count_of operands → (g : Bool) → all_fit (end_of_data memory) (type_of_cells header) vs ≡ g →
-        Follows c m (proper (cond g (Ok (mem memory header vs)) (Err (misfit (type_of_cells header)))) memory (λ after. part.gives (Some (next_block memory)) h after) kk)
+        FollowsText c m (proper (cond g (Ok (mem memory header vs)) (Err (misfit (type_of_cells header)))) memory (λ after. part.gives (Some (next_block memory)) h after) kk)
         (Continues (record {
           rest = cell_stores (chunk_for chosen) p 0 regs last_code;
           file = f;
@@ -283,10 +283,10 @@ module _ (c : Place) (m : Mach) (turns : ℕ) (ts : List ℕ) where
     cells_follow chosen ct ready stable a small vs h f memory level s z hp row' long false fit = fails
     cells_follow chosen ct ready stable a small vs h f memory level s z hp row' long true fit = by chosen ct
       where
-        landed : Follows c m (kk (Giving (Some (next_block memory)) h (mem memory header vs))) (Continues (record { rest = last_code; file = f; around = record { memory = mem memory header vs; unwritten = []; tries = ts; raised = None } }))
+        landed : FollowsText c m (kk (Giving (Some (next_block memory)) h (mem memory header vs))) (Continues (record { rest = last_code; file = f; around = record { memory = mem memory header vs; unwritten = []; tries = ts; raised = None } }))
         landed = move_follows c m turns ts hp (lands c m turns ts (ready_inner c m turns ts T ready) (stable_dest c m turns ts d T stable) a (next_block memory) h f (mem memory header vs) level s z any)
 
-        by : (chosen : Bool) → type_of_cells header ≡ cond chosen ty.Val ty.Int → Follows c m (kk (Giving (Some (next_block memory)) h (mem memory header vs)))
+        by : (chosen : Bool) → type_of_cells header ≡ cond chosen ty.Val ty.Int → FollowsText c m (kk (Giving (Some (next_block memory)) h (mem memory header vs)))
             (Continues (record {
               rest = cell_stores (chunk_for chosen) p 0 regs last_code;
               file = f;
@@ -302,15 +302,15 @@ module _ (c : Place) (m : Mach) (turns : ℕ) (ts : List ℕ) where
     -- from the allocation on
     block_follows : width (Alloc place header_at header operands) < 2 ^ 60 → Ready c m turns ts env labels b d → Stable env b d.number P → After c m turns ts None env labels (inner_valued valued T) tail (inner_dest T b d) next P kk →
         (before : List (Option Value)) (h : Here) (f : File) (memory : Memory) → Level c m turns ts h → Stands env h.names f → P f → Row c.setting.end f regs before → rows.Matches env operands before →
-        Follows c m (part.and_then (filled (text_of c) turns operands before h memory) (λ vs h memory. proper (allocated memory header vs) memory (λ after. part.gives (Some (next_block memory)) h after)) kk)
+        FollowsText c m (part.and_then (filled (text_setting c) turns operands before h memory) (λ vs h memory. proper (allocated memory header vs) memory (λ after. part.gives (Some (next_block memory)) h after)) kk)
         (Continues (at c m turns ts alloc_code f memory))
     block_follows fine ready stable a before h f memory level s z row' matches =
         let first : 21 ≤ b = let less = ready.below in let le = ready.first in omega (arith, less, le) in
         let small : 8 * count_of operands < 2 ^ 63 = (let le = count_width operands in omega (arith, le, fine)) in
         let block : Value = Block (length memory.blocks) 0 in
         let n = count_of operands in
-        let f1 : File = put p block f in
-        let f2 : File = put q (Word header) f1 in
+        let f1 : File = assign_register p block f in
+        let f2 : File = assign_register q (Word header) f1 in
         let unnamed : (j : ℕ) → b ≤ j → IsNamed j env → ⊥ = λ j le i. let low = named_under ready.under i in omega (arith, low, le) in
         let s2 = stands_put q (Word header) (unnamed (suc (suc b)) (omega arith)) (stands_put p block (unnamed (suc b) (omega arith)) s) in
         let z2 = stable.puts q (Word header) f1 (new (omega arith)) (stable.puts p block f (new (omega arith)) z) in
@@ -319,7 +319,7 @@ module _ (c : Place) (m : Mach) (turns : ℕ) (ts : List ℕ) where
         let between = between_regs env row base operands (le_refl base) in
         let row2 = row_put {b = row} {i = base} q (Word header) (λ j low high e. omega (arith, low, e)) between (row_put {b = row} {i = base} p block (λ j low high e. omega (arith, low, e)) between row') in
         let a1 : Around = record { memory = mem memory header zeros; unwritten = cells_from (length memory.blocks) 0 n; tries = ts; raised = None } in
-        let x : Does = part.and_then (filled (text_of c) turns operands before h memory) (λ vs h memory. proper (allocated memory header vs) memory (λ after. part.gives (Some (next_block memory)) h after)) kk in
+        let x : Does = part.and_then (filled (text_setting c) turns operands before h memory) (λ vs h memory. proper (allocated memory header vs) memory (λ after. part.gives (Some (next_block memory)) h after)) kk in
         let zl : 8 * length zeros < 2 ^ 63 = (let e = zeros_length n in omega (arith, e, small)) in
         let begun : State = at c m turns ts alloc_code f memory in
         let from_filled : Late c m begun x (Continues (record { rest = filled_part; file = f2; around = a1 })) =
@@ -328,7 +328,7 @@ module _ (c : Place) (m : Mach) (turns : ℕ) (ts : List ℕ) where
         f2 s2 (record { rest = z2; holds = hp }) row2 matches
         (λ vs f s y row3.
         let long : length vs ≡ n = row_length vs row3 ∙ regs_length env row operands in
-        in_time (subst (λ k. Follows c m (proper (allocated memory header vs) memory (λ after. part.gives (Some (next_block memory)) h after) kk)
+        in_time (subst (λ k. FollowsText c m (proper (allocated memory header vs) memory (λ after. part.gives (Some (next_block memory)) h after) kk)
         (Continues (record { rest = cells_code; file = f; around = record { memory = mem memory header (replicate k (Word 0)); unwritten = cells_from (length memory.blocks) 0 k; tries = ts; raised = None } }))) long
         (cells_follow (nat_le (header % 256) 250) refl ready stable a small vs h f memory level s y.rest y.holds row3 long (all_fit (end_of_data memory) (type_of_cells header) vs) refl))) in
         let from_header : Late c m begun x (Continues (record {
@@ -336,9 +336,9 @@ module _ (c : Place) (m : Mach) (turns : ℕ) (ts : List ℕ) where
           file = f2;
           around = record { memory = mem memory header zeros; unwritten = InHeader (length memory.blocks) ∷ cells_from (length memory.blocks) 0 n; tries = ts; raised = None };
         })) =
-        late_walks (subst (λ o. Late c m begun x (on_values c m (emit.store chunk.Int header_offset p q) filled_part f2 (around_of memory header ts (mem memory header zeros) (InHeader (length memory.blocks) ∷ cells_from (length memory.blocks) 0 n))
+        late_walks (subst (λ o. Late c m begun x (on_lossless_values c m (emit.store chunk.Int header_offset p q) filled_part f2 (around_of memory header ts (mem memory header zeros) (InHeader (length memory.blocks) ∷ cells_from (length memory.blocks) 0 n))
         (with_held o (with_held (f2 q.number) (Some []))))) (sym hp.is)
-        (subst (λ o. Late c m begun x (on_values c m (emit.store chunk.Int header_offset p q) filled_part f2 (around_of memory header ts (mem memory header zeros) (InHeader (length memory.blocks) ∷ cells_from (length memory.blocks) 0 n))
+        (subst (λ o. Late c m begun x (on_lossless_values c m (emit.store chunk.Int header_offset p q) filled_part f2 (around_of memory header ts (mem memory header zeros) (InHeader (length memory.blocks) ∷ cells_from (length memory.blocks) 0 n))
         (with_held (Some (record { comp = p.comp; value = block })) (with_held o (Some []))))) (sym hq.is)
         (subst (λ y. Late c m begun x (on_act c m (emit.store chunk.Int header_offset p q) filled_part f2 (around_of memory header ts (mem memory header zeros) (InHeader (length memory.blocks) ∷ cells_from (length memory.blocks) 0 n)) y))
         (sym (header_act memory header ts zeros n zl)) from_filled))) in
@@ -348,13 +348,13 @@ module _ (c : Place) (m : Mach) (turns : ℕ) (ts : List ℕ) where
     pub selected_alloc : SelectedWaiting c m turns ts operands → width (Alloc place header_at header operands) < 2 ^ 60 →
         Ready c m turns ts env labels b d → Stable env b d.number P → Placed m ts (select env labels valued tail d b (Alloc place header_at header operands) next) →
         After c m turns ts (Some T) env labels valued tail d next P k → (h : Here) (f : File) (memory : Memory) → Level c m turns ts h → Stands env h.names f → P f →
-        Follows c m (does (text_of c) turns (Alloc place header_at header operands) tail h memory k) (Continues (at c m turns ts (select env labels valued tail d b (Alloc place header_at header operands) next) f memory))
+        FollowsText c m (does (text_setting c) turns (Alloc place header_at header operands) tail h memory k) (Continues (at c m turns ts (select env labels valued tail d b (Alloc place header_at header operands) next) f memory))
     selected_alloc sw fine ready stable ending after h f memory level s z =
         let first : 21 ≤ b = let less = ready.below in let le = ready.first in omega (arith, less, le) in
         let a = after_typed c m turns ts T b after in
         let o = a.outs in
         node_follows c m turns ts (Alloc place header_at header operands) h memory
-        (part.and_then (waiting (text_of c) turns operands h memory) (λ before h memory. part.and_then (filled (text_of c) turns operands before h memory) (λ vs h memory.
+        (part.and_then (waiting (text_setting c) turns operands h memory) (λ before h memory. part.and_then (filled (text_setting c) turns operands before h memory) (λ vs h memory.
         proper (allocated memory header vs) memory (λ after. part.gives (Some (next_block memory)) h after)))) k _ s
         (sw env labels row base alloc_code P _ (omega (arith, fine)) (lower_more row (omega arith) ready.lower) (under_more row (omega arith) ready.under) (omega (arith, first))
         (stable_inner row row (omega arith) (omega arith) stable) (le_refl base) ending

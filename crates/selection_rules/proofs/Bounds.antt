@@ -37,11 +37,11 @@ use Rattle.mach_ir.specs.declared.mach.MachOp.TheVariants as mach
 use Rattle.mach_ir.specs.declared.mach.Mark.{Mark}
 use Rattle.mach_ir.specs.declared.mach.Mark.TheVariants as mark
 use Rattle.mach_ir.specs.Acts as acts
-use Rattle.mach_ir.specs.Acts.{Around, Target, On, At, Landing, AtLabel, AtHandler, Act, Goes, Pushes, Jumps, Unwinds, Asks, Replaces, Ends, EndsRaising, Stuck, one_result, if_known, pure_act, moved_by, is_among, is_complete, loaded_act, after_store, header_written, first_written, stored_act, with_block, new_blocks, access_act, callee_raises, raised_by, raises, answered, as_list, after_call, after_external, asks, asks_value, asks_callee, calling_act, checked, leaving_act, truth_of, branches, goes_to_case, switched}
-use Rattle.mach_ir.specs.Runs.{Place, entered}
-use Rattle.mach_ir.specs.Meaning.{File, Held, put, put_if, put_all, clear, killed, with_held, values, mark_act, mach_act, has_label, after_label, is_handler_of, from_handler, code_at, at_handler, tries_at, landing_code, wrote, on_act}
+use Rattle.mach_ir.specs.Acts.{Around, Target, On, At, Landing, AtLabel, AtHandler, Act, Goes, Pushes, Jumps, Unwinds, Asks, Replaces, Ends, EndsRaising, Stuck, one_result, if_known, pure_act, moved_by, is_among_cells, is_complete, loaded_act, after_store, header_written, first_written, stored_act, with_block, new_blocks, access_act, callee_raises, raised_by, raise_act, call_answered, as_list, act_after_call, after_external, asks, asks_value, asks_callee, calling_act, checked, leaving_act, truth_of, goes_by_test, goes_to_case, switched}
+use Rattle.mach_ir.specs.Runs.{ActivationSetting, entry_around}
+use Rattle.mach_ir.specs.Meaning.{File, Held, assign_register, put_if, put_all, clear_registers, killed, with_held, values, mark_act, mach_act, has_label, after_label, is_handler_of, from_handler, code_at, at_handler, tries_at, landing_code, wrote, on_act}
 use Rattle.selection_rules.specs.Bounded.{Bounded, AllBounded, MaybeBounded, BoundedResult, BoundedMemory, BoundedFile, BoundedAround, BoundedHeaders, BoundedOp, BoundedCode, BoundedState, BoundedDoing, BoundedStep, BoundedSymbols}
-use Rattle.selection_rules.specs.Kept.{on_values, at_code}
+use Rattle.selection_rules.specs.Kept.{on_lossless_values, at_lossless_code}
 use Rattle.selection_rules.proofs.Words.{apply_bounded, loaded_bounded, BoundedAfter, after, no_after, stored_bounded, new_block_bounded}
 use Rattle.selection_rules.proofs.Plays.{StaysBounded}
 
@@ -50,7 +50,7 @@ use Rattle.selection_rules.proofs.Plays.{StaysBounded}
 pub nothing_held : BoundedFile (λ n. None)
 nothing_held = record { each = λ n h e. absurd (let no' : None ≡ Some h = e in cc) }
 
-put_bounded : (r : Reg) (v : Value) (f : File) → Bounded v → BoundedFile f → BoundedFile (put r v f)
+put_bounded : (r : Reg) (v : Value) (f : File) → Bounded v → BoundedFile f → BoundedFile (assign_register r v f)
 put_bounded r v f b z = record { each = λ n h e. by n h (nat_eq r.number n) e }
   where
     by : (n : ℕ) (h : Held) (t : Bool) → cond t (Some (record { comp = r.comp; value = v })) (f n) ≡ Some h → Bounded h.value
@@ -78,8 +78,8 @@ the_file g (a_file {f = f} z) e = let same : f ≡ g = cc in subst (λ (h : File
 
 -- ---- the entry
 
-pub bounded_begun : (c : Place) (m : Mach) (params : List Reg) (arguments : List Value) (memory : Memory) {g : File} → BoundedCode m.code → AllBounded arguments → BoundedMemory memory →
-    put_all c.setting.end params arguments (λ n. None) ≡ Some g → BoundedState (record { rest = m.code; file = g; around = entered memory })
+pub bounded_begun : (c : ActivationSetting) (m : Mach) (params : List Reg) (arguments : List Value) (memory : Memory) {g : File} → BoundedCode m.code → AllBounded arguments → BoundedMemory memory →
+    put_all c.setting.end params arguments (λ n. None) ≡ Some g → BoundedState (record { rest = m.code; file = g; around = entry_around memory })
 bounded_begun c m params arguments memory {g} constants words cells is =
     record { rest = constants; file = the_file g (put_all_bounded c.setting.end params arguments words nothing_held) is; around = record { memory = cells; raised = tt } }
 
@@ -96,7 +96,7 @@ BoundedAct (Ends d) = BoundedDoing d
 BoundedAct (EndsRaising d) = BoundedDoing d
 BoundedAct Stuck = Unit {0}
 
-only_if_bounded : (t : Bool) (x : Act) → BoundedAct x → BoundedAct (acts.only_if t x)
+only_if_bounded : (t : Bool) (x : Act) → BoundedAct x → BoundedAct (acts.stuck_unless t x)
 only_if_bounded true x b = b
 only_if_bounded false x b = tt
 
@@ -142,7 +142,7 @@ pure_bounded c z (pure.Operator f (right.Constant w)) (v ∷ u ∷ vs) a q p b =
 -- ---- memory
 
 loaded_act_bounded : (a : Around) (cell : Option Cell) (o : Result Value Kind) → BoundedResult o → BoundedAround a → BoundedAct (loaded_act a cell o)
-loaded_act_bounded a (Some cell) o p b = cond_act (is_among cell a.unwritten) Stuck (one_result a o) tt (one_bounded a o p b)
+loaded_act_bounded a (Some cell) o p b = cond_act (is_among_cells cell a.unwritten) Stuck (one_result a o) tt (one_bounded a o p b)
 loaded_act_bounded a None o p b = tt
 
 after_store_bounded : (a : Around) (cells : List Cell) {o : Result Memory Kind} → BoundedAfter o → BoundedAround a → BoundedAct (after_store a cells o)
@@ -171,7 +171,7 @@ first_bounded k a (InStatic l n) x v p b = tt
 stored_act_bounded : (k : Chunk) (a : Around) (cell : Option Cell) (x v : Value) → Bounded v → BoundedAround a → BoundedAct (stored_act k a cell x v)
 stored_act_bounded k a None x v p b = tt
 stored_act_bounded k a (Some cell) x v p b =
-    cond_act (is_among cell a.unwritten) _ _ (first_bounded k a cell x v p b) (after_store_bounded a a.unwritten (stored_bounded k a.memory x v p b.memory) b)
+    cond_act (is_among_cells cell a.unwritten) _ _ (first_bounded k a cell x v p b) (after_store_bounded a a.unwritten (stored_bounded k a.memory x v p b.memory) b)
 
 all_append : (xs ys : List Value) → AllBounded xs → AllBounded ys → AllBounded (xs ++ ys)
 all_append [] ys p q = q
@@ -204,19 +204,19 @@ raised_by_bounded : (v : Value) (a : Around) (tries : List ℕ) → Bounded v �
 raised_by_bounded v a [] p b = (p, b.memory)
 raised_by_bounded v a (l ∷ tries) p b = record { memory = b.memory; raised = p }
 
-raises_bounded : (c : Setting) (v : Value) (a : Around) → Bounded v → BoundedAround a → BoundedAct (raises c v a)
+raises_bounded : (c : Setting) (v : Value) (a : Around) → Bounded v → BoundedAround a → BoundedAct (raise_act c v a)
 raises_bounded c v a p b = only_if_bounded _ _ (raised_by_bounded v a a.tries p b)
 
 as_list_bounded : (v : Option Value) → MaybeBounded v → AllBounded (as_list v)
 as_list_bounded None p = tt
 as_list_bounded (Some v) p = (p, tt)
 
-answered_bounded : (end : ℕ) (result : Ret) (v : Option Value) (go : Option Value → Act) → MaybeBounded v → ((v : Option Value) → MaybeBounded v → BoundedAct (go v)) → BoundedAct (answered end result v go)
+answered_bounded : (end : ℕ) (result : Ret) (v : Option Value) (go : Option Value → Act) → MaybeBounded v → ((v : Option Value) → MaybeBounded v → BoundedAct (go v)) → BoundedAct (call_answered end result v go)
 answered_bounded end ret.Unit v go p on = on None tt
 answered_bounded end (ret.Comp t) (Some v) go p on = only_if_bounded _ _ (on (Some v) p)
 answered_bounded end (ret.Comp t) None go p on = tt
 
-after_call_bounded : (c : Setting) (result : Ret) (a : Around) → BoundedAround a → (d : Doing) → BoundedDoing d → BoundedAct (after_call c result a d)
+after_call_bounded : (c : Setting) (result : Ret) (a : Around) → BoundedAround a → (d : Doing) → BoundedDoing d → BoundedAct (act_after_call c result a d)
 after_call_bounded c result a b (Gave v m) q =
     answered_bounded c.end result v _ q.0 (λ v p. (as_list_bounded v p, record { memory = q.1; raised = b.raised }))
 after_call_bounded c result a b (Threw v m) q = only_if_bounded _ _ (callee_raises_bounded v m a a.tries q.0 q.1)
@@ -253,7 +253,7 @@ calling_bounded c (calling.External row frame) vs a p b = only_if_bounded (is_co
 -- ---- leaving
 
 checked_bounded : (c : Setting) (x y : Result ℕ Kind) (a : Around) → BoundedAround a → BoundedAct (checked c x y a)
-checked_bounded c (Ok x) (Ok y) a b = cond_act (nat_lt y x) (Goes [] On a) (raises c bound_error a) (tt, b) (raises_bounded c bound_error a (omega arith) b)
+checked_bounded c (Ok x) (Ok y) a b = cond_act (nat_lt y x) (Goes [] On a) (raise_act c bound_error a) (tt, b) (raises_bounded c bound_error a (omega arith) b)
 checked_bounded c (Ok x) (Err kind) a b = tt
 checked_bounded c (Err kind) y a b = tt
 
@@ -274,7 +274,7 @@ leaving_bounded c leaving.Return (v ∷ w ∷ vs) a p b = tt
 
 -- ---- marks
 
-branches_bounded : (a : Around) (x y : Target) (o : Option Bool) → BoundedAround a → BoundedAct (branches a x y o)
+branches_bounded : (a : Around) (x y : Target) (o : Option Bool) → BoundedAround a → BoundedAct (goes_by_test a x y o)
 branches_bounded a x y (Some t) b = (tt, b)
 branches_bounded a x y None b = tt
 
@@ -351,9 +351,9 @@ less_bounded r f b = record { each = λ n h e. by n h (nat_eq r.number n) e }
     by n h true e = absurd (let no' : None ≡ Some h = e in cc)
     by n h false e = b.each n h e
 
-cleared_bounded : (rs : List Reg) (f : File) → BoundedFile f → BoundedFile (clear rs f)
+cleared_bounded : (rs : List Reg) (f : File) → BoundedFile f → BoundedFile (clear_registers rs f)
 cleared_bounded [] f b = b
-cleared_bounded (r ∷ rs) f b = less_bounded r (clear rs f) (cleared_bounded rs f b)
+cleared_bounded (r ∷ rs) f b = less_bounded r (clear_registers rs f) (cleared_bounded rs f b)
 
 wrote_bounded : (rest : List Instr) (a : Around) {o : Option File} → BoundedCode rest → BoundedAround a → PutBounded o → BoundedStep (wrote rest a o)
 wrote_bounded rest a p b no_file = tt
@@ -373,7 +373,7 @@ values_bounded : (f : File) (rs : List Reg) → BoundedFile f → ReadBounded (v
 values_bounded f [] b = some_values tt
 values_bounded f (r ∷ rs) b = held_bounded f r.number (f r.number) b refl (values_bounded f rs b)
 
-module _ (c : Place) (m : Mach) (z : BoundedSymbols c.setting) (constants : BoundedCode m.code) where
+module _ (c : ActivationSetting) (m : Mach) (z : BoundedSymbols c.setting) (constants : BoundedCode m.code) where
   on_act_bounded : (i : Instr) (next : List Instr) (f : File) (a : Around) (x : Act) → BoundedCode (i ∷ next) → BoundedFile f → BoundedAround a → BoundedAct x → BoundedStep (on_act c m i next f a x)
   on_act_bounded i next f a (Goes vs to later) q p b e =
       wrote_bounded _ later (code_at_bounded m.code next to constants q.1) e.1 (put_all_bounded c.setting.end i.results vs e.0 (cleared_bounded (killed m i) f p))
@@ -386,11 +386,11 @@ module _ (c : Place) (m : Mach) (z : BoundedSymbols c.setting) (constants : Boun
   on_act_bounded i next f a (EndsRaising d) q p b e = e
   on_act_bounded i next f a Stuck q p b e = tt
 
-  step_bounded : (rest : List Instr) (f : File) (a : Around) → BoundedCode rest → BoundedFile f → BoundedAround a → BoundedStep (at_code c m rest f a)
+  step_bounded : (rest : List Instr) (f : File) (a : Around) → BoundedCode rest → BoundedFile f → BoundedAround a → BoundedStep (at_lossless_code c m rest f a)
   step_bounded [] f a q p b = tt
   step_bounded (i ∷ next) f a q p b = by (values_bounded f i.args p)
     where
-      by : {o : Option (List Value)} → ReadBounded o → BoundedStep (on_values c m i next f a o)
+      by : {o : Option (List Value)} → ReadBounded o → BoundedStep (on_lossless_values c m i next f a o)
       by no_values = tt
       by (some_values {vs = vs} e) = on_act_bounded i next f a (mach_act c.setting i.op vs a) q p b (act_bounded c.setting z i.op vs a q.0 e b)
 

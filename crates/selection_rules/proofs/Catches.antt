@@ -12,16 +12,16 @@ use Rattle.cmm_types.specs.Types.{type_of}
 use Rattle.cmm_meaning.specs.State.{Binding, Here, back_in, outermost}
 use Rattle.cmm_meaning.specs.Evaluation.{scoped_parameter, with_bound}
 use Rattle.meaning_laws.specs.Does.{Leaves, Exiting, Does, Fails}
-use Rattle.meaning_laws.specs.Interaction.{Part, Operand, onward, from, of_type, does, readied, entered, back, handled, out_of_turns, catching}
+use Rattle.meaning_laws.specs.Interaction.{Part, Operand, onward, from, of_type, does, readied, entered, scope_restored, handled, out_of_turns, catching}
 use Rattle.cmm_meaning.specs.Choices.{Ready as Handler, ready_for}
 use Rattle.mach_ir.specs.declared.reg.Reg.{Reg}
 use Rattle.mach_ir.specs.declared.mach.Instr.{Instr}
 use Rattle.mach_ir.specs.declared.mach.Mach.{Mach}
 use Rattle.mach_ir.specs.Acts.{drop_tries}
-use Rattle.mach_ir.specs.Runs.{Place, Continues}
-use Rattle.mach_ir.specs.Meaning.{put, put_if, File, put_all, wrote, after_label}
-use Rattle.selection_rules.specs.Select.{Label, scopes, fresh, inner_valued, inner_dest, width, label_of, params_from, with_params, labels_from, unless_bare, in_handlers, width_labels, select, select_handlers, width_handlers}
-use Rattle.selection_rules.specs.Follow.{Follows, walks, fails, spent}
+use Rattle.mach_ir.specs.Runs.{ActivationSetting, Continues}
+use Rattle.mach_ir.specs.Meaning.{assign_register, put_if, File, put_all, wrote, after_label}
+use Rattle.selection_rules.specs.Select.{Label, scopes, fresh_register, inner_valued, inner_dest, width, visible_label, params_from, with_params, labels_from, unless_bare, in_handlers, width_labels, select, select_handlers, width_handlers}
+use Rattle.selection_rules.specs.Follow.{FollowsText, walks, fails, spent}
 use Rattle.selection_rules.proofs.Files.{Under, under_more, IsNamed, here, there, Stands, stands_length}
 use Rattle.selection_rules.proofs.Parts.{Placed, placed_in, placed_next, WellLabelled, AllUnder, Lower, no_label, a_label, lower_more, Stable, stable_same, May, new, dest, name, calm, calm_in, at, arrive, Level, Based, Reaching, reaching_now, reaching_out, any, After, after_typed, node_follows, Ready}
 use Rattle.selection_rules.proofs.Operands.{Selected, own_fits}
@@ -32,11 +32,11 @@ use Rattle.selection_rules.proofs.Rows.{PutAll, nil, cons, row_put_all, between_
 use Rattle.selection_rules.proofs.Exits.{stands_put_all, stable_put_all, rising_params, between_params, under_params, stands_params, under_with}
 use Rattle.meaning_laws.specs.Interaction as part
 use Rattle.selection_rules.specs.Select as names
-use Rattle.selection_rules.specs.Instructions.{bare}
+use Rattle.selection_rules.specs.Instructions.{bare_mark}
 use Rattle.mach_ir.specs.declared.mach.Mark.TheVariants as mark
-use Rattle.selection_rules.specs.Follow.{text_of}
+use Rattle.selection_rules.specs.Follow.{text_setting}
 
-pub reaching_params : (n : ℕ) (params : List Parameter) {env : List names.Named} (h : Here) (f : File) → Reaching (with_params params (params_from n params) env) h f → Reaching env h f
+pub reaching_params : (n : ℕ) (params : List Parameter) {env : List names.NamedRegister} (h : Here) (f : File) → Reaching (with_params params (params_from n params) env) h f → Reaching env h f
 reaching_params n [] h f r = r
 reaching_params n (p ∷ params) h f r = reaching_out h (reaching_params (suc n) params h f r)
 
@@ -100,29 +100,29 @@ abbrev pub visible : Bool → List Label → List Label
 visible true own = in_handlers own
 visible false own = own
 
-module _ (c : Place) (m : Mach) (turns : ℕ) (ts : List ℕ) where
+module _ (c : ActivationSetting) (m : Mach) (turns : ℕ) (ts : List ℕ) where
   pub put_params : {params : List Parameter} {vs : List Value} → AllFit c.setting.end params vs → (n : ℕ) (f : File) →
       (g : File) × (put_all c.setting.end (params_from n params) vs f ≡ Some g) × PutAll c.setting.end (params_from n params) vs f g
   put_params all_none n f = (f, refl, nil)
   put_params (all_one {p = p} {v = v} e all) n f =
-      let r = fresh n (type_of_comp p.comp) in
+      let r = fresh_register n (type_of_comp p.comp) in
       let more = put_params all (suc n) f in
       let good : fits c.setting.end (type_of_comp r.comp) v ≡ true = own_fits c m turns ts (type_of_comp p.comp) v e in (
-        put r v more.0,
+        assign_register r v more.0,
         ap (λ o. put_if (fits c.setting.end (type_of_comp r.comp) v) r v o) more.1 ∙ ap (λ b. put_if b r v (Some more.0)) good,
         cons good more.2,
       )
 
   -- an exit comes to a handler
   enter_follows : {params : List Parameter} {vs : List Value} {x z : Does} (n : ℕ) (f : File) (memory : Memory) (code : List Instr) → Enters c.setting.end params vs x z →
-      ((g : File) → PutAll c.setting.end (params_from n params) vs f g → Follows c m x (Continues (at c m turns ts code g memory))) →
-      Follows c m z (wrote code (calm c m turns ts memory) (put_all c.setting.end (params_from n params) vs f))
+      ((g : File) → PutAll c.setting.end (params_from n params) vs f g → FollowsText c m x (Continues (at c m turns ts code g memory))) →
+      FollowsText c m z (wrote code (calm c m turns ts memory) (put_all c.setting.end (params_from n params) vs f))
   enter_follows n f memory code improper on = fails
   enter_follows {x = x} n f memory code (enters all) on =
       let p = put_params all n f in
-      subst (λ o. Follows c m x (wrote code (calm c m turns ts memory) o)) (sym p.1) (on p.0 p.2)
+      subst (λ o. FollowsText c m x (wrote code (calm c m turns ts memory) o)) (sym p.1) (on p.0 p.2)
 
-  module _ (labelled : WellLabelled m) (env : List names.Named) (labels own : List Label) (valued tail : Bool) (d : Reg) (b : ℕ) (next : List Instr) (P : File → Type 0) (kk : Leaves (Option Value) → Does)
+  module _ (labelled : WellLabelled m) (env : List names.NamedRegister) (labels own : List Label) (valued tail : Bool) (d : Reg) (b : ℕ) (next : List Instr) (P : File → Type 0) (kk : Leaves (Option Value) → Does)
       (level tries : ℕ) where
     -- what is known of a handler: its parameters are new, and its body follows
     pub record HandlerOk (r : Handler Operand) (t : Label) : Type 0 where
@@ -132,39 +132,39 @@ module _ (c : Place) (m : Mach) (turns : ℕ) (ts : List ℕ) where
       pub low : b ≤ first
       pub body : (k : Leaves (Option Value) → Does) → After c m turns ts None (with_params r.params (params_from first r.params) env) (in_handlers own ++ labels) valued tail d next P k →
           (h : Here) (f : File) (memory : Memory) → Level c m turns ts h → Stands (with_params r.params (params_from first r.params) env) h.names f → P f →
-          Follows c m (r.body h memory k) (Continues (at c m turns ts (after_label t.number m.code) f memory))
+          FollowsText c m (r.body h memory k) (Continues (at c m turns ts (after_label t.number m.code) f memory))
 
     pub data AllOk : List (Handler Operand) → List Label → Type 0 where
       no_ok : AllOk [] []
       an_ok : {r : Handler Operand} {t : Label} {rs : List (Handler Operand)} {ts : List Label} → r.label ≡ t.label → HandlerOk r t → AllOk rs ts → AllOk (r ∷ rs) (t ∷ ts)
 
     data Found (l : LabelTree) : Option (Handler Operand) → Option Label → Type 0 where
-      outside : Found l None (label_of labels l)
+      outside : Found l None (visible_label labels l)
       inside : {r : Handler Operand} {t : Label} → HandlerOk r t → Found l (Some r) (Some t)
 
     found_if : {l : LabelTree} {o : Option (Handler Operand)} {p : Option Label} (q : Bool) (r : Handler Operand) (t : Label) → HandlerOk r t → Found l o p → Found l (cond q (Some r) o) (cond q (Some t) p)
     found_if true r t ok f = inside ok
     found_if false r t ok f = f
 
-    found_body : {rs : List (Handler Operand)} {ts : List Label} (l : LabelTree) → AllOk rs ts → Found l (ready_for false l rs) (label_of (ts ++ labels) l)
+    found_body : {rs : List (Handler Operand)} {ts : List Label} (l : LabelTree) → AllOk rs ts → Found l (ready_for false l rs) (visible_label (ts ++ labels) l)
     found_body l no_ok = outside
     found_body l (an_ok {r = r} {t = t} {rs = rs} {ts = ts} e ok all) =
-        subst (λ q. Found l (cond q (Some r) (ready_for false l rs)) (cond (same_label l t.label) (Some t) (label_of (ts ++ labels) l)))
+        subst (λ q. Found l (cond q (Some r) (ready_for false l rs)) (cond (same_label l t.label) (Some t) (visible_label (ts ++ labels) l)))
         (sym (visible_body l r.label ∙ ap (same_label l) e)) (found_if (same_label l t.label) r t ok (found_body l all))
 
-    found_among : {o : Option (Handler Operand)} (l : LabelTree) (r : Handler Operand) (t : Label) (ts : List Label) → HandlerOk r t → Found l o (label_of (ts ++ labels) l) → (q : Bool) → is_bare t.label ≡ q →
-        Found l (cond (same_label l t.label && not (is_bare l && true)) (Some r) o) (label_of (unless_bare q t ts ++ labels) l)
-    found_among {o} l r t ts ok f true e = subst (λ z. Found l (cond z (Some r) o) (label_of (ts ++ labels) l)) (sym (hidden_handler l t.label e)) f
+    found_among : {o : Option (Handler Operand)} (l : LabelTree) (r : Handler Operand) (t : Label) (ts : List Label) → HandlerOk r t → Found l o (visible_label (ts ++ labels) l) → (q : Bool) → is_bare t.label ≡ q →
+        Found l (cond (same_label l t.label && not (is_bare l && true)) (Some r) o) (visible_label (unless_bare q t ts ++ labels) l)
+    found_among {o} l r t ts ok f true e = subst (λ z. Found l (cond z (Some r) o) (visible_label (ts ++ labels) l)) (sym (hidden_handler l t.label e)) f
     found_among {o} l r t ts ok f false e =
-        subst (λ z. Found l (cond z (Some r) o) (cond (same_label l t.label) (Some t) (label_of (ts ++ labels) l))) (sym (visible_handler l t.label e)) (found_if (same_label l t.label) r t ok f)
+        subst (λ z. Found l (cond z (Some r) o) (cond (same_label l t.label) (Some t) (visible_label (ts ++ labels) l))) (sym (visible_handler l t.label e)) (found_if (same_label l t.label) r t ok f)
 
-    found_handler : {rs : List (Handler Operand)} {ts : List Label} (l : LabelTree) → AllOk rs ts → Found l (ready_for true l rs) (label_of (in_handlers ts ++ labels) l)
+    found_handler : {rs : List (Handler Operand)} {ts : List Label} (l : LabelTree) → AllOk rs ts → Found l (ready_for true l rs) (visible_label (in_handlers ts ++ labels) l)
     found_handler l no_ok = outside
     found_handler l (an_ok {r = r} {t = t} {rs = rs} {ts = ts} e ok all) =
-        subst (λ y. Found l (cond (same_label l y && not (is_bare l && true)) (Some r) (ready_for true l rs)) (label_of (in_handlers (t ∷ ts) ++ labels) l)) (sym e)
+        subst (λ y. Found l (cond (same_label l y && not (is_bare l && true)) (Some r) (ready_for true l rs)) (visible_label (in_handlers (t ∷ ts) ++ labels) l)) (sym e)
         (found_among l r t (in_handlers ts) ok (found_handler l all) (is_bare t.label) refl)
 
-    found : {rs : List (Handler Operand)} (within : Bool) (l : LabelTree) → AllOk rs own → Found l (ready_for within l rs) (label_of (visible within own ++ labels) l)
+    found : {rs : List (Handler Operand)} (within : Bool) (l : LabelTree) → AllOk rs own → Found l (ready_for within l rs) (visible_label (visible within own ++ labels) l)
     found true l all = found_handler l all
     found false l all = found_body l all
 
@@ -174,45 +174,45 @@ module _ (c : Place) (m : Mach) (turns : ℕ) (ts : List ℕ) where
     abbrev Once : List (Handler Operand) → ℕ → Type 0
     Once rs u =
         (l : LabelTree) (vs : List Value) (h : Here) (f : File) (memory : Memory) → Based c m turns ts h → Reaching env h f → P f →
-        Follows c m (again u true rs (Exiting l vs h memory)) (arrive c m turns ts (label_of (in_handlers own ++ labels) l) vs f memory)
+        FollowsText c m (again u true rs (Exiting l vs h memory)) (arrive c m turns ts (visible_label (in_handlers own ++ labels) l) vs f memory)
 
     -- an exit out of the body or a handler comes to its handler, or goes on outside
     catching_follows : {rs : List (Handler Operand)} → level ≡ length env → tries ≡ length ts → Under b env → Stable env b d.number P → After c m turns ts None env labels valued tail d next P kk → AllOk rs own →
         (u : ℕ) (within : Bool) (l : LabelTree) (vs : List Value) (h : Here) (f : File) (memory : Memory) → Based c m turns ts h → Reaching env h f → P f →
-        Follows c m (again u within rs (Exiting l vs h memory)) (arrive c m turns ts (label_of (visible within own ++ labels) l) vs f memory)
-    catching_follows {rs} long deep under stable a all zero within l vs h f memory lev r p = by (ready_for within l rs) (label_of (visible within own ++ labels) l) (found within l all)
+        FollowsText c m (again u within rs (Exiting l vs h memory)) (arrive c m turns ts (visible_label (visible within own ++ labels) l) vs f memory)
+    catching_follows {rs} long deep under stable a all zero within l vs h f memory lev r p = by (ready_for within l rs) (visible_label (visible within own ++ labels) l) (found within l all)
       where
-        by : (o : Option (Handler Operand)) (q : Option Label) → Found l o q → Follows c m (out_of_turns c.setting.end o l vs h memory kk) (arrive c m turns ts q vs f memory)
+        by : (o : Option (Handler Operand)) (q : Option Label) → Found l o q → FollowsText c m (out_of_turns c.setting.end o l vs h memory kk) (arrive c m turns ts q vs f memory)
         by o q outside = let x = a.outs in x.exit l vs h f memory lev r p
         by o q (inside {r = g} {t = t} ok) =
-            subst (λ regs. Follows c m (entered c.setting.end g.params vs memory (part.spent memory) kk) (wrote (after_label t.number m.code) (calm_in (drop_tries t.tries ts) memory) (put_all c.setting.end regs vs f))) (sym ok.is)
-            (subst (λ n. Follows c m (entered c.setting.end g.params vs memory (part.spent memory) kk) (wrote (after_label t.number m.code) (calm_in (drop_tries n ts) memory) (put_all c.setting.end (params_from ok.first g.params) vs f))) (sym ok.here)
+            subst (λ regs. FollowsText c m (entered c.setting.end g.params vs memory (part.spent memory) kk) (wrote (after_label t.number m.code) (calm_in (drop_tries t.tries ts) memory) (put_all c.setting.end regs vs f))) (sym ok.is)
+            (subst (λ n. FollowsText c m (entered c.setting.end g.params vs memory (part.spent memory) kk) (wrote (after_label t.number m.code) (calm_in (drop_tries n ts) memory) (put_all c.setting.end (params_from ok.first g.params) vs f))) (sym ok.here)
             (enter_follows ok.first f memory (after_label t.number m.code) (entering c.setting.end g.params vs memory (part.spent memory) kk) (λ z q. spent refl)))
     catching_follows {rs} long deep under stable a all (suc u) within l vs h f memory lev r p =
-        by (λ l vs h f memory lev r p. catching_follows long deep under stable a all u true l vs h f memory lev r p) (ready_for within l rs) (label_of (visible within own ++ labels) l) (found within l all)
+        by (λ l vs h f memory lev r p. catching_follows long deep under stable a all u true l vs h f memory lev r p) (ready_for within l rs) (visible_label (visible within own ++ labels) l) (found within l all)
       where
         inner : List Binding
         inner = outermost level h.names
 
-        by : Once rs u → (o : Option (Handler Operand)) (q : Option Label) → Found l o q → Follows c m (handled c.setting.end o l vs level tries h memory (catching c.setting.end u true rs level tries) kk) (arrive c m turns ts q vs f memory)
+        by : Once rs u → (o : Option (Handler Operand)) (q : Option Label) → Found l o q → FollowsText c m (handled c.setting.end o l vs level tries h memory (catching c.setting.end u true rs level tries) kk) (arrive c m turns ts q vs f memory)
         by ih o q outside = let x = a.outs in x.exit l vs h f memory lev r p
         by ih o q (inside {r = g} {t = t} ok) =
             let back_here = with_bound (map scoped_parameter g.params) vs (back_in level tries h) in
-            let body = back level tries (g.body back_here memory) in
+            let body = scope_restored level tries (g.body back_here memory) in
             let first = ok.first in
             let out : (h : Here) (f : File) → Reaching (with_params g.params (params_from first g.params) env) h f → Reaching env h f = λ h f r. reaching_params first g.params h f r in
-            subst (λ regs. Follows c m (entered c.setting.end g.params vs memory body (again u true rs)) (wrote (after_label t.number m.code) (calm_in (drop_tries t.tries ts) memory) (put_all c.setting.end regs vs f))) (sym ok.is)
-            (subst (λ n. Follows c m (entered c.setting.end g.params vs memory body (again u true rs)) (wrote (after_label t.number m.code) (calm_in (drop_tries n ts) memory) (put_all c.setting.end (params_from ok.first g.params) vs f))) (sym ok.here)
-            (enter_follows first f memory (after_label t.number m.code) (entering c.setting.end g.params vs memory body (again u true rs)) (λ z put.
+            subst (λ regs. FollowsText c m (entered c.setting.end g.params vs memory body (again u true rs)) (wrote (after_label t.number m.code) (calm_in (drop_tries t.tries ts) memory) (put_all c.setting.end regs vs f))) (sym ok.is)
+            (subst (λ n. FollowsText c m (entered c.setting.end g.params vs memory body (again u true rs)) (wrote (after_label t.number m.code) (calm_in (drop_tries n ts) memory) (put_all c.setting.end (params_from ok.first g.params) vs f))) (sym ok.here)
+            (enter_follows first f memory (after_label t.number m.code) (entering c.setting.end g.params vs memory body (again u true rs)) (λ z assign_register.
             let between = between_less b ok.low (between_params first (first + length g.params) g.params (le_refl (first + length g.params))) in
             let standing : Stands env (outermost level h.names) f = subst (λ n. Stands env (outermost n h.names) f) (sym long) r in
             ok.body (λ l. onward (λ v h memory. part.gives v (back_in level tries h) memory) l (again u true rs))
             (after_again ih out)
             back_here z memory (record { below = lev.below; frame = lev.frame; tries = deep })
-            (stands_params first g.params vs (row_put_all (rising_params first g.params) put) (stands_put_all under between put standing))
-            (stable_put_all stable between put p))))
+            (stands_params first g.params vs (row_put_all (rising_params first g.params) assign_register) (stands_put_all under between assign_register standing))
+            (stable_put_all stable between assign_register p))))
           where
-            after_again : {env' : List names.Named} → Once rs u → ((h : Here) (f : File) → Reaching env' h f → Reaching env h f) →
+            after_again : {env' : List names.NamedRegister} → Once rs u → ((h : Here) (f : File) → Reaching env' h f → Reaching env h f) →
                 After c m turns ts None env' (in_handlers own ++ labels) valued tail d next P (λ l. onward (λ v h memory. part.gives v (back_in level tries h) memory) l (again u true rs))
             after_again ih out =
                 record {
@@ -229,7 +229,7 @@ module _ (c : Place) (m : Mach) (turns : ℕ) (ts : List ℕ) where
 
   -- ---- handlers, in the code
 
-  named_with : {x : ℕ} (n : ℕ) (params : List Parameter) {env : List names.Named} → IsNamed x (with_params params (params_from n params) env) → IsNamed x env ⊎ (n ≤ x)
+  named_with : {x : ℕ} (n : ℕ) (params : List Parameter) {env : List names.NamedRegister} → IsNamed x (with_params params (params_from n params) env) → IsNamed x env ⊎ (n ≤ x)
   named_with n [] i = inl i
   named_with {x} n (p ∷ params) i =
       ⊎_elim
@@ -237,49 +237,49 @@ module _ (c : Place) (m : Mach) (turns : ℕ) (ts : List ℕ) where
       (λ le. inr (omega (arith, le)))
       (named_with (suc n) params i)
     where
-      by : {env : List names.Named} → IsNamed x (record { scoped = scoped_parameter p; reg = fresh n (type_of_comp p.comp) } ∷ env) → IsNamed x env ⊎ (n ≤ x)
+      by : {env : List names.NamedRegister} → IsNamed x (record { scoped = scoped_parameter p; reg = fresh_register n (type_of_comp p.comp) } ∷ env) → IsNamed x env ⊎ (n ≤ x)
       by (here same) = inr (omega (arith, same))
       by (there q) = inl q
 
   abbrev pub SelectedHandlers : Handlers → Type 1
   SelectedHandlers hs =
-      (labelled : WellLabelled m) (env : List names.Named) (labels own : List Label) (valued tail : Bool) (d : Reg) (b : ℕ) (next : List Instr) (P : File → Type 0) (kk : Leaves (Option Value) → Does) (level tries : ℕ)
+      (labelled : WellLabelled m) (env : List names.NamedRegister) (labels own : List Label) (valued tail : Bool) (d : Reg) (b : ℕ) (next : List Instr) (P : File → Type 0) (kk : Leaves (Option Value) → Does) (level tries : ℕ)
       (end l i : ℕ) → width_handlers hs < 2 ^ 60 → after_label end m.code ≡ next →
-      Placed m ts (select_handlers env (in_handlers own ++ labels) valued tail d end l i hs (bare (mark.End end) ∷ next)) →
+      Placed m ts (select_handlers env (in_handlers own ++ labels) valued tail d end l i hs (bare_mark (mark.End end) ∷ next)) →
       Ready c m turns ts env (in_handlers own ++ labels) i d → Under b env → 21 ≤ b → d.number < b → b ≤ l → l + width_labels hs ≤ i → Stable env b d.number P →
-      AllOk labelled env labels own valued tail d b next P kk level tries (readied (text_of c) turns hs tail) (labels_from l hs)
+      AllOk labelled env labels own valued tail d b next P kk level tries (readied (text_setting c) turns hs tail) (labels_from l hs)
 
   pub handlers_none : SelectedHandlers NoHandler
   handlers_none labelled env labels own valued tail d b next P kk level tries end l i fine is ending ready under first low le wide stable = no_ok
 
-  module _ (labelled : WellLabelled m) (env : List names.Named) (labels own : List Label) (valued tail : Bool) (d : Reg) (next : List Instr) (end : ℕ) where
+  module _ (labelled : WellLabelled m) (env : List names.NamedRegister) (labels own : List Label) (valued tail : Bool) (d : Reg) (next : List Instr) (end : ℕ) where
     abbrev end_code : List Instr
-    end_code = bare (mark.End end) ∷ next
+    end_code = bare_mark (mark.End end) ∷ next
 
     -- what falls to the next handler, or to the end, goes after the end
-    pub falls : (l i : ℕ) (hs : Handlers) → after_label end m.code ≡ next → (x : Does) (f : File) (memory : Memory) → Follows c m x (Continues (at c m turns ts next f memory)) →
-        Follows c m x (Continues (at c m turns ts (select_handlers env (in_handlers own ++ labels) valued tail d end l i hs end_code) f memory))
+    pub falls : (l i : ℕ) (hs : Handlers) → after_label end m.code ≡ next → (x : Does) (f : File) (memory : Memory) → FollowsText c m x (Continues (at c m turns ts next f memory)) →
+        FollowsText c m x (Continues (at c m turns ts (select_handlers env (in_handlers own ++ labels) valued tail d end l i hs end_code) f memory))
     falls l i NoHandler is x f memory follows = walks follows
-    falls l i (Handle place label params body rest) is x f memory follows = walks (subst (λ code. Follows c m x (Continues (at c m turns ts code f memory))) (sym is) follows)
+    falls l i (Handle place label params body rest) is x f memory follows = walks (subst (λ code. FollowsText c m x (Continues (at c m turns ts code f memory))) (sym is) follows)
 
-  module _ (place : ℕ) (label : LabelTree) (params : List Parameter) (body : Expression) (rest : Handlers) (labelled : WellLabelled m) (env : List names.Named) (labels own : List Label) (valued tail : Bool) (d : Reg) (b : ℕ)
+  module _ (place : ℕ) (label : LabelTree) (params : List Parameter) (body : Expression) (rest : Handlers) (labelled : WellLabelled m) (env : List names.NamedRegister) (labels own : List Label) (valued tail : Bool) (d : Reg) (b : ℕ)
       (next : List Instr) (P : File → Type 0) (kk : Leaves (Option Value) → Does) (level tries : ℕ) (end l i : ℕ) where
-    abbrev in_env : List names.Named
+    abbrev in_env : List names.NamedRegister
     in_env = with_params params (params_from (suc l) params) env
 
     abbrev hidden : List Label
     hidden = in_handlers own ++ labels
 
     abbrev rest_code : List Instr
-    rest_code = select_handlers env hidden valued tail d end (suc l + length params) (i + width body) rest (bare (mark.End end) ∷ next)
+    rest_code = select_handlers env hidden valued tail d end (suc l + length params) (i + width body) rest (bare_mark (mark.End end) ∷ next)
 
     abbrev body_code : List Instr
     body_code = select in_env hidden valued tail d i body rest_code
 
     pub handlers_more : Selected c m turns ts body → SelectedHandlers rest → width_handlers (Handle place label params body rest) < 2 ^ 60 → after_label end m.code ≡ next →
-        Placed m ts (select_handlers env hidden valued tail d end l i (Handle place label params body rest) (bare (mark.End end) ∷ next)) →
+        Placed m ts (select_handlers env hidden valued tail d end l i (Handle place label params body rest) (bare_mark (mark.End end) ∷ next)) →
         Ready c m turns ts env hidden i d → Under b env → 21 ≤ b → d.number < b → b ≤ l → l + width_labels (Handle place label params body rest) ≤ i → Stable env b d.number P →
-        AllOk labelled env labels own valued tail d b next P kk level tries (readied (text_of c) turns (Handle place label params body rest) tail) (labels_from l (Handle place label params body rest))
+        AllOk labelled env labels own valued tail d b next P kk level tries (readied (text_setting c) turns (Handle place label params body rest) tail) (labels_from l (Handle place label params body rest))
     handlers_more sb sr fine is ending ready under first low le wide stable =
         let body_ending = placed_next refl ending in
         let rest_ending = placed_in (ending_select in_env hidden valued tail d i body rest_code) body_ending in
@@ -290,8 +290,8 @@ module _ (c : Place) (m : Mach) (turns : ℕ) (ts : List ℕ) where
           here = refl;
           low = omega (arith, le);
           body = λ k a h f memory lev s p.
-              subst (λ code. Follows c m (does (text_of c) turns body tail h memory k) (Continues (at c m turns ts code f memory)))
-              (sym (labelled.behind_is l (bare (mark.With l end)) body_code ending.ending (eq-eqb l l refl)))
+              subst (λ code. FollowsText c m (does (text_setting c) turns body tail h memory k) (Continues (at c m turns ts code f memory)))
+              (sym (labelled.behind_is l (bare_mark (mark.With l end)) body_code ending.ending (eq-eqb l l refl)))
               (sb in_env hidden valued tail d i rest_code P k (omega (arith, fine))
               (record {
                 under = under_with (suc l) i params (omega (arith, first, le)) (omega (arith, wide)) (under_more (suc l) (omega (arith, le)) under);
@@ -332,7 +332,7 @@ module _ (c : Place) (m : Mach) (turns : ℕ) (ts : List ℕ) where
   lower_hidden no_label = no_label
   lower_hidden (a_label {t = t} u l) = lower_unless (is_bare t.label) t u (lower_hidden l)
 
-  module _ (labelled : WellLabelled m) (place : ℕ) (body : Expression) (handlers : Handlers) (env : List names.Named) (labels : List Label) (valued tail : Bool) (d : Reg) (b : ℕ) (next : List Instr) (P : File → Type 0)
+  module _ (labelled : WellLabelled m) (place : ℕ) (body : Expression) (handlers : Handlers) (env : List names.NamedRegister) (labels : List Label) (valued tail : Bool) (d : Reg) (b : ℕ) (next : List Instr) (P : File → Type 0)
       (k : Leaves (Option Value) → Does) where
     abbrev T : Ty
     T = type_of (scopes env) (Catch place body handlers)
@@ -350,7 +350,7 @@ module _ (c : Place) (m : Mach) (turns : ℕ) (ts : List ℕ) where
     base = suc (suc b) + width_labels handlers
 
     abbrev last_code : List Instr
-    last_code = bare (mark.End end_label) ∷ next
+    last_code = bare_mark (mark.End end_label) ∷ next
 
     abbrev handlers_code : List Instr
     handlers_code = select_handlers env (in_handlers own ++ labels) (inner_valued valued T) tail (inner_dest T b d) end_label (suc (suc b)) (base + width body) handlers last_code
@@ -361,13 +361,13 @@ module _ (c : Place) (m : Mach) (turns : ℕ) (ts : List ℕ) where
     pub selected_catch : Selected c m turns ts body → SelectedHandlers handlers → width (Catch place body handlers) < 2 ^ 60 →
         Ready c m turns ts env labels b d → Stable env b d.number P → Placed m ts (select env labels valued tail d b (Catch place body handlers) next) →
         After c m turns ts (Some T) env labels valued tail d next P k → (h : Here) (f : File) (memory : Memory) → Level c m turns ts h → Stands env h.names f → P f →
-        Follows c m (does (text_of c) turns (Catch place body handlers) tail h memory k) (Continues (at c m turns ts (select env labels valued tail d b (Catch place body handlers) next) f memory))
+        FollowsText c m (does (text_setting c) turns (Catch place body handlers) tail h memory k) (Continues (at c m turns ts (select env labels valued tail d b (Catch place body handlers) next) f memory))
     selected_catch sb sh fine ready stable ending after h f memory lev s p =
         let first : 21 ≤ suc b = let less = ready.below in let le = ready.first in omega (arith, less, le) in
         let body_ending = placed_next refl ending in
         let handlers_ending = placed_in (ending_select env (own ++ labels) (inner_valued valued T) tail (inner_dest T b d) base body handlers_code) body_ending in
         let last = placed_in (ending_handlers env (in_handlers own ++ labels) (inner_valued valued T) tail (inner_dest T b d) end_label (suc (suc b)) (base + width body) handlers last_code) handlers_ending in
-        let is : after_label end_label m.code ≡ next = labelled.behind_is end_label (bare (mark.End end_label)) next last.ending (eq-eqb end_label end_label refl) in
+        let is : after_label end_label m.code ≡ next = labelled.behind_is end_label (bare_mark (mark.End end_label)) next last.ending (eq-eqb end_label end_label refl) in
         let a = after_typed c m turns ts T b after in
         let inner = ready_inner c m turns ts T ready in
         let steady = stable_dest c m turns ts d T stable in
@@ -383,9 +383,9 @@ module _ (c : Place) (m : Mach) (turns : ℕ) (ts : List ℕ) where
         })
         inner.under first inner.below (omega arith) (omega arith) steady in
         node_follows c m turns ts (Catch place body handlers) h memory
-        (from (does (text_of c) turns body tail h memory) (catching c.setting.end turns false (readied (text_of c) turns handlers tail) (length h.names) h.tries)) k _ s
+        (from (does (text_setting c) turns body tail h memory) (catching c.setting.end turns false (readied (text_setting c) turns handlers tail) (length h.names) h.tries)) k _ s
         (walks (
-        sb env (own ++ labels) (inner_valued valued T) tail (inner_dest T b d) base handlers_code P (λ l. catching c.setting.end turns false (readied (text_of c) turns handlers tail) (length h.names) h.tries l after_k) (omega (arith, fine))
+        sb env (own ++ labels) (inner_valued valued T) tail (inner_dest T b d) base handlers_code P (λ l. catching c.setting.end turns false (readied (text_setting c) turns handlers tail) (length h.names) h.tries l after_k) (omega (arith, fine))
         (record {
           under = under_more base (omega arith) ready.under;
           lower = lower_append own_low outer_low;

@@ -3,7 +3,7 @@ use Rattle.std.proofs.Common.{ℕ, Bool, true, false, cond, List, Option, Some, 
 use Rattle.mach_ir.specs.declared.mach.Test.{Test}
 use Rattle.mach_ir.specs.declared.op.Right.{Right}
 use Rattle.mach_ir.specs.declared.op.Right.TheVariants as right
-use Rattle.selection_rules.specs.Select.{Code, Shape, InRegisters, ConstantRight, ConstantLeft, PowerRight, ordered, only_when, unless_symbol, unless_constant, unless_left, unless_right, tested}
+use Rattle.selection_rules.specs.Select.{Code, OperandShape, InRegisters, ConstantRight, ConstantLeft, PowerRight, ordered, only_when, unless_symbol, unless_constant, unless_left, unless_right, fused_test}
 
 module _ (P : Code → Type 0) (nothing : P (λ next. next)) where
   pub kept_when : {x : Code} (b : Bool) → P x → P (only_when b x)
@@ -18,13 +18,13 @@ module _ (P : Code → Type 0) (nothing : P (λ next. next)) where
   kept_constant right.Register p = p
   kept_constant (right.Constant w) p = nothing
 
-  pub kept_left : {x : Code} (s : Shape) → P x → P (unless_left s x)
+  pub kept_left : {x : Code} (s : OperandShape) → P x → P (unless_left s x)
   kept_left InRegisters p = p
   kept_left (ConstantRight i) p = p
   kept_left (ConstantLeft i) p = nothing
   kept_left (PowerRight k) p = p
 
-  pub kept_right : {x : Code} (s : Shape) → P x → P (unless_right s x)
+  pub kept_right : {x : Code} (s : OperandShape) → P x → P (unless_right s x)
   kept_right InRegisters p = p
   kept_right (ConstantRight i) p = nothing
   kept_right (ConstantLeft i) p = p
@@ -37,7 +37,7 @@ module _ (P : Code → Type 0) where
   kept_if false p q = q
 
   pub kept_tested : {value : Code} (o : Option Test) (fused : Test → Code) → ((t : Test) → P (fused t)) → P value →
-      P (λ next. tested o (λ t. fused t next) (value next))
+      P (λ next. fused_test o (λ t. fused t next) (value next))
   kept_tested (Some t) fused f p = f t
   kept_tested None fused f p = p
 

@@ -15,7 +15,7 @@ use Rattle.meaning_laws.specs.Interaction.{Part, with_value, both, does}
 use Rattle.cmm_meaning.specs.Setting.{Setting}
 use Rattle.mach_ir.specs.Acts.{Around, leaving_act, checked}
 use Rattle.mach_ir.specs.Forms.{is_immediate}
-use Rattle.mach_ir.specs.Runs.{Place, Continues}
+use Rattle.mach_ir.specs.Runs.{ActivationSetting, Continues}
 use Rattle.mach_ir.specs.Meaning.{State, File, values, with_held}
 use Rattle.mach_ir.specs.declared.reg.Reg.{Reg}
 use Rattle.mach_ir.specs.declared.mach.Instr.{Instr}
@@ -23,9 +23,9 @@ use Rattle.mach_ir.specs.declared.mach.Mach.{Mach}
 use Rattle.mach_ir.specs.declared.op.Leaving.TheVariants as leaving
 use Rattle.mach_ir.specs.declared.op.Right.{Right}
 use Rattle.mach_ir.specs.declared.op.Right.TheVariants as right
-use Rattle.selection_rules.specs.Select.{Named, Label, scopes, fresh, ordered, width, right_of, unless_constant, select}
+use Rattle.selection_rules.specs.Select.{NamedRegister, Label, scopes, fresh_register, ordered, width, bound_test_operand, unless_constant, select}
 use Rattle.selection_rules.specs.Instructions.{right_regs}
-use Rattle.selection_rules.specs.Follow.{text_of, Follows, pays}
+use Rattle.selection_rules.specs.Follow.{text_setting, FollowsText, pays}
 use Rattle.selection_rules.proofs.Files.{Holds, Under, Stands}
 use Rattle.selection_rules.proofs.Parts.{Placed, Within, Lower, Stable, stable_inner, at, Level, Outs}
 use Rattle.selection_rules.proofs.Operands.{Selected, operand, two, ready_at}
@@ -39,7 +39,7 @@ right_if : (f : IntOp) (place w : ℕ) (b : Bool) → RightView f (Integer place
 right_if f place w true = by_constant
 right_if f place w false = by_register
 
-pub right_view : (f : IntOp) (e : Expression) → RightView f e (right_of f e)
+pub right_view : (f : IntOp) (e : Expression) → RightView f e (bound_test_operand f e)
 right_view f (Integer place w) = right_if f place w (is_immediate f w)
 right_view f e = by_register
 
@@ -63,32 +63,32 @@ pub checked_act : {x y : Reg} {v w : Value} {f : File} {r : Right} (c : Setting)
 checked_act c a (in_registers hv hw) = refl
 checked_act c a (with_constant hv) = refl
 
-module _ (c : Place) (m : Mach) (turns : ℕ) where
+module _ (c : ActivationSetting) (m : Mach) (turns : ℕ) where
   -- a constant as an operand needs no code
   pub constant_operand : {B : Type 0} (place w : ℕ) (h : Here) (memory : Memory) (go : Value → Here → Memory → Part B) (k : Leaves B → Does) (s : State) → s.around.memory ≡ memory →
-      Follows c m (go (value.Word w) h memory k) (Continues s) → Follows c m (with_value (does (text_of c) turns (Integer place w) false h memory) go k) (Continues s)
+      FollowsText c m (go (value.Word w) h memory k) (Continues s) → FollowsText c m (with_value (does (text_setting c) turns (Integer place w) false h memory) go k) (Continues s)
   constant_operand place w h memory go k s same on = pays same on
 
-module _ (c : Place) (m : Mach) (turns : ℕ) (ts : List ℕ) where
+module _ (c : ActivationSetting) (m : Mach) (turns : ℕ) (ts : List ℕ) where
   -- two operands, the right one by the rule
-  pub right_two : {B : Type 0} {env : List Named} {labels : List Label} {b d : ℕ} {P : File → Type 0} {op : IntOp} {r : Right} (left_first : Bool) (left e : Expression) → RightView op e r → is_left_first (scopes env) left e ≡ left_first →
+  pub right_two : {B : Type 0} {env : List NamedRegister} {labels : List Label} {b d : ℕ} {P : File → Type 0} {op : IntOp} {r : Right} (left_first : Bool) (left e : Expression) → RightView op e r → is_left_first (scopes env) left e ≡ left_first →
       Selected c m turns ts left → Selected c m turns ts e → width left < 2 ^ 60 → width e < 2 ^ 60 →
       (nx ny ix iy : ℕ) (next : List Instr) (go : Value → Value → Here → Memory → Part B) (k : Leaves B → Does) → Lower b labels → Under b env → 21 ≤ b → Stable env b d P →
       b ≤ nx → b ≤ ny → nx < ix → ny < iy → nx < iy → ny < ix → (nx ≡ ny → ⊥) →
-      ((rest : List Instr) → Within rest (select env labels false false (fresh nx (type_of (scopes env) left)) ix left rest)) →
-      ((rest : List Instr) → Within rest (select env labels false false (fresh ny (type_of (scopes env) e)) iy e rest)) →
-      Placed m ts (ordered left_first (select env labels false false (fresh nx (type_of (scopes env) left)) ix left) (unless_constant r (select env labels false false (fresh ny (type_of (scopes env) e)) iy e)) next) →
+      ((rest : List Instr) → Within rest (select env labels false false (fresh_register nx (type_of (scopes env) left)) ix left rest)) →
+      ((rest : List Instr) → Within rest (select env labels false false (fresh_register ny (type_of (scopes env) e)) iy e rest)) →
+      Placed m ts (ordered left_first (select env labels false false (fresh_register nx (type_of (scopes env) left)) ix left) (unless_constant r (select env labels false false (fresh_register ny (type_of (scopes env) e)) iy e)) next) →
       Outs c m turns ts env labels P k → (h : Here) (f : File) (memory : Memory) → Level c m turns ts h → Stands env h.names f → P f →
       ((v w : Value) (h : Here) (f : File) (memory : Memory) → Level c m turns ts h → Stands env h.names f → P f →
-      Operands (fresh nx (type_of (scopes env) left)) (fresh ny (type_of (scopes env) e)) v f r w → Follows c m (go v w h memory k) (Continues (at c m turns ts next f memory))) →
-      Follows c m (both left_first (does (text_of c) turns left false) (does (text_of c) turns e false) h memory go k)
-      (Continues (at c m turns ts (ordered left_first (select env labels false false (fresh nx (type_of (scopes env) left)) ix left) (unless_constant r (select env labels false false (fresh ny (type_of (scopes env) e)) iy e)) next) f memory))
+      Operands (fresh_register nx (type_of (scopes env) left)) (fresh_register ny (type_of (scopes env) e)) v f r w → FollowsText c m (go v w h memory k) (Continues (at c m turns ts next f memory))) →
+      FollowsText c m (both left_first (does (text_setting c) turns left false) (does (text_setting c) turns e false) h memory go k)
+      (Continues (at c m turns ts (ordered left_first (select env labels false false (fresh_register nx (type_of (scopes env) left)) ix left) (unless_constant r (select env labels false false (fresh_register ny (type_of (scopes env) e)) iy e)) next) f memory))
   right_two left_first left e by_register is sl sr fl fr nx ny ix iy next go k lower under first stable bx by' xx yy xy yx apart el er ending outs h f memory level s p on =
       two c m turns ts left_first left e sl sr fl fr nx ny ix iy next go k lower under first stable bx by' xx yy xy yx apart el er ending outs h f memory level s p
       (λ v w h f memory level s p fv fw hv hw. on v w h f memory level s p (in_registers hv hw))
   right_two true left e by_constant is sl sr fl fr nx ny ix iy next go k lower under first stable bx by' xx yy xy yx apart el er ending outs h f memory level s p on = absurd (true≢false (sym is))
   right_two {env = env} false left e (by_constant {place = place} {w = w}) is sl sr fl fr nx ny ix iy next go k lower under first stable bx by' xx yy xy yx apart el er ending outs h f memory level s p on =
-      constant_operand c m turns place w h memory (λ u h memory. with_value (does (text_of c) turns left false h memory) (λ v h memory. go v u h memory)) k _ refl
+      constant_operand c m turns place w h memory (λ u h memory. with_value (does (text_setting c) turns left false h memory) (λ v h memory. go v u h memory)) k _ refl
       (operand c m turns ts left sl fl nx ix next (λ v h memory. go v (value.Word w) h memory) k
       (ready_at c m turns ts (type_of (scopes env) left) nx ix lower under first bx xx) (stable_inner nx ix bx (omega (arith, bx, xx)) stable) ending outs h f memory level s p
       (λ v h f memory level s p fv hv. on v (value.Word w) h f memory level s p (with_constant hv)))

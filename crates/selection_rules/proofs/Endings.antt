@@ -14,11 +14,11 @@ use Rattle.mach_ir.specs.Acts.{drop_tries}
 use Rattle.mach_ir.specs.declared.mach.Test.{Test}
 use Rattle.mach_ir.specs.declared.op.Right.{Right}
 use Rattle.mach_ir.specs.declared.op.Right.TheVariants as right
-use Rattle.selection_rules.specs.Select.{Shape, InRegisters, ConstantRight, ConstantLeft, PowerRight, rounded, power_code, operator_code, shape_of, shape_op, shape_right, unless_left, unless_right, Named, Label, scopes, reg_of, label_of, move_from, move_to, moves_all, exit_to, ordered, only_when, from_seat, symbol_of, unless_symbol, right_of, unless_constant, bound_test, comparison, tested, select_test, is_based, select_base, call_of, regs_of, select, select_waiting, select_filled, select_bound, select_seq, select_cases, select_handlers, deeper, cell_stores}
+use Rattle.selection_rules.specs.Select.{OperandShape, InRegisters, ConstantRight, ConstantLeft, PowerRight, rounded, power_code, operator_code, operation_shape, shape_op, shape_right, unless_left, unless_right, NamedRegister, Label, scopes, reg_of, visible_label, move_from, move_to, moves_all, exit_to_handler, ordered, only_when, from_seat, called_symbol, unless_symbol, bound_test_operand, unless_constant, bound_test, comparison, fused_test, select_test, is_based, select_base, call_of, regs_of, select, select_waiting, select_filled, select_bound, select_seq, select_cases, select_handlers, labels_within_try, cell_stores}
 use Rattle.mach_laws.specs.Expand.{more}
 use Rattle.selection_rules.proofs.Parts.{ending_in, Within, inside_all, inside_more, inside_in}
 use Rattle.selection_rules.specs.Instructions as emit
-use Rattle.selection_rules.specs.Instructions.{bare}
+use Rattle.selection_rules.specs.Instructions.{bare_mark}
 use Rattle.mach_ir.specs.declared.mach.Mark.TheVariants as mark
 
 abbrev Ends : (List Instr → List Instr) → Type 0
@@ -37,7 +37,7 @@ ending_moves [] to next = inside_all
 ending_moves (a ∷ from) [] next = inside_all
 ending_moves (a ∷ from) (d ∷ to) next = inside_in (inside_more refl inside_all) (ending_moves from to (emit.move a d ∷ next))
 
-pub ending_exit : (o : Option Label) (from : List Reg) → Ends (exit_to o from)
+pub ending_exit : (o : Option Label) (from : List Reg) → Ends (exit_to_handler o from)
 ending_exit None from next = inside_all
 ending_exit (Some t) from next = inside_in (inside_more refl inside_all) (ending_moves from t.params _)
 
@@ -57,7 +57,7 @@ pub ending_constant : (r : Right) (code : List Instr → List Instr) → Ends co
 ending_constant right.Register code e next = e next
 ending_constant (right.Constant w) code e next = inside_all
 
-ending_tested : {next : List Instr} (o : Option Test) (fused : Test → List Instr) (value : List Instr) → ((t : Test) → Within next (fused t)) → Within next value → Within next (tested o fused value)
+ending_tested : {next : List Instr} (o : Option Test) (fused : Test → List Instr) (value : List Instr) → ((t : Test) → Within next (fused t)) → Within next value → Within next (fused_test o fused value)
 ending_tested (Some t) fused value f v = f t
 ending_tested None fused value f v = v
 
@@ -65,13 +65,13 @@ ending_if : (q : Bool) (one other : List Instr → List Instr) → Ends one → 
 ending_if true one other f g next = f next
 ending_if false one other f g next = g next
 
-ending_left : (s : Shape) (code : List Instr → List Instr) → Ends code → Ends (unless_left s code)
+ending_left : (s : OperandShape) (code : List Instr → List Instr) → Ends code → Ends (unless_left s code)
 ending_left InRegisters code e next = e next
 ending_left (ConstantRight i) code e next = e next
 ending_left (ConstantLeft i) code e next = inside_all
 ending_left (PowerRight k) code e next = e next
 
-ending_right : (s : Shape) (code : List Instr → List Instr) → Ends code → Ends (unless_right s code)
+ending_right : (s : OperandShape) (code : List Instr → List Instr) → Ends code → Ends (unless_right s code)
 ending_right InRegisters code e next = e next
 ending_right (ConstantRight i) code e next = inside_all
 ending_right (ConstantLeft i) code e next = e next
@@ -84,7 +84,7 @@ ending_power : (op : IntOp) (k : ℕ) (x y d : Reg) → Ends (power_code op k x 
 ending_power operators.Div k x y d next = inside_in (inside_more refl inside_all) (ending_rounded k x y _)
 ending_power op k x y d next = inside_in (inside_more refl (inside_more refl (inside_more refl inside_all))) (ending_rounded k x y _)
 
-ending_operator : (s : Shape) (op : IntOp) (x y d : Reg) → Ends (operator_code s op x y d)
+ending_operator : (s : OperandShape) (op : IntOp) (x y d : Reg) → Ends (operator_code s op x y d)
 ending_operator InRegisters op x y d next = inside_more refl inside_all
 ending_operator (ConstantRight i) op x y d next = inside_more refl inside_all
 ending_operator (ConstantLeft i) op x y d next = inside_more refl inside_all
@@ -103,11 +103,11 @@ call_inside true valued result o f regs n d next = inside_more refl inside_all
 call_inside false valued result o f regs n d next = inside_more refl (ending_from_seat n result d next)
 
 -- a try is left where its body ends
-try_inside : {l e : ℕ} {next rest body : List Instr} → Within (bare (mark.Leave l e) ∷ rest) body → Within next rest → Within next (bare (mark.Try l) ∷ body)
+try_inside : {l e : ℕ} {next rest body : List Instr} → Within (bare_mark (mark.Leave l e) ∷ rest) body → Within next rest → Within next (bare_mark (mark.Try l) ∷ body)
 try_inside x y = record { ending = more (ending_in (more y.ending) x.ending); tries = ap (drop_tries 1) x.tries ∙ y.tries }
 
 mutual
-  pub ending_select : (env : List Named) (labels : List Label) (valued tail : Bool) (d : Reg) (b : ℕ) (e : Expression) → Ends (select env labels valued tail d b e)
+  pub ending_select : (env : List NamedRegister) (labels : List Label) (valued tail : Bool) (d : Reg) (b : ℕ) (e : Expression) → Ends (select env labels valued tail d b e)
   ending_select env labels valued tail d b (Integer at w) next = inside_more refl inside_all
   ending_select env labels valued tail d b (Pointer at w) next = inside_more refl inside_all
   ending_select env labels valued tail d b (Symbol at name) next = inside_more refl inside_all
@@ -118,14 +118,14 @@ mutual
   ending_select env labels valued tail d b (Assign at name_at name e) next =
       inside_in (ending_to _ (reg_of env name) next) (ending_select env labels false false _ _ e _)
   ending_select env labels valued tail d b (Operator at op left right) next =
-      inside_in (ending_operator (shape_of op left right) op _ _ _ next)
-      (ending_ordered (is_left_first (scopes env) left right) _ _ (ending_left (shape_of op left right) _ (ending_select env labels false false _ _ left)) (ending_right (shape_of op left right) _ (ending_select env labels false false _ _ right)) _)
+      inside_in (ending_operator (operation_shape op left right) op _ _ _ next)
+      (ending_ordered (is_left_first (scopes env) left right) _ _ (ending_left (operation_shape op left right) _ (ending_select env labels false false _ _ left)) (ending_right (operation_shape op left right) _ (ending_select env labels false false _ _ right)) _)
   ending_select env labels valued tail d b (App at callee arguments result result_at) next =
       inside_in (inside_in (inside_in (inside_in (inside_in (call_inside tail _ _ _ _ _ _ _ next)
       (ending_moves (regs_of env (suc (suc b)) arguments) _ _))
       (ending_when (is_light_address (scopes env) callee) _ (ending_select env labels false false _ _ callee) _))
       (ending_filled env labels _ _ arguments _))
-      (ending_when (not (is_light_address (scopes env) callee)) _ (ending_unless (symbol_of callee) _ (ending_select env labels false false _ _ callee)) _))
+      (ending_when (not (is_light_address (scopes env) callee)) _ (ending_unless (called_symbol callee) _ (ending_select env labels false false _ _ callee)) _))
       (ending_waiting env labels _ _ arguments _)
   ending_select env labels valued tail d b (Extcall at frame name arguments result result_at) next =
       inside_in (inside_in (inside_in (inside_more refl (ending_from_seat _ result _ next)) (ending_moves (regs_of env (suc b) arguments) _ _)) (ending_filled env labels _ _ arguments _)) (ending_waiting env labels _ _ arguments _)
@@ -137,7 +137,7 @@ mutual
   ending_select env labels valued tail d b (Catch at body handlers) next =
       inside_more refl (inside_in (inside_in (inside_more refl inside_all) (ending_handlers env _ _ tail _ _ _ _ handlers _)) (ending_select env _ _ tail _ _ body _))
   ending_select env labels valued tail d b (Exit at label_at label arguments) next =
-      inside_in (inside_in (ending_exit (label_of labels label) _ next) (ending_filled env labels _ _ arguments _)) (ending_waiting env labels _ _ arguments _)
+      inside_in (inside_in (ending_exit (visible_label labels label) _ next) (ending_filled env labels _ _ arguments _)) (ending_waiting env labels _ _ arguments _)
   ending_select env labels valued tail d b (Float at word_at operands) next = inside_all
   ending_select env labels valued tail d b (Alloc at header_at header operands) next =
       inside_in
@@ -150,54 +150,54 @@ mutual
       (ending_ordered (is_left_first (scopes env) address e) _ _ (ending_base env labels _ _ address _ (ending_select env labels false false _ _ address)) (ending_select env labels false false _ _ e) _)
   ending_select env labels valued tail d b (Checkbound at bound index) next =
       inside_in (inside_more refl inside_all)
-      (ending_ordered (is_left_first (scopes env) bound index) _ _ (ending_select env labels false false _ _ bound) (ending_constant (right_of bound_test index) _ (ending_select env labels false false _ _ index)) _)
+      (ending_ordered (is_left_first (scopes env) bound index) _ _ (ending_select env labels false false _ _ bound) (ending_constant (bound_test_operand bound_test index) _ (ending_select env labels false false _ _ index)) _)
   ending_select env labels valued tail d b (Raise at e) next = inside_in (inside_more refl (inside_more refl inside_all)) (ending_select env labels false false _ _ e _)
   ending_select env labels valued tail d b (Switch at size_at size selector cases) next =
       inside_in (inside_more refl (inside_in (inside_more refl inside_all) (ending_cases env labels _ tail _ _ _ _ _ cases _))) (ending_select env labels false false _ _ selector _)
   ending_select env labels valued tail d b (Try at body name_at name handler) next =
       let end = ending_select _ labels _ tail _ _ handler _ in
-      try_inside (ending_select env (deeper labels) _ false _ _ body _) (inside_more refl (inside_more refl (inside_in (inside_more refl inside_all) end)))
+      try_inside (ending_select env (labels_within_try labels) _ false _ _ body _) (inside_more refl (inside_more refl (inside_in (inside_more refl inside_all) end)))
 
-  pub ending_base : (env : List Named) (labels : List Label) (t b : ℕ) (e : Expression) (whole : List Instr → List Instr) → Ends whole → Ends (select_base env labels t b e whole)
+  pub ending_base : (env : List NamedRegister) (labels : List Label) (t b : ℕ) (e : Expression) (whole : List Instr → List Instr) → Ends whole → Ends (select_base env labels t b e whole)
   ending_base env labels t b (Operator at op base (Integer at' w)) whole inside next = ending_if (is_based op w) _ whole (ending_select env labels false false _ _ base) inside next
   ending_base env labels t b e whole inside next = inside next
 
-  pub ending_test : (env : List Named) (labels : List Label) (l b : ℕ) (e : Expression) (value next : List Instr) → Within next value → Within next (select_test env labels l b e value next)
+  pub ending_test : (env : List NamedRegister) (labels : List Label) (l b : ℕ) (e : Expression) (value next : List Instr) → Within next value → Within next (select_test env labels l b e value next)
   ending_test env labels l b (Operator at op left right) value next inside =
-      let s = shape_of op left right in
+      let s = operation_shape op left right in
       ending_tested (comparison (shape_op s op) (shape_right s)) _ value
       (λ t. inside_in (inside_more refl inside_all)
       (ending_ordered (is_left_first (scopes env) left right) _ _ (ending_left s _ (ending_select env labels false false _ _ left)) (ending_right s _ (ending_select env labels false false _ _ right)) _))
       inside
   ending_test env labels l b e value next inside = inside
 
-  pub ending_cases : (env : List Named) (labels : List Label) (valued tail : Bool) (d : Reg) (all : List ℕ) (end l b : ℕ) (cs : Cases) → Ends (select_cases env labels valued tail d all end l b cs)
+  pub ending_cases : (env : List NamedRegister) (labels : List Label) (valued tail : Bool) (d : Reg) (all : List ℕ) (end l b : ℕ) (cs : Cases) → Ends (select_cases env labels valued tail d all end l b cs)
   ending_cases env labels valued tail d all end l b NoCase next = inside_all
   ending_cases env labels valued tail d all end l b (Choose indexes body rest) next =
       inside_more refl (inside_in (ending_cases env labels valued tail d all end _ _ rest next) (ending_select env labels valued tail d b body _))
 
-  pub ending_waiting : (env : List Named) (labels : List Label) (b i : ℕ) (es : Expressions) → Ends (select_waiting env labels b i es)
+  pub ending_waiting : (env : List NamedRegister) (labels : List Label) (b i : ℕ) (es : Expressions) → Ends (select_waiting env labels b i es)
   ending_waiting env labels b i NoMore next = inside_all
   ending_waiting env labels b i (More e rest) next =
       inside_in (ending_when (not (is_light_address (scopes env) e)) _ (ending_select env labels false false _ i e) next) (ending_waiting env labels _ _ rest _)
 
-  pub ending_filled : (env : List Named) (labels : List Label) (b i : ℕ) (es : Expressions) → Ends (select_filled env labels b i es)
+  pub ending_filled : (env : List NamedRegister) (labels : List Label) (b i : ℕ) (es : Expressions) → Ends (select_filled env labels b i es)
   ending_filled env labels b i NoMore next = inside_all
   ending_filled env labels b i (More e rest) next =
       inside_in (ending_when (is_light_address (scopes env) e) _ (ending_select env labels false false _ i e) next) (ending_filled env labels _ _ rest _)
 
-  pub ending_bound : (env : List Named) (labels : List Label) (b : ℕ) (bs : Bindings) → Ends (select_bound env labels b bs)
+  pub ending_bound : (env : List NamedRegister) (labels : List Label) (b : ℕ) (bs : Bindings) → Ends (select_bound env labels b bs)
   ending_bound env labels b NoBinding next = inside_all
   ending_bound env labels b (Bind at name declared e rest) next =
       inside_in (ending_bound _ labels _ rest next) (ending_select env labels false false _ _ e _)
 
-  pub ending_seq : (env : List Named) (labels : List Label) (valued tail : Bool) (d : Reg) (b : ℕ) (es : Expressions) → Ends (select_seq env labels valued tail d b es)
+  pub ending_seq : (env : List NamedRegister) (labels : List Label) (valued tail : Bool) (d : Reg) (b : ℕ) (es : Expressions) → Ends (select_seq env labels valued tail d b es)
   ending_seq env labels valued tail d b NoMore next = inside_all
   ending_seq env labels valued tail d b (More e NoMore) next = ending_select env labels valued tail d (suc b) e next
   ending_seq env labels valued tail d b (More e (More g rest)) next =
       inside_in (ending_seq env labels valued tail d _ (More g rest) next) (ending_select env labels false false _ _ e _)
 
-  pub ending_handlers : (env : List Named) (labels : List Label) (valued tail : Bool) (d : Reg) (end l b : ℕ) (hs : Handlers) → Ends (select_handlers env labels valued tail d end l b hs)
+  pub ending_handlers : (env : List NamedRegister) (labels : List Label) (valued tail : Bool) (d : Reg) (end l b : ℕ) (hs : Handlers) → Ends (select_handlers env labels valued tail d end l b hs)
   ending_handlers env labels valued tail d end l b NoHandler next = inside_all
   ending_handlers env labels valued tail d end l b (Handle at label params body rest) next =
       inside_more refl (inside_in (ending_handlers env labels valued tail d end _ _ rest next) (ending_select _ labels valued tail d b body _))

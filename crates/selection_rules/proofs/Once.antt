@@ -21,7 +21,7 @@ use Rattle.mach_ir.specs.Meaning.{has_label, is_handler_of}
 use Rattle.mach_laws.specs.Expand.{Ending, all, more}
 use Rattle.std.proofs.Math.Bool.{or-false}
 use Rattle.mach_ir.specs.declared.mach.Instr.{Instr}
-use Rattle.selection_rules.specs.Select.{Shape, InRegisters, ConstantRight, ConstantLeft, PowerRight, shape_of, shape_op, shape_right, power_code, operator_code, Named, Label, scopes, fresh, reg_of, label_of, move_from, move_to, moves_all, exit_to, ordered, only_when, seats, from_seat, to_seat, first, params_from, symbol_of, unless_symbol, right_of, bound_test, comparison, select_test, is_based, select_base, call_of, count_cases, width_cases, select_cases, cell_stores, regs_of, width, width_row, width_bound, width_labels, width_handlers, select, select_waiting, select_filled, select_bound, select_seq, select_handlers, selected, with_params, is_no_value}
+use Rattle.selection_rules.specs.Select.{OperandShape, InRegisters, ConstantRight, ConstantLeft, PowerRight, operation_shape, shape_op, shape_right, power_code, operator_code, NamedRegister, Label, scopes, fresh_register, reg_of, visible_label, move_from, move_to, moves_all, exit_to_handler, ordered, only_when, seats, from_seat, to_seat, first_after_colours, params_from, called_symbol, unless_symbol, bound_test_operand, bound_test, comparison, select_test, is_based, select_base, call_of, count_cases, width_cases, select_cases, cell_stores, regs_of, width, width_row, width_bound, width_labels, width_handlers, select, select_waiting, select_filled, select_bound, select_seq, select_handlers, selected, with_params, is_no_value}
 use Rattle.cmm_tree.specs.Measures.{count_of}
 use Rattle.selection_rules.specs.Instructions as emit
 use Rattle.selection_rules.proofs.Choices.{kept_when, kept_unless, kept_constant, kept_left, kept_right, kept_tested, kept_if, kept_ordered}
@@ -163,7 +163,7 @@ moves_quiet [] to = nothing_marked
 moves_quiet (a ∷ from) [] = nothing_marked
 moves_quiet (a ∷ from) (d ∷ to) = then_quiet (moves_quiet from to) (unmarked (emit.move a d) (λ l. refl))
 
-exit_quiet : (o : Option Label) (from : List Reg) → Quiet (exit_to o from)
+exit_quiet : (o : Option Label) (from : List Reg) → Quiet (exit_to_handler o from)
 exit_quiet None from = nothing_marked
 exit_quiet (Some t) from = then_quiet (moves_quiet from t.params) (unmarked _ (λ l. refl))
 
@@ -180,8 +180,8 @@ call_quiet : (tail valued : Bool) (result : Ret) (o : Option (List ℕ)) (f : Re
 call_quiet true valued result o f regs n d = unmarked _ (λ l. refl)
 call_quiet false valued result o f regs n d = then_quiet (unmarked _ (λ l. refl)) (from_seat_quiet n result d)
 
-ordered_marks : {a b c d lo hi : ℕ} {x y : List Instr → List Instr} (first : Bool) → Marks (Range a b) x → Marks (Range c d) y → b ≤ c → lo ≤ a → b ≤ hi →
-    lo ≤ c → d ≤ hi → Marks (Range lo hi) (ordered first x y)
+ordered_marks : {a b c d lo hi : ℕ} {x y : List Instr → List Instr} (first_after_colours : Bool) → Marks (Range a b) x → Marks (Range c d) y → b ≤ c → lo ≤ a → b ≤ hi →
+    lo ≤ c → d ≤ hi → Marks (Range lo hi) (ordered first_after_colours x y)
 ordered_marks true m n le la bh lc dh = both_in m n (inl le) la bh lc dh
 ordered_marks false m n le la bh lc dh = both_in n m (inr le) lc dh la bh
 
@@ -192,7 +192,7 @@ power_quiet f k x y d =
     then_quiet (unmarked _ (λ l. refl)) (then_quiet (unmarked _ (λ l. refl)) (then_quiet (unmarked _ (λ l. refl))
     (then_quiet (unmarked _ (λ l. refl)) (then_quiet (unmarked _ (λ l. refl)) (unmarked _ (λ l. refl))))))
 
-operator_quiet : (s : Shape) (f : IntOp) (x y d : Reg) → Quiet (operator_code s f x y d)
+operator_quiet : (s : OperandShape) (f : IntOp) (x y d : Reg) → Quiet (operator_code s f x y d)
 operator_quiet (PowerRight k) f x y d = power_quiet f k x y d
 operator_quiet InRegisters f x y d = unmarked _ (λ l. refl)
 operator_quiet (ConstantRight i) f x y d = unmarked _ (λ l. refl)
@@ -200,7 +200,7 @@ operator_quiet (ConstantLeft i) f x y d = unmarked _ (λ l. refl)
 
 -- ---- light operands
 
-light_quiet : (env : List Named) (labels : List Label) (valued tail : Bool) (d : Reg) (b : ℕ) (e : Expression) → is_light (scopes env) e ≡ true → Quiet
+light_quiet : (env : List NamedRegister) (labels : List Label) (valued tail : Bool) (d : Reg) (b : ℕ) (e : Expression) → is_light (scopes env) e ≡ true → Quiet
     (select env labels valued tail d b e)
 light_quiet env labels valued tail d b (Integer at w) light = unmarked _ (λ l. refl)
 light_quiet env labels valued tail d b (Symbol at w) light = unmarked _ (λ l. refl)
@@ -209,11 +209,11 @@ light_quiet env labels valued tail d b (Operator at op left right) light =
     let both = (and_parts (is_light_operator op) (is_light (scopes env) left && is_light (scopes env) right) light).1 in
     then_quiet
     (kept_ordered Quiet (λ x y. then_quiet) (is_left_first (scopes env) left right)
-    (kept_left (Marks _) no_marks (shape_of op left right) (light_quiet env labels false false _ _ left
+    (kept_left (Marks _) no_marks (operation_shape op left right) (light_quiet env labels false false _ _ left
     (and_parts (is_light (scopes env) left) (is_light (scopes env) right) both).0))
-    (kept_right (Marks _) no_marks (shape_of op left right) (light_quiet env labels false false _ _ right
+    (kept_right (Marks _) no_marks (operation_shape op left right) (light_quiet env labels false false _ _ right
     (and_parts (is_light (scopes env) left) (is_light (scopes env) right) both).1)))
-    (operator_quiet (shape_of op left right) op _ _ _)
+    (operator_quiet (operation_shape op left right) op _ _ _)
 light_quiet env labels valued tail d b (Pointer at w) light = absurd (true≢false (sym light))
 light_quiet env labels valued tail d b (Nothing at) light = absurd (true≢false (sym light))
 light_quiet env labels valued tail d b (Float at q es) light = absurd (true≢false (sym light))
@@ -237,12 +237,12 @@ pub address_is_light : (sc : List Scoped) (e : Expression) → is_light_address 
 address_is_light sc (Operator at AddA left right) light = light
 address_is_light sc e light = absurd (true≢false (sym light))
 
-light_when : (env : List Named) (labels : List Label) (d : Reg) (b : ℕ) (e : Expression) (q : Bool) → is_light_address (scopes env) e ≡ q → Quiet
+light_when : (env : List NamedRegister) (labels : List Label) (d : Reg) (b : ℕ) (e : Expression) (q : Bool) → is_light_address (scopes env) e ≡ q → Quiet
     (only_when q (select env labels false false d b e))
 light_when env labels d b e true is = light_quiet env labels false false d b e (address_is_light (scopes env) e is)
 light_when env labels d b e false is = nothing_marked
 
-filled_quiet : (env : List Named) (labels : List Label) (b i : ℕ) (es : Expressions) → Quiet (select_filled env labels b i es)
+filled_quiet : (env : List NamedRegister) (labels : List Label) (b i : ℕ) (es : Expressions) → Quiet (select_filled env labels b i es)
 filled_quiet env labels b i NoMore = nothing_marked
 filled_quiet env labels b i (More e rest) = then_quiet (filled_quiet env labels (suc b) (i + width e) rest)
     (light_when env labels _ i e (is_light_address (scopes env) e) refl)
@@ -265,7 +265,7 @@ inside : {lo hi a b l : ℕ} → lo ≤ a → b ≤ hi → Range a b l → Range
 inside la bh r = let f = r.from in let t = r.to in record { from = omega (arith, f, la); to = omega (arith, t, bh) }
 
 -- the callee of a call, before the operands that have waited where it is no light address, and else after them
-callee_marks : {lo hi : ℕ} (env : List Named) (labels : List Label) (f : Reg) (callee : Expression) (base row i : ℕ) (arguments : Expressions)
+callee_marks : {lo hi : ℕ} (env : List NamedRegister) (labels : List Label) (f : Reg) (callee : Expression) (base row i : ℕ) (arguments : Expressions)
     (light : Bool) (o : Option (List ℕ)) → is_light_address (scopes env) callee ≡ light →
     Marks (Range lo hi) (select env labels false false f base callee) →
     Marks (Range lo hi)
@@ -276,7 +276,7 @@ callee_marks env labels f callee base row i arguments true o is m = quiet_in
 callee_marks env labels f callee base row i arguments false o is m = then_quiet (kept_unless (Marks _) no_marks o m) (filled_quiet env labels row i arguments)
 
 mutual
-  marks_select : (env : List Named) (labels : List Label) (valued tail : Bool) (d : Reg) (b : ℕ) (e : Expression) → Marks (Range b (b + width e))
+  marks_select : (env : List NamedRegister) (labels : List Label) (valued tail : Bool) (d : Reg) (b : ℕ) (e : Expression) → Marks (Range b (b + width e))
       (select env labels valued tail d b e)
   marks_select env labels valued tail d b (Integer at w) = quiet_in (unmarked _ (λ l. refl))
   marks_select env labels valued tail d b (Pointer at w) = quiet_in (unmarked _ (λ l. refl))
@@ -290,21 +290,21 @@ mutual
       (widen (omega arith) (omega arith) (marks_select env labels false false _ (suc (suc b)) e)) (to_quiet _ (reg_of env x))
   marks_select env labels valued tail d b (Operator at op left right) =
       then_quiet
-      (ordered_marks (is_left_first (scopes env) left right) (kept_left (Marks _) no_marks (shape_of op left right)
+      (ordered_marks (is_left_first (scopes env) left right) (kept_left (Marks _) no_marks (operation_shape op left right)
       (marks_select env labels false false _ (suc (suc (suc b))) left))
-      (kept_right (Marks _) no_marks (shape_of op left right) (marks_select env labels false false _ (suc (suc (suc b)) + width left) right))
+      (kept_right (Marks _) no_marks (operation_shape op left right) (marks_select env labels false false _ (suc (suc (suc b)) + width left) right))
       (le_refl (suc (suc (suc b)) + width left)) (omega arith) (omega arith) (omega arith) (omega arith))
-      (operator_quiet (shape_of op left right) op _ _ _)
+      (operator_quiet (operation_shape op left right) op _ _ _)
   marks_select env labels valued tail d b (App at callee arguments result result_at) =
       let row = suc (suc b) in
       let base = suc (row + count_of arguments + count_of arguments) in
       let sum = row_width arguments in
       then_quiet
       (both_in (marks_waiting env labels row (base + width callee) arguments)
-      (callee_marks env labels _ callee base row (base + width callee) arguments (is_light_address (scopes env) callee) (symbol_of callee) refl
+      (callee_marks env labels _ callee base row (base + width callee) arguments (is_light_address (scopes env) callee) (called_symbol callee) refl
       (marks_select env labels false false _ base callee))
       (inr (le_refl (base + width callee))) (omega arith) (omega (arith, sum)) (omega arith) (omega (arith, sum)))
-      (then_quiet (moves_quiet (regs_of env row arguments) _) (call_quiet tail _ result (symbol_of callee) _ _ _ _))
+      (then_quiet (moves_quiet (regs_of env row arguments) _) (call_quiet tail _ result (called_symbol callee) _ _ _ _))
   marks_select env labels valued tail d b (Extcall at frame name arguments result result_at) =
       let given = suc b + count_of arguments + count_of arguments in
       let sum = row_width arguments in
@@ -341,7 +341,7 @@ mutual
   marks_select env labels valued tail d b (Exit at q label arguments) =
       let sum = row_width arguments in
       then_quiet (widen (omega arith) (omega (arith, sum)) (marks_waiting env labels (suc b) (suc b + count_of arguments) arguments))
-      (then_quiet (filled_quiet env labels (suc b) (suc b + count_of arguments) arguments) (exit_quiet (label_of labels label) _))
+      (then_quiet (filled_quiet env labels (suc b) (suc b + count_of arguments) arguments) (exit_quiet (visible_label labels label) _))
   marks_select env labels valued tail d b (Float at q es) = quiet_in nothing_marked
   marks_select env labels valued tail d b (Alloc at q h operands) =
       let row = suc (suc (suc b)) in
@@ -366,7 +366,7 @@ mutual
   marks_select env labels valued tail d b (Checkbound at left right) =
       then_quiet
       (ordered_marks (is_left_first (scopes env) left right) (marks_select env labels false false _ (suc (suc (suc b))) left)
-      (kept_constant (Marks _) no_marks (right_of bound_test right) (marks_select env labels false false _ (suc (suc (suc b)) + width left) right))
+      (kept_constant (Marks _) no_marks (bound_test_operand bound_test right) (marks_select env labels false false _ (suc (suc (suc b)) + width left) right))
       (le_refl (suc (suc (suc b)) + width left)) (omega arith) (omega arith) (omega arith) (omega arith))
       (unmarked _ (λ l. refl))
   marks_select env labels valued tail d b (Switch at q n e cs) =
@@ -395,16 +395,16 @@ mutual
       (λ l p q. ⊎_elim (λ q. apart_left (omega arith) p q) (λ q. apart_left (omega arith) p q) q)))
       (λ l p q. ⊎_elim (λ q. apart_right (omega arith) p q) (λ q. ⊎_elim (λ q. apart_left (omega arith) p q) (λ q. apart_right (omega arith) p q) q) q)))
 
-  marks_base : (env : List Named) (labels : List Label) (t b : ℕ) (e : Expression) (whole : List Instr → List Instr) → Marks (Range b (b + width e)) whole →
+  marks_base : (env : List NamedRegister) (labels : List Label) (t b : ℕ) (e : Expression) (whole : List Instr → List Instr) → Marks (Range b (b + width e)) whole →
       Marks (Range b (b + width e)) (select_base env labels t b e whole)
   marks_base env labels t b (Operator at op base (Integer at' w)) whole m =
-      kept_if (Marks _) (is_based op w) (widen (omega arith) (omega arith) (marks_select env labels false false (fresh t (type_of (scopes env) base)) b base)) m
+      kept_if (Marks _) (is_based op w) (widen (omega arith) (omega arith) (marks_select env labels false false (fresh_register t (type_of (scopes env) base)) b base)) m
   marks_base env labels t b e whole m = m
 
-  marks_test : (env : List Named) (labels : List Label) (l b : ℕ) (e : Expression) (value : List Instr → List Instr) → Marks (Range b (b + width e)) value →
+  marks_test : (env : List NamedRegister) (labels : List Label) (l b : ℕ) (e : Expression) (value : List Instr → List Instr) → Marks (Range b (b + width e)) value →
       Marks (Range b (b + width e)) (λ next. select_test env labels l b e (value next) next)
   marks_test env labels l b (Operator at op left right) value v =
-      let s = shape_of op left right in
+      let s = operation_shape op left right in
       kept_tested (Marks _) (comparison (shape_op s op) (shape_right s)) _
       (λ t. then_quiet
       (ordered_marks (is_left_first (scopes env) left right) (kept_left (Marks _) no_marks s (marks_select env labels false false _ (suc (suc (suc b))) left))
@@ -414,7 +414,7 @@ mutual
       v
   marks_test env labels l b e value v = v
 
-  marks_cases : (env : List Named) (labels : List Label) (valued tail : Bool) (d : Reg) (places : List ℕ) (end l i : ℕ) (cs : Cases) → l + count_cases cs ≤ i →
+  marks_cases : (env : List NamedRegister) (labels : List Label) (valued tail : Bool) (d : Reg) (places : List ℕ) (end l i : ℕ) (cs : Cases) → l + count_cases cs ≤ i →
       Marks (λ n. Range l (l + count_cases cs) n ⊎ Range i (i + width_cases cs) n) (select_cases env labels valued tail d places end l i cs)
   marks_cases env labels valued tail d places end l i NoCase le = quiet_in nothing_marked
   marks_cases env labels valued tail d places end l i (Choose indexes body rest) le =
@@ -427,20 +427,20 @@ mutual
       (seq mb mr (λ n p q. ⊎_elim (λ q. apart_right (omega (arith, le)) p q) (λ q. apart_left (omega arith) p q) q))
       (λ n p q. ⊎_elim (λ q. apart_left (omega (arith, le)) p q) (λ q. ⊎_elim (λ q. apart_left (omega arith) p q) (λ q. apart_left (omega (arith, le)) p q) q) q))
 
-  marks_waiting : (env : List Named) (labels : List Label) (b i : ℕ) (es : Expressions) → Marks (Range i (i + row_sum es)) (select_waiting env labels b i es)
+  marks_waiting : (env : List NamedRegister) (labels : List Label) (b i : ℕ) (es : Expressions) → Marks (Range i (i + row_sum es)) (select_waiting env labels b i es)
   marks_waiting env labels b i NoMore = quiet_in nothing_marked
   marks_waiting env labels b i (More e rest) =
       both_in (marks_waiting env labels (suc b) (i + width e) rest) (kept_when (Marks _) no_marks (not (is_light_address (scopes env) e))
       (marks_select env labels false false _ i e)) (inr (le_refl (i + width e)))
       (omega arith) (omega arith) (omega arith) (omega arith)
 
-  marks_bound : (env : List Named) (labels : List Label) (b : ℕ) (bs : Bindings) → Marks (Range b (b + width_bound bs)) (select_bound env labels b bs)
+  marks_bound : (env : List NamedRegister) (labels : List Label) (b : ℕ) (bs : Bindings) → Marks (Range b (b + width_bound bs)) (select_bound env labels b bs)
   marks_bound env labels b NoBinding = quiet_in nothing_marked
   marks_bound env labels b (Bind at x declared e rest) =
       both_in (marks_select env labels false false _ (suc b) e) (marks_bound _ labels (suc (b + width e)) rest) (inl (omega arith)) (omega arith)
       (omega arith) (omega arith) (omega arith)
 
-  marks_seq : (env : List Named) (labels : List Label) (valued tail : Bool) (d : Reg) (b : ℕ) (es : Expressions) → Marks (Range b (b + width_row es))
+  marks_seq : (env : List NamedRegister) (labels : List Label) (valued tail : Bool) (d : Reg) (b : ℕ) (es : Expressions) → Marks (Range b (b + width_row es))
       (select_seq env labels valued tail d b es)
   marks_seq env labels valued tail d b NoMore = quiet_in nothing_marked
   marks_seq env labels valued tail d b (More e NoMore) = widen (omega arith) (omega arith) (marks_select env labels valued tail d (suc b) e)
@@ -448,7 +448,7 @@ mutual
       both_in (marks_select env labels false false _ (suc b) e) (marks_seq env labels valued tail d (suc (b + width e)) (More g rest)) (inl (omega arith))
       (omega arith) (omega arith) (omega arith) (omega arith)
 
-  marks_handlers : (env : List Named) (labels : List Label) (valued tail : Bool) (d : Reg) (end l i : ℕ) (hs : Handlers) → l + width_labels hs ≤ i →
+  marks_handlers : (env : List NamedRegister) (labels : List Label) (valued tail : Bool) (d : Reg) (end l i : ℕ) (hs : Handlers) → l + width_labels hs ≤ i →
       Marks (λ n. Range l (l + width_labels hs) n ⊎ Range i (i + width_handlers hs) n) (select_handlers env labels valued tail d end l i hs)
   marks_handlers env labels valued tail d end l i NoHandler le = quiet_in nothing_marked
   marks_handlers env labels valued tail d end l i (Handle at label params body rest) le =
@@ -466,16 +466,16 @@ returns_quiet d n ret.Unit = nothing_marked
 returns_quiet d n (ret.Comp c) = unmarked _ (λ l. refl)
 
 abbrev body_start : FunctionTree → ℕ
-body_start f = suc (suc (first + length f.params + length f.params))
+body_start f = suc (suc (first_after_colours + length f.params + length f.params))
 
 whole_marks : (f : FunctionTree) → Marks (Range (body_start f) (body_start f + width f.body))
-    (λ next. moves_all (seats 0 first (params_from (first + length f.params) f.params)) (params_from (first + length f.params) f.params)
-    (select (with_params f.params (params_from (first + length f.params) f.params) []) [] (not (is_no_value (body_type f))) true
-    (fresh (first + length f.params + length f.params) (body_type f)) (body_start f) f.body
-    (to_seat (fresh (first + length f.params + length f.params) (body_type f)) (suc (first + length f.params + length f.params))
+    (λ next. moves_all (seats 0 first_after_colours (params_from (first_after_colours + length f.params) f.params)) (params_from (first_after_colours + length f.params) f.params)
+    (select (with_params f.params (params_from (first_after_colours + length f.params) f.params) []) [] (not (is_no_value (body_type f))) true
+    (fresh_register (first_after_colours + length f.params + length f.params) (body_type f)) (body_start f) f.body
+    (to_seat (fresh_register (first_after_colours + length f.params + length f.params) (body_type f)) (suc (first_after_colours + length f.params + length f.params))
     (result_of (body_type f)) next)))
 whole_marks f =
-    quiet_then (moves_quiet (seats 0 first (params_from (first + length f.params) f.params)) (params_from (first + length f.params) f.params))
+    quiet_then (moves_quiet (seats 0 first_after_colours (params_from (first_after_colours + length f.params) f.params)) (params_from (first_after_colours + length f.params) f.params))
     (then_quiet (marks_select _ [] _ true _ _ f.body) (returns_quiet _ _ (result_of (body_type f))))
 
 once : (f : FunctionTree) → Distinct gives (selected f).code

@@ -23,12 +23,12 @@ use Rattle.mach_ir.specs.declared.op.Pure.TheVariants as pure
 use Rattle.mach_ir.specs.declared.op.Right.{Right}
 use Rattle.mach_ir.specs.declared.op.Right.TheVariants as right
 use Rattle.mach_ir.specs.Acts.{Around, pure_act, one_result}
-use Rattle.mach_ir.specs.Runs.{Place, Step, Continues, IsStuck}
-use Rattle.mach_ir.specs.Meaning.{State, File, values, on_act, wrote, put, put_if}
+use Rattle.mach_ir.specs.Runs.{ActivationSetting, Step, Continues, IsStuck}
+use Rattle.mach_ir.specs.Meaning.{State, File, values, on_act, wrote, assign_register, put_if}
 use Rattle.selection_rules.specs.Bounded.{BoundedState}
-use Rattle.selection_rules.specs.Kept.{on_values, step}
-use Rattle.selection_rules.specs.Select.{Shape, operator_code, power_code, rounded}
-use Rattle.selection_rules.specs.Follow.{Follows, walks, no_words}
+use Rattle.selection_rules.specs.Kept.{on_lossless_values, lossless_step}
+use Rattle.selection_rules.specs.Select.{OperandShape, operator_code, power_code, rounded}
+use Rattle.selection_rules.specs.Follow.{FollowsText, walks, no_words}
 use Rattle.selection_rules.specs.Instructions as emit
 use Rattle.selection_rules.proofs.Files.{Holds, put_same, holds_put}
 use Rattle.selection_rules.proofs.Commuting.{not_far}
@@ -59,21 +59,21 @@ divides is_mod s v k w e = quotient_some rem_word v w (subst (λ n. 0 < n) e (po
 -- writes to one register
 pub data Reached (y : Reg) (f : File) : File → Type 0 where
   same : Reached y f f
-  wrote_to : {g : File} (v : Value) → Reached y f g → Reached y f (put y v g)
+  wrote_to : {g : File} (v : Value) → Reached y f g → Reached y f (assign_register y v g)
 
-pub reached : {y : Reg} {f g : File} (P : File → Type 0) → ((v : Value) (g : File) → P g → P (put y v g)) → P f → Reached y f g → P g
+pub reached : {y : Reg} {f g : File} (P : File → Type 0) → ((v : Value) (g : File) → P g → P (assign_register y v g)) → P f → Reached y f g → P g
 reached P more p same = p
 reached P more p (wrote_to {g = g} v r) = more v g (reached P more p r)
 
 -- a relation that the steps of the machine keep
-pub record Stepping (c : Place) (m : Mach) (F : Does → Step State → Type 0) : Type 0 where
-  pub walks : (d : Does) (s : State) → F d (step c m s) → F d (Continues s)
+pub record Stepping (c : ActivationSetting) (m : Mach) (F : Does → Step State → Type 0) : Type 0 where
+  pub walks : (d : Does) (s : State) → F d (lossless_step c m s) → F d (Continues s)
   pub no_words : (d : Does) (s : State) → (BoundedState s → ⊥) → F d (Continues s)
 
-pub follows_stepping : (c : Place) (m : Mach) → Stepping c m (Follows c m)
+pub follows_stepping : (c : ActivationSetting) (m : Mach) → Stepping c m (FollowsText c m)
 follows_stepping c m = record { walks = λ d s f. walks f; no_words = λ d s out. no_words out }
 
-module _ (c : Place) (m : Mach) (a : Around) where
+module _ (c : ActivationSetting) (m : Mach) (a : Around) where
   abbrev pub now : List Instr → File → State
   now rest f = record { rest = rest; file = f; around = a }
 
@@ -82,7 +82,7 @@ module _ (c : Place) (m : Mach) (a : Around) where
   finished d next g (Ok v) = wrote next a (put_if (fits c.setting.end (type_of_comp d.comp) v) d v (Some g))
   finished d next g (Err kind) = IsStuck
 
-module _ (c : Place) (m : Mach) (F : Does → Step State → Type 0) (goes : Stepping c m F) (a : Around) where
+module _ (c : ActivationSetting) (m : Mach) (F : Does → Step State → Type 0) (goes : Stepping c m F) (a : Around) where
   finish : {x : Does} (f : IntOp) (r : Right) (args : List Reg) (d : Reg) (next : List Instr) (g : File) (o : Result Value Kind) →
       F x (finished c m a d next g o) → F x (on_act c m (emit.operator f r args d) next g a (one_result a o))
   finish f r args d next g (Ok v) z = z
@@ -93,18 +93,18 @@ module _ (c : Place) (m : Mach) (F : Does → Step State → Type 0) (goes : Ste
       values g args ≡ Some vs → pure_act c.setting (pure.Operator f r) vs a ≡ one_result a o →
       F x (finished c m a d next g o) → F x (Continues (now c m a (emit.operator f r args d ∷ next) g))
   one_step {x} f r args d next g vs o read acts z =
-      goes.walks x (now c m a (emit.operator f r args d ∷ next) g) (subst (λ q. F x (on_values c m (emit.operator f r args d) next g a q)) (sym read)
+      goes.walks x (now c m a (emit.operator f r args d ∷ next) g) (subst (λ q. F x (on_lossless_values c m (emit.operator f r args d) next g a q)) (sym read)
       (subst (λ q. F x (on_act c m (emit.operator f r args d) next g a q)) (sym acts) (finish f r args d next g o z)))
 
   -- a word comes to an int register
-  comes : {x : Does} (y : Reg) (next : List Instr) (g : File) (n : ℕ) → y.comp ≡ comp.Int → F x (Continues (now c m a next (put y (Word n) g))) → F x (finished c m a y next g (Ok (Word n)))
+  comes : {x : Does} (y : Reg) (next : List Instr) (g : File) (n : ℕ) → y.comp ≡ comp.Int → F x (Continues (now c m a next (assign_register y (Word n) g))) → F x (finished c m a y next g (Ok (Word n)))
   comes {x} y next g n e z = subst (λ (t : Comp). F x (wrote next a (put_if (fits c.setting.end (type_of_comp t) (Word n)) y (Word n) (Some g)))) (sym e) z
 
   past : {x : Does} {s : State} (q : Reg) (n : ℕ) (g : File) → Holds q (Word n) g → s.file ≡ g → (n < 2 ^ 64 → ⊥) → F x (Continues s)
   past {x} {s} q n g h e not' = goes.no_words x s (λ b. not' (b.file.each q.number (record { comp = q.comp; value = Word n }) (ap (λ (f : File). f q.number) e ∙ h.is)))
 
   module _ (k n : ℕ) (x y d : Reg) (next : List Instr) (apart : x.number ≡ y.number → ⊥) (whole : y.comp ≡ comp.Int) (low : 1 ≤ k) (top : k < 63) where
-    other : {u : ℕ} (v : Value) {g : File} → Holds x (Word u) g → Holds x (Word u) (put y v g)
+    other : {u : ℕ} (v : Value) {g : File} → Holds x (Word u) g → Holds x (Word u) (assign_register y v g)
     other v h = holds_put y v (λ e. apart (sym e)) h
 
     rounds : {z : Does} (rest : List Instr) (f : File) → Holds x (Word n) f →
@@ -113,9 +113,9 @@ module _ (c : Place) (m : Mach) (F : Does → Step State → Type 0) (goes : Ste
     rounds rest f h on =
         let s1 : ℕ = sar_word n 63 in
         let s2 : ℕ = shr_word s1 (64 - k) in
-        let f1 : File = put y (Word s1) f in
-        let f2 : File = put y (Word s2) f1 in
-        let f3 : File = put y (Word (rounding n k)) f2 in
+        let f1 : File = assign_register y (Word s1) f in
+        let f2 : File = assign_register y (Word s2) f1 in
+        let f3 : File = assign_register y (Word (rounding n k)) f2 in
         let h2 : Holds x (Word n) f2 = other (Word s2) (other (Word s1) h) in
         one_step operators.Sar (right.Constant 63) (x ∷ []) y _ f (Word n ∷ []) (Ok (Word s1)) (one_value h) refl
         (comes y _ f s1 whole
@@ -137,8 +137,8 @@ module _ (c : Place) (m : Mach) (F : Does → Step State → Type 0) (goes : Ste
         (λ g r hx hy.
         let s1 : ℕ = sar_word (rounding n k) k in
         let s2 : ℕ = shl_word s1 k in
-        let g1 : File = put y (Word s1) g in
-        let g2 : File = put y (Word s2) g1 in
+        let g1 : File = assign_register y (Word s1) g in
+        let g2 : File = assign_register y (Word s2) g1 in
         one_step operators.Sar (right.Constant k) (y ∷ []) y _ g (Word (rounding n k) ∷ []) (Ok (Word s1)) (one_value hy) (ap (one_result a) (shift_is sar_word (rounding n k) k (omega (arith, top))))
         (comes y _ g s1 whole
         (one_step operators.Shl (right.Constant k) (y ∷ []) y _ g1 (Word s1 ∷ []) (Ok (Word s2)) (one_value (put_same y (Word s1) g)) (ap (one_result a) (shift_is shl_word s1 k (omega (arith, top))))
@@ -147,7 +147,7 @@ module _ (c : Place) (m : Mach) (F : Does → Step State → Type 0) (goes : Ste
         (ap (λ u. one_result a (Ok (Word u))) (remainder n k small top ∙ ap (λ u. rem_word n u) e)) (on g2 (wrote_to (Word s2) (wrote_to (Word s1) r))))))))
 
   -- the code of an operator writes what the operator gives, and on the way the register of its right operand
-  pub operator_follows : {op : IntOp} {s : Shape} {x y : Reg} {v w : Value} {f : File} (d : Reg) (next : List Instr) (go : Result Value Kind → Does) →
+  pub operator_follows : {op : IntOp} {s : OperandShape} {x y : Reg} {v w : Value} {f : File} (d : Reg) (next : List Instr) (go : Result Value Kind → Does) →
       ((kind : Kind) (z : Step State) → F (go (Err kind)) z) → (x.number ≡ y.number → ⊥) → Operands op x y f s v w →
       ((g : File) → Reached y f g → (o : Result Value Kind) → F (go o) (finished c m a d next g o)) →
       F (go (apply op (sizes a.memory) v w)) (Continues (now c m a (operator_code s op x y d next) f))

@@ -11,20 +11,20 @@ use Rattle.cmm_tree.specs.Tree.{LabelTree, Expression}
 use Rattle.cmm_types.specs.Types.{type_of}
 use Rattle.cmm_meaning.specs.State.{Gave, Threw, Binding, Here, outermost}
 use Rattle.meaning_laws.specs.Does.{Leaves, Giving, Exiting, Raising, Does}
-use Rattle.meaning_laws.specs.Interaction.{Part, onward, of_type, node}
+use Rattle.meaning_laws.specs.Interaction.{Part, onward, of_type, node_part}
 use Rattle.mach_ir.specs.declared.reg.Reg.{Reg}
 use Rattle.mach_ir.specs.declared.mach.Instr.{Instr}
 use Rattle.mach_ir.specs.declared.mach.Mach.{Mach}
-use Rattle.mach_ir.specs.Runs.{Place, Step, Continues, Finishes, IsStuck}
-use Rattle.mach_ir.specs.Meaning.{State, File, put, put_if, put_all, has_label as marks, after_label, is_handler_of, from_handler, tries_at, wrote}
+use Rattle.mach_ir.specs.Runs.{ActivationSetting, Step, Continues, Finishes, IsStuck}
+use Rattle.mach_ir.specs.Meaning.{State, File, assign_register, put_if, put_all, has_label as marks, after_label, is_handler_of, from_handler, tries_at, wrote}
 use Rattle.mach_ir.specs.Acts.{Around, drop_tries}
-use Rattle.selection_rules.specs.Select.{Named, Label, scopes, label_of, inner_valued, inner_dest}
-use Rattle.selection_rules.specs.Follow.{Follows, pays, fails}
+use Rattle.selection_rules.specs.Select.{NamedRegister, Label, scopes, visible_label, inner_valued, inner_dest}
+use Rattle.selection_rules.specs.Follow.{FollowsText, pays, fails}
 use Rattle.selection_rules.proofs.Files.{one, Holds, put_same, holds_put, Survives, holds_survives, Under, IsNamed, Stands, stands_put, scope_is, stands_length}
 use Rattle.bs_words.specs.declared.values.Value.TheVariants as value
 use Rattle.bs_words.specs.declared.types.Ty.TheVariants as ty
 use Rattle.meaning_laws.specs.Interaction as part
-use Rattle.selection_rules.specs.Follow.{text_of}
+use Rattle.selection_rules.specs.Follow.{text_setting}
 use Rattle.mach_laws.specs.Expand.{Ending, all, more}
 use Rattle.mach_laws.proofs.Places.{ending_next}
 
@@ -67,16 +67,16 @@ pub record WellLabelled (m : Mach) : Type 0 where
 -- ---- what stays as it is
 
 -- a register that code may write: a new one, the destination, or that of a name
-pub data May (env : List Named) (b d n : ℕ) : Type 0 where
+pub data May (env : List NamedRegister) (b d n : ℕ) : Type 0 where
   new : b ≤ n → May env b d n
   dest : n ≡ d → May env b d n
   name : IsNamed n env → May env b d n
 
-pub record Stable (env : List Named) (b d : ℕ) (P : File → Type 0) : Type 0 where
-  pub puts : (r : Reg) (v : Value) (f : File) → May env b d r.number → P f → P (put r v f)
+pub record Stable (env : List NamedRegister) (b d : ℕ) (P : File → Type 0) : Type 0 where
+  pub puts : (r : Reg) (v : Value) (f : File) → May env b d r.number → P f → P (assign_register r v f)
   pub calls : (f g : File) → Survives f g → P f → P g
 
-pub stable_inner : {env : List Named} {b d : ℕ} {P : File → Type 0} (n i : ℕ) → b ≤ n → b ≤ i → Stable env b d P → Stable env i n P
+pub stable_inner : {env : List NamedRegister} {b d : ℕ} {P : File → Type 0} (n i : ℕ) → b ≤ n → b ≤ i → Stable env b d P → Stable env i n P
 stable_inner {env} {b} {d} {P} n i le less s =
     record { puts = λ r v f may p. s.puts r v f (by r.number may) p; calls = λ f g w p. s.calls f g w p }
   where
@@ -85,7 +85,7 @@ stable_inner {env} {b} {d} {P} n i le less s =
     by x (dest e) = new (omega (arith, e, le))
     by x (name q) = name q
 
-pub stable_same : {env : List Named} {b d : ℕ} {P : File → Type 0} (i : ℕ) → b ≤ i → Stable env b d P → Stable env i d P
+pub stable_same : {env : List NamedRegister} {b d : ℕ} {P : File → Type 0} (i : ℕ) → b ≤ i → Stable env b d P → Stable env i d P
 stable_same {env} {b} {d} {P} i less s =
     record { puts = λ r v f may p. s.puts r v f (by r.number may) p; calls = λ f g w p. s.calls f g w p }
   where
@@ -99,7 +99,7 @@ pub record And (P : File → Type 0) (t : Reg) (v : Value) (f : File) : Type 0 w
   pub rest : P f
   pub holds : Holds t v f
 
-pub stable_and : {env : List Named} {b d : ℕ} {P : File → Type 0} (t : Reg) (v : Value) → t.number < b → (t.number ≡ d → ⊥) → (IsNamed t.number env → ⊥) → 21 ≤ t.number →
+pub stable_and : {env : List NamedRegister} {b d : ℕ} {P : File → Type 0} (t : Reg) (v : Value) → t.number < b → (t.number ≡ d → ⊥) → (IsNamed t.number env → ⊥) → 21 ≤ t.number →
     Stable env b d P → Stable env b d (And P t v)
 stable_and {env} {b} {d} t v a e i z s =
     record {
@@ -135,21 +135,21 @@ lower_more n le (a_label u l) = a_label (all_under_more n le u) (lower_more n le
 -- ---- activations
 
 -- the names of a part's own activation are there, under those of what is inside
-abbrev pub Reaching : List Named → Here → File → Type 0
+abbrev pub Reaching : List NamedRegister → Here → File → Type 0
 Reaching env h f = Stands env (outermost (length env) h.names) f
 
 outermost_all : (names : List Binding) (n : ℕ) → length names ≡ n → outermost n names ≡ names
 outermost_all names n e = let none' : length names - n ≡ 0 = omega (arith, e) in ap (λ k. drop k names) none'
 
-pub reaching_now : {env : List Named} (h : Here) {f : File} → Stands env h.names f → Reaching env h f
+pub reaching_now : {env : List NamedRegister} (h : Here) {f : File} → Stands env h.names f → Reaching env h f
 reaching_now {env} h {f} s = subst (λ ns. Stands env ns f) (sym (outermost_all h.names (length env) (stands_length s))) s
 
-stands_rest : {x : Named} {env : List Named} {f : File} (ns : List Binding) → Stands (x ∷ env) ns f → (b : Binding) (rest : List Binding) → ns ≡ b ∷ rest → Stands env rest f
+stands_rest : {x : NamedRegister} {env : List NamedRegister} {f : File} (ns : List Binding) → Stands (x ∷ env) ns f → (b : Binding) (rest : List Binding) → ns ≡ b ∷ rest → Stands env rest f
 stands_rest [] s b rest e = elim s [ ]
 stands_rest {env = env} {f = f} (n ∷ ns) (one q h s) b rest e =
     let same : ns ≡ rest = cc in subst (λ ms. Stands env ms f) same s
 
-pub reaching_out : {x : Named} {env : List Named} (h : Here) {f : File} → Reaching (x ∷ env) h f → Reaching env h f
+pub reaching_out : {x : NamedRegister} {env : List NamedRegister} (h : Here) {f : File} → Reaching (x ∷ env) h f → Reaching env h f
 reaching_out {x} {env} h {f} s =
     let names = h.names in
     let l = length env in
@@ -172,7 +172,7 @@ abbrev pub raised_to : Mach → List ℕ → Value → File → Memory → Step 
 raised_to m [] v f memory = Finishes (Threw v memory)
 raised_to m (l ∷ ts) v f memory = Continues (record { rest = from_handler l m.code; file = f; around = record { memory = memory; unwritten = []; tries = ts; raised = Some v } })
 
-module _ (c : Place) (m : Mach) (turns : ℕ) (ts : List ℕ) where
+module _ (c : ActivationSetting) (m : Mach) (turns : ℕ) (ts : List ℕ) where
   abbrev pub end : ℕ
   end = c.setting.end
 
@@ -202,10 +202,10 @@ module _ (c : Place) (m : Mach) (turns : ℕ) (ts : List ℕ) where
   based l = record { below = l.below; frame = l.frame }
 
   -- what follows where a part is left by an exit or a raise
-  pub record Outs {A : Type 0} (env : List Named) (labels : List Label) (P : File → Type 0) (k : Leaves A → Does) : Type 0 where
+  pub record Outs {A : Type 0} (env : List NamedRegister) (labels : List Label) (P : File → Type 0) (k : Leaves A → Does) : Type 0 where
     pub exit : (l : LabelTree) (values : List Value) (h : Here) (f : File) (memory : Memory) → Based h → Reaching env h f → P f →
-        Follows c m (k (Exiting l values h memory)) (arrive (label_of labels l) values f memory)
-    pub raising : (v : Value) → fits end ty.Val v ≡ true → (h : Here) (f : File) (memory : Memory) → Based h → Reaching env h f → P f → Follows c m (k (Raising v h memory)) (raised_to m ts v f memory)
+        FollowsText c m (k (Exiting l values h memory)) (arrive (visible_label labels l) values f memory)
+    pub raising : (v : Value) → fits end ty.Val v ≡ true → (h : Here) (f : File) (memory : Memory) → Based h → Reaching env h f → P f → FollowsText c m (k (Raising v h memory)) (raised_to m ts v f memory)
 
   -- a value of this type, or any
   pub data Fit : Option Ty → Value → Type 0 where
@@ -237,33 +237,33 @@ module _ (c : Place) (m : Mach) (turns : ℕ) (ts : List ℕ) where
   kept false v = None
 
   -- what follows a part whose code leaves its value in `d` and goes on with `next`
-  pub record After (o : Option Ty) (env : List Named) (labels : List Label) (valued tail : Bool) (d : Reg) (next : List Instr) (P : File → Type 0) (k : Leaves (Option Value) → Does) : Type 0 where
+  pub record After (o : Option Ty) (env : List NamedRegister) (labels : List Label) (valued tail : Bool) (d : Reg) (next : List Instr) (P : File → Type 0) (k : Leaves (Option Value) → Does) : Type 0 where
     pub outs : Outs env labels P k
-    pub giving : (v : Option Value) (h : Here) (f : File) (memory : Memory) → Level h → Stands env h.names f → P f → Left o d f v → Follows c m (k (Giving v h memory)) (Continues (at next f memory))
+    pub giving : (v : Option Value) (h : Here) (f : File) (memory : Memory) → Level h → Stands env h.names f → P f → Left o d f v → FollowsText c m (k (Giving v h memory)) (Continues (at next f memory))
     -- a value that does not fit its destination is improper
-    pub lost : (v : Value) (h : Here) (f : File) (memory : Memory) → Stands env h.names f → Fit o v → fits end (type_of_comp d.comp) v ≡ false → Follows c m (k (Giving (Some v) h memory)) IsStuck
+    pub lost : (v : Value) (h : Here) (f : File) (memory : Memory) → Stands env h.names f → Fit o v → fits end (type_of_comp d.comp) v ≡ false → FollowsText c m (k (Giving (Some v) h memory)) IsStuck
     -- after a tail call there is nothing left to do, and it is in no try
     pub untried : tail ≡ true → ts ≡ []
-    pub tailing : tail ≡ true → (v : Option Value) → Shape o v → (h : Here) (memory : Memory) → Follows c m (k (Giving v h memory)) (Finishes (Gave (kept valued v) memory))
+    pub tailing : tail ≡ true → (v : Option Value) → Shape o v → (h : Here) (memory : Memory) → FollowsText c m (k (Giving v h memory)) (Finishes (Gave (kept valued v) memory))
 
   -- ---- types of nodes
 
   tested_follows : (k : Leaves (Option Value) → Does) (x : Step State) (T : Ty) (v : Value) (h : Here) (memory : Memory) (b : Bool) → fits end T v ≡ b →
-      (fits end T v ≡ true → Follows c m (k (Giving (Some v) h memory)) x) → Follows c m (cond b (part.gives (Some v) h memory) (part.fails (misfit T) memory) k) x
+      (fits end T v ≡ true → FollowsText c m (k (Giving (Some v) h memory)) x) → FollowsText c m (cond b (part.gives (Some v) h memory) (part.fails (misfit T) memory) k) x
   tested_follows k x T v h memory true e on = on e
   tested_follows k x T v h memory false e on = fails
 
   pub of_type_some : (k : Leaves (Option Value) → Does) (x : Step State) (T : Ty) (v : Value) (h : Here) (memory : Memory) →
-      (fits end T v ≡ true → Follows c m (k (Giving (Some v) h memory)) x) → (IsNo T → Follows c m (k (Giving None h memory)) x) →
-      Follows c m (of_type end T (Some v) h memory k) x
+      (fits end T v ≡ true → FollowsText c m (k (Giving (Some v) h memory)) x) → (IsNo T → FollowsText c m (k (Giving None h memory)) x) →
+      FollowsText c m (of_type end T (Some v) h memory k) x
   of_type_some k x ty.NoValue v h memory some no' = no' is_no
   of_type_some k x ty.Never v h memory some no' = fails
   of_type_some k x ty.Int v h memory some no' = tested_follows k x ty.Int v h memory (fits end ty.Int v) refl some
   of_type_some k x ty.Val v h memory some no' = tested_follows k x ty.Val v h memory (fits end ty.Val v) refl some
   of_type_some k x ty.Addr v h memory some no' = some refl
 
-  of_type_none : (k : Leaves (Option Value) → Does) (x : Step State) (T : Ty) (h : Here) (memory : Memory) → (IsNo T → Follows c m (k (Giving None h memory)) x) →
-      Follows c m (of_type end T None h memory k) x
+  of_type_none : (k : Leaves (Option Value) → Does) (x : Step State) (T : Ty) (h : Here) (memory : Memory) → (IsNo T → FollowsText c m (k (Giving None h memory)) x) →
+      FollowsText c m (of_type end T None h memory k) x
   of_type_none k x ty.NoValue h memory no' = no' is_no
   of_type_none k x ty.Never h memory no' = fails
   of_type_none k x ty.Int h memory no' = fails
@@ -293,7 +293,7 @@ module _ (c : Place) (m : Mach) (turns : ℕ) (ts : List ℕ) where
   no_valued T false v is_no = refl
 
   -- what follows the parts of a node, which tests what they give
-  pub after_typed : {env : List Named} {labels : List Label} {valued tail : Bool} {d : Reg} {next : List Instr} {P : File → Type 0} {k : Leaves (Option Value) → Does} (T : Ty) (b : ℕ) →
+  pub after_typed : {env : List NamedRegister} {labels : List Label} {valued tail : Bool} {d : Reg} {next : List Instr} {P : File → Type 0} {k : Leaves (Option Value) → Does} (T : Ty) (b : ℕ) →
       After (Some T) env labels valued tail d next P k →
       After None env labels (inner_valued valued T) tail (inner_dest T b d) next P (λ l. onward (λ v h memory. of_type end T v h memory) l k)
   after_typed {env} {labels} {valued} {tail} {d} {next} {P} {k} T b a =
@@ -309,43 +309,43 @@ module _ (c : Place) (m : Mach) (turns : ℕ) (ts : List ℕ) where
       }
     where
       given : (v : Option Value) (h : Here) (f : File) (memory : Memory) → Level h → Stands env h.names f → P f → Left None (inner_dest T b d) f v →
-          Follows c m (of_type end T v h memory k) (Continues (at next f memory))
+          FollowsText c m (of_type end T v h memory k) (Continues (at next f memory))
       given None h f memory level s p left = of_type_none k (Continues (at next f memory)) T h memory (λ no'. a.giving None h f memory level s p (nothing (gone no')))
       given (Some v) h f memory level s p (holding x holds) =
           of_type_some k (Continues (at next f memory)) T v h memory
           (λ e. a.giving (Some v) h f memory level s p (holding (fit e) (subst (λ r. Holds r v f) (own_dest T b d v e) holds)))
           (λ no'. a.giving None h f memory level s p (nothing (gone no')))
 
-      tailed : tail ≡ true → (v : Option Value) (h : Here) (memory : Memory) → Follows c m (of_type end T v h memory k) (Finishes (Gave (kept (inner_valued valued T) v) memory))
+      tailed : tail ≡ true → (v : Option Value) (h : Here) (memory : Memory) → FollowsText c m (of_type end T v h memory k) (Finishes (Gave (kept (inner_valued valued T) v) memory))
       tailed e None h memory =
           of_type_none k (Finishes (Gave (kept (inner_valued valued T) None) memory)) T h memory
-          (λ no'. subst (λ o. Follows c m (k (Giving None h memory)) (Finishes (Gave o memory))) (no_valued T valued None no') (a.tailing e None (no_shape (gone no')) h memory))
+          (λ no'. subst (λ o. FollowsText c m (k (Giving None h memory)) (Finishes (Gave o memory))) (no_valued T valued None no') (a.tailing e None (no_shape (gone no')) h memory))
       tailed e (Some v) h memory =
           of_type_some k (Finishes (Gave (kept (inner_valued valued T) (Some v)) memory)) T v h memory
-          (λ q. subst (λ w. Follows c m (k (Giving (Some v) h memory)) (Finishes (Gave (kept w (Some v)) memory))) (sym (own_valued T valued v q)) (a.tailing e (Some v) (a_shape (fit q)) h memory))
-          (λ no'. subst (λ o. Follows c m (k (Giving None h memory)) (Finishes (Gave o memory))) (no_valued T valued (Some v) no') (a.tailing e None (no_shape (gone no')) h memory))
+          (λ q. subst (λ w. FollowsText c m (k (Giving (Some v) h memory)) (Finishes (Gave (kept w (Some v)) memory))) (sym (own_valued T valued v q)) (a.tailing e (Some v) (a_shape (fit q)) h memory))
+          (λ no'. subst (λ o. FollowsText c m (k (Giving None h memory)) (Finishes (Gave o memory))) (no_valued T valued (Some v) no') (a.tailing e None (no_shape (gone no')) h memory))
 
   -- a node pays, and its parts follow
-  pub node_follows : {env : List Named} {f : File} (e : Expression) (h : Here) (memory : Memory) (p : Part (Option Value)) (k : Leaves (Option Value) → Does) (rest : List Instr) → Stands env h.names f →
-      Follows c m (p (λ l. onward (λ v h memory. of_type end (type_of (scopes env) e) v h memory) l k)) (Continues (at rest f memory)) →
-      Follows c m (node (text_of c) e h memory p k) (Continues (at rest f memory))
+  pub node_follows : {env : List NamedRegister} {f : File} (e : Expression) (h : Here) (memory : Memory) (p : Part (Option Value)) (k : Leaves (Option Value) → Does) (rest : List Instr) → Stands env h.names f →
+      FollowsText c m (p (λ l. onward (λ v h memory. of_type end (type_of (scopes env) e) v h memory) l k)) (Continues (at rest f memory)) →
+      FollowsText c m (node_part (text_setting c) e h memory p k) (Continues (at rest f memory))
   node_follows {env} {f} e h memory p k rest stands follows =
-      pays refl (subst (λ sc. Follows c m (p (λ l. onward (λ v h memory. of_type end (type_of sc e) v h memory) l k)) (Continues (at rest f memory))) (sym (scope_is stands)) follows)
+      pays refl (subst (λ sc. FollowsText c m (p (λ l. onward (λ v h memory. of_type end (type_of sc e) v h memory) l k)) (Continues (at rest f memory))) (sym (scope_is stands)) follows)
 
   -- ---- a value comes to its destination
 
-  pub record Ready (env : List Named) (labels : List Label) (b : ℕ) (d : Reg) : Type 0 where
+  pub record Ready (env : List NamedRegister) (labels : List Label) (b : ℕ) (d : Reg) : Type 0 where
     pub under : Under b env
     pub lower : Lower b labels
     pub off : IsNamed d.number env → ⊥
     pub below : d.number < b
     pub first : 21 ≤ d.number
 
-  pub lands : {o : Option Ty} {env : List Named} {labels : List Label} {valued tail : Bool} {d : Reg} {next : List Instr} {P : File → Type 0} {k : Leaves (Option Value) → Does} {b : ℕ} →
+  pub lands : {o : Option Ty} {env : List NamedRegister} {labels : List Label} {valued tail : Bool} {d : Reg} {next : List Instr} {P : File → Type 0} {k : Leaves (Option Value) → Does} {b : ℕ} →
       Ready env labels b d → Stable env b d.number P → After o env labels valued tail d next P k → (v : Value) (h : Here) (f : File) (memory : Memory) → Level h → Stands env h.names f → P f → Fit o v →
-      Follows c m (k (Giving (Some v) h memory)) (wrote next (calm memory) (put_if (fits end (type_of_comp d.comp) v) d v (Some f)))
+      FollowsText c m (k (Giving (Some v) h memory)) (wrote next (calm memory) (put_if (fits end (type_of_comp d.comp) v) d v (Some f)))
   lands {o} {env} {d = d} {next = next} {P = P} {k = k} ready stable a v h f memory level s p x = by (fits end (type_of_comp d.comp) v) refl
     where
-      by : (b : Bool) → fits end (type_of_comp d.comp) v ≡ b → Follows c m (k (Giving (Some v) h memory)) (wrote next (calm memory) (put_if b d v (Some f)))
-      by true e = a.giving (Some v) h (put d v f) memory level (stands_put d v ready.off s) (stable.puts d v f (dest refl) p) (holding x (put_same d v f))
+      by : (b : Bool) → fits end (type_of_comp d.comp) v ≡ b → FollowsText c m (k (Giving (Some v) h memory)) (wrote next (calm memory) (put_if b d v (Some f)))
+      by true e = a.giving (Some v) h (assign_register d v f) memory level (stands_put d v ready.off s) (stable.puts d v f (dest refl) p) (holding x (put_same d v f))
       by false e = a.lost v h f memory s x e

@@ -14,12 +14,12 @@ use Rattle.meaning_laws.specs.Links.{lonely}
 use Rattle.meaning_laws.specs.Pace.{beats, beats_behind_call, beats_behind_external, beats_behind_unit}
 use Rattle.cmm_meaning.specs.Run.{nobody}
 use Rattle.mach_ir.specs.declared.mach.Mach.{Mach}
-use Rattle.mach_ir.specs.Runs.{Place, Step, Continues, Finishes, IsStuck, kept_of, Tally, Run, Running, Asking, Ended, paid, came_back, handed, onward, units_of}
+use Rattle.mach_ir.specs.Runs.{ActivationSetting, Step, Continues, Finishes, IsStuck, kept_of, Tally, RunProgress, Running, Asking, Ended, paid, came_back, handed, run_onward, units_of}
 use Rattle.mach_ir.specs.Meaning.{State}
 use Rattle.selection_rules.specs.Bounded.{BoundedDoing, BoundedDoings, BoundedState, BoundedStep}
-use Rattle.selection_rules.specs.Kept.{run}
+use Rattle.selection_rules.specs.Kept.{run_of_selected}
 use Rattle.selection_rules.specs.Kept as kept
-use Rattle.selection_rules.specs.Follow.{RaisesVal, Follows, walks, pays, gives, raises, jumps, raises_out, jumps_wrong, deepens, calls, replaces, calls_out, exits, fails, spent, no_words}
+use Rattle.selection_rules.specs.Follow.{RaisesVal, FollowsText, walks, pays, gives, raises, jumps, raises_out, jumps_wrong, deepens, calls, replaces, calls_out, exits, fails, spent, no_words}
 use Rattle.bs_words.specs.declared.types.Ret.{Ret}
 use Rattle.bs_words.specs.declared.types.Ret.TheVariants as ret
 use Rattle.bs_words.specs.declared.types.Ty.TheVariants as ty
@@ -33,15 +33,15 @@ pub record Alike (t : Tally) (w : World) : Type 0 where
 
 -- The run of a machine ends as an evaluation of a function alone, and has spent so many units in all; nothing is said
 -- where that is improper. Where the evaluation has no units left the run has its memory.
-pub data Meets (u : ℕ) : Evaluation → Run State → Type 0 where
+pub data Meets (u : ℕ) : Evaluation → RunProgress State → Type 0 where
   returned : {v : Option Value} {h : Here} {w : World} {t : Tally} → Alike t w → t.units ≡ u → Meets u (Gives v h w) (Ended (Gave v w.memory) t)
   threw : {v : Value} {h : Here} {w : World} {t : Tally} → Alike t w → t.units ≡ u → Meets u (Raises v h w) (Ended (Threw v w.memory) t)
   running : {w : World} {s : State} {t : Tally} → Alike t w → t.units ≡ u → s.around.memory ≡ w.memory → Meets u (Stops OutOfFuel w) (Running s t)
   asking : {call : Asked} {w : World} {t : Tally} → Alike t w → t.units ≡ u → Meets u (Stops (eval.Asking call) w) (Asking call t)
-  improper : {kind : Kind} {w : World} {r : Run State} → Meets u (Stops (NotProper kind) w) r
-  left_by_exit : {label : LabelTree} {values : List Value} {h : Here} {w : World} {r : Run State} → Meets u (Exits label values h w) r
+  improper : {kind : Kind} {w : World} {r : RunProgress State} → Meets u (Stops (NotProper kind) w) r
+  left_by_exit : {label : LabelTree} {values : List Value} {h : Here} {w : World} {r : RunProgress State} → Meets u (Exits label values h w) r
 
-pub same_units : {u n : ℕ} {e : Evaluation} {r : Run State} → u ≡ n → Meets u e r → Meets n e r
+pub same_units : {u n : ℕ} {e : Evaluation} {r : RunProgress State} → u ≡ n → Meets u e r → Meets n e r
 same_units e (returned a b) = returned a (b ∙ e)
 same_units e (threw a b) = threw a (b ∙ e)
 same_units e (running a b same) = running a (b ∙ e) same
@@ -55,17 +55,17 @@ kept_bounded ret.Unit (Threw v memory) b = b
 kept_bounded (ret.Comp t) d b = b
 
 -- a machine whose steps leave words
-pub record StaysBounded (c : Place) (m : Mach) : Type 0 where
-  pub step : (s : State) → BoundedState s → BoundedStep (kept.step c m s)
+pub record StaysBounded (c : ActivationSetting) (m : Mach) : Type 0 where
+  pub step : (s : State) → BoundedState s → BoundedStep (kept.lossless_step c m s)
 
-module _ (c : Place) (m : Mach) (stays : StaysBounded c m) where
+module _ (c : ActivationSetting) (m : Mach) (stays : StaysBounded c m) where
   abbrev s : Surroundings
   s = lonely c.setting.end c.setting.symbol c.setting.parameters
 
   -- some run from this step meets what is played
   pub record Played (d : Does) (w : World) (x : Step State) (t : Tally) : Type 0 where
     pub steps : ℕ
-    pub meets : Meets (t.units + beats s d w) (played s d w) (onward (run c m steps) x t)
+    pub meets : Meets (t.units + beats s d w) (played s d w) (run_onward (run_of_selected c m steps) x t)
 
   abbrev Plays : Does → Step State → Type 0
   Plays d x = BoundedStep x → (w : World) (t : Tally) → Alike t w → BoundedDoings t.doings → Played d w x t
@@ -75,7 +75,7 @@ module _ (c : Place) (m : Mach) (stays : StaysBounded c m) where
   IsHalts _ = ⊥
 
   -- what a halted machine follows is improper
-  wrong : {d : Does} {x : Step State} → Follows c m d x → IsHalts x → (w : World) (u : ℕ) (r : Run State) → Meets u (played s d w) r
+  wrong : {d : Does} {x : Step State} → FollowsText c m d x → IsHalts x → (w : World) (u : ℕ) (r : RunProgress State) → Meets u (played s d w) r
   wrong (walks f) h w u r = absurd h
   wrong (pays same f) h w u r = absurd h
   wrong gives h w u r = absurd h
@@ -93,7 +93,7 @@ module _ (c : Place) (m : Mach) (stays : StaysBounded c m) where
   wrong (no_words f) h w u r = absurd h
 
   pays_on : (n : ℕ) (rest : Does) (w : World) (x : State) (t : Tally) → x.around.memory ≡ w.memory → Alike t w → ((v : World) → Alike t v → Played rest v (Continues x) t) →
-      (k : ℕ) × Meets (t.units + beats_behind_unit n w (λ v. beats s rest v)) (spend n w (λ v. played s rest v)) (onward (run c m k) (Continues x) t)
+      (k : ℕ) × Meets (t.units + beats_behind_unit n w (λ v. beats s rest v)) (spend n w (λ v. played s rest v)) (run_onward (run_of_selected c m k) (Continues x) t)
   pays_on zero rest w x t same a on = (0, running a (omega arith) same)
   pays_on (suc n) rest w x t same a on =
       let p = on (record w { left = n }) (record { asked = a.asked; doings = a.doings; need = a.need }) in (p.steps, p.meets)
@@ -103,7 +103,7 @@ module _ (c : Place) (m : Mach) (stays : StaysBounded c m) where
       ((d : Doing) → RaisesVal c d → Plays (go d) (next d)) →
       (k : ℕ) × Meets (t.units + beats_behind_call (λ d v. beats s (go d) v) (done_inside c.setting.end call ds w))
       (after_call (λ d v. played s (go d) v) (done_inside c.setting.end call ds w))
-      (handed (λ d y. onward (run c m k) (next d) y) call ds t)
+      (handed (λ d y. run_onward (run_of_selected c m k) (next d) y) call ds t)
   called [] call go next z b w t a f is on = (0, asking a (omega arith))
   called (Gave v memory ∷ ds) call go next z b w t a f is on =
       let after : World = record w { memory = memory; asked = w.asked ++ call ∷ []; doings = ds } in
@@ -123,7 +123,7 @@ module _ (c : Place) (m : Mach) (stays : StaysBounded c m) where
       by : (y : Tally) → Alike y after → BoundedDoings y.doings → y.units ≡ suc t.units → (b : Bool) → fits c.setting.end ty.Val v ≡ b →
           (k : ℕ) × Meets (t.units + beats_behind_call (λ d v. beats s (go d) v) (cond b (Raises v nobody after) (Stops (NotProper (misfit ty.Val)) after)))
           (after_call (λ d v. played s (go d) v) (cond b (Raises v nobody after) (Stops (NotProper (misfit ty.Val)) after)))
-          (onward (run c m k) (next (Threw v memory)) y)
+          (run_onward (run_of_selected c m k) (next (Threw v memory)) y)
       by y alike ds' one false e = (0, improper)
       by y alike ds' one true e = let p = on (Threw v memory) e (b (Threw v memory) z.0) after y alike ds' in (p.steps, same_units (omega (arith, one)) p.meets)
 
@@ -134,7 +134,7 @@ module _ (c : Place) (m : Mach) (stays : StaysBounded c m) where
       (frame ≡ true → (v : Value) (after : Memory) → fits c.setting.end ty.Val v ≡ true → Plays (Jumps (go (Threw v w.memory))) (next (Threw v after))) →
       (k : ℕ) × Meets (t.units + beats_behind_external (λ d v. beats s (go d) v) (done_outside c.setting.end frame call ds w))
       (after_call (λ d v. played s (go d) v) (done_outside c.setting.end frame call ds w))
-      (handed (λ d y. onward (run c m k) (next d) y) call ds t)
+      (handed (λ d y. run_onward (run_of_selected c m k) (next d) y) call ds t)
   called_out [] call go next z b w t a row frame is on thrown = (0, asking a (omega arith))
   called_out (Gave v memory ∷ ds) call go next z b w t a row frame is on thrown =
       let after : World = record w { asked = w.asked ++ call ∷ []; doings = ds } in
@@ -154,11 +154,11 @@ module _ (c : Place) (m : Mach) (stays : StaysBounded c m) where
       by : (y : Tally) → Alike y after → BoundedDoings y.doings → y.units ≡ t.units → (b : Bool) → fits c.setting.end ty.Val v ≡ b →
           (k : ℕ) × Meets (t.units + beats_behind_external (λ d v. beats s (go d) v) (cond b (Raises v nobody after) (Stops (NotProper (misfit ty.Val)) after)))
           (after_call (λ d v. played s (go d) v) (cond b (Raises v nobody after) (Stops (NotProper (misfit ty.Val)) after)))
-          (onward (run c m k) (next (Threw v memory)) y)
+          (run_onward (run_of_selected c m k) (next (Threw v memory)) y)
       by y alike ds' one false e = (0, improper)
       by y alike ds' one true e = let p = thrown refl v memory e (b (Threw v memory) z.0) after y alike ds' in (p.steps, same_units (ap (λ n. n + suc (beats s (go (Threw v w.memory)) after)) one) p.meets)
 
-  pub plays : {d : Does} {x : Step State} → Follows c m d x → Plays d x
+  pub plays : {d : Does} {x : Step State} → FollowsText c m d x → Plays d x
   plays (walks {s = x} f) b w t a ds = let p = plays f (stays.step x b) w t a ds in record { steps = suc p.steps; meets = p.meets }
   plays (pays {memory = memory} {rest = rest} {s = x} same f) b w t a ds =
       let p = pays_on w.left rest (record w { memory = memory }) x t same (record { asked = a.asked; doings = a.doings; need = a.need }) (λ v q. plays f b v t q ds) in
@@ -176,7 +176,7 @@ module _ (c : Place) (m : Mach) (stays : StaysBounded c m) where
       let e : suc t.units + beats s rest w ≡ t.units + suc (beats s rest w) = omega arith in
       record { steps = p.steps; meets = same_units e p.meets }
   plays (jumps_wrong {rest = rest} {s = x} f) b w t a ds =
-      record { steps = 0; meets = wrong f tt w (t.units + suc (beats s rest w)) (onward (run c m 0) x t) }
+      record { steps = 0; meets = wrong f tt w (t.units + suc (beats s rest w)) (run_onward (run_of_selected c m 0) x t) }
   plays (deepens {bytes = bytes} {rest = rest} {s = x} f) b w t a ds =
       let y : Tally = record t { need = max t.need bytes } in
       let p = plays f b (deepened bytes w) y (record { asked = a.asked; doings = a.doings; need = ap (λ n. max n bytes) a.need }) ds in
@@ -188,7 +188,7 @@ module _ (c : Place) (m : Mach) (stays : StaysBounded c m) where
         steps = p.0;
         meets = subst (λ ds. Meets (t.units + beats_behind_call (λ d v. beats s (go d) v) (done_inside c.setting.end asks ds (record w { memory = memory })))
             (after_call (λ d v. played s (go d) v) (done_inside c.setting.end asks ds (record w { memory = memory })))
-            (handed (λ d y. onward (run c m p.0) (next d) y) asks t.doings t)) a.doings p.1;
+            (handed (λ d y. run_onward (run_of_selected c m p.0) (next d) y) asks t.doings t)) a.doings p.1;
       }
   plays (replaces {call = call} {memory = memory} {go = go} {kept = kept} on) b w t a ds =
       let asks = asked_inside call memory in
@@ -198,7 +198,7 @@ module _ (c : Place) (m : Mach) (stays : StaysBounded c m) where
         steps = p.0;
         meets = subst (λ ds. Meets (t.units + beats_behind_call (λ d v. beats s (go d) v) (done_inside c.setting.end asks ds (record w { memory = memory })))
             (after_call (λ d v. played s (go d) v) (done_inside c.setting.end asks ds (record w { memory = memory })))
-            (handed (λ d y. onward (run c m p.0) (next d) y) asks t.doings t)) a.doings p.1;
+            (handed (λ d y. run_onward (run_of_selected c m p.0) (next d) y) asks t.doings t)) a.doings p.1;
       }
   plays (calls_out {row = row} {frame = frame} {arguments = vs} {memory = memory} {go = go} {next = next} on thrown) b w t a ds =
       let asks = asked_outside row frame vs memory in
@@ -208,7 +208,7 @@ module _ (c : Place) (m : Mach) (stays : StaysBounded c m) where
         steps = p.0;
         meets = subst (λ ds. Meets (t.units + beats_behind_external (λ d v. beats s (go d) v) (done_outside c.setting.end frame asks ds (record w { memory = memory })))
             (after_call (λ d v. played s (go d) v) (done_outside c.setting.end frame asks ds (record w { memory = memory })))
-            (handed (λ d y. onward (run c m p.0) (next d) y) asks t.doings t)) a.doings p.1;
+            (handed (λ d y. run_onward (run_of_selected c m p.0) (next d) y) asks t.doings t)) a.doings p.1;
       }
   plays exits b w t a ds = record { steps = 0; meets = left_by_exit }
   plays fails b w t a ds = record { steps = 0; meets = improper }

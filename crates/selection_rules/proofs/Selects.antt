@@ -15,12 +15,12 @@ use Rattle.meaning_laws.specs.Interaction.{does}
 use Rattle.mach_ir.specs.declared.reg.Reg.{Reg}
 use Rattle.mach_ir.specs.declared.mach.Instr.{Instr}
 use Rattle.mach_ir.specs.declared.mach.Mach.{Mach}
-use Rattle.mach_ir.specs.Runs.{Place, Continues, Finishes}
-use Rattle.mach_ir.specs.Meaning.{File, put, put_if, put_all, wrote, tries_at, with_held}
-use Rattle.selection_rules.specs.Kept.{on_values}
-use Rattle.selection_rules.specs.Select.{Named, scopes, fresh, comp_of, params_from, with_params, seat, seats, returns, colour_regs, select, selected, is_no_value, first, width}
+use Rattle.mach_ir.specs.Runs.{ActivationSetting, Continues, Finishes}
+use Rattle.mach_ir.specs.Meaning.{File, assign_register, put_if, put_all, wrote, tries_at, with_held}
+use Rattle.selection_rules.specs.Kept.{on_lossless_values}
+use Rattle.selection_rules.specs.Select.{NamedRegister, scopes, fresh_register, comp_of_type, params_from, with_params, seat, seats, return_code, colour_regs, select, selected, is_no_value, first_after_colours, width}
 use Rattle.std.specs.Prelude.{⊤}
-use Rattle.selection_rules.specs.Follow.{Follows, walks, fails, gives, raises, exits}
+use Rattle.selection_rules.specs.Follow.{FollowsText, walks, fails, gives, raises, exits}
 use Rattle.selection_rules.proofs.Files.{Low, IsNamed, named_under, Holds, put_same, none, one}
 use Rattle.selection_rules.proofs.Parts.{Within, WellLabelled, no_label, calm, at, Left, nothing, gone, holding, Fit, fit, Shape, a_shape, kept, After}
 use Rattle.selection_rules.proofs.Operands.{Selected, own_fits}
@@ -43,11 +43,11 @@ use Rattle.bs_words.specs.declared.types.Comp.TheVariants as comp
 use Rattle.bs_words.specs.declared.types.Ret.{Ret}
 use Rattle.bs_words.specs.declared.types.Ret.TheVariants as ret
 use Rattle.bs_words.specs.declared.types.Ty.TheVariants as ty
-use Rattle.mach_ir.specs.Placed.{colours}
+use Rattle.mach_ir.specs.Placed.{colour_numbers}
 use Rattle.selection_rules.specs.Instructions as emit
-use Rattle.selection_rules.specs.Follow.{text_of}
+use Rattle.selection_rules.specs.Follow.{text_setting}
 
-module _ (c : Place) (m : Mach) (turns : ℕ) (low : Low m.colours) (labelled : WellLabelled m) (still : fits c.setting.end ty.Val bound_error ≡ true) where
+module _ (c : ActivationSetting) (m : Mach) (turns : ℕ) (low : Low m.colours) (labelled : WellLabelled m) (still : fits c.setting.end ty.Val bound_error ≡ true) where
   mutual
     pub selects : (ts : List ℕ) (e : Expression) → Selected c m turns ts e
     selects ts (Integer place w) env labels valued tail d b next P k fine = selected_integer c m turns ts place w env labels valued tail d b next P k fine
@@ -160,10 +160,10 @@ low_from : (n : ℕ) (cs : List ℕ) → n + length cs ≤ 21 → Low (colour_re
 low_from n [] le = none
 low_from n (colour ∷ rest) le = one (omega (arith, le)) (low_from (suc n) rest (omega (arith, le)))
 
-pub low_colours : Low (colour_regs 0 colours)
-low_colours = low_from 0 colours (le_refl 21)
+pub low_colours : Low (colour_regs 0 colour_numbers)
+low_colours = low_from 0 colour_numbers (le_refl 21)
 
-module _ (c : Place) (f : FunctionTree) where
+module _ (c : ActivationSetting) (f : FunctionTree) where
   abbrev m : Mach
   m = selected f
 
@@ -171,41 +171,41 @@ module _ (c : Place) (f : FunctionTree) where
   T = body_type f
 
   abbrev pub entry : ℕ
-  entry = first + length f.params
+  entry = first_after_colours + length f.params
 
   abbrev params : List Reg
   params = params_from entry f.params
 
-  abbrev env : List Named
+  abbrev env : List NamedRegister
   env = with_params f.params params []
 
   abbrev number : ℕ
   number = entry + length f.params
 
   abbrev return : Ty → List Instr
-  return U = returns (fresh number U) (suc number) (result_of U)
+  return U = return_code (fresh_register number U) (suc number) (result_of U)
 
   abbrev body_code : List Instr
-  body_code = select env [] (not (is_no_value T)) true (fresh number T) (suc (suc number)) f.body (return T)
+  body_code = select env [] (not (is_no_value T)) true (fresh_register number T) (suc (suc number)) f.body (return T)
 
   abbrev Anything : File → Type 0
   Anything g = ⊤
 
   module _ (turns : ℕ) where
-    value_returns : (r : Reg) (v : Value) (h : Here) (g : File) (memory : Memory) → Holds r v g → Follows c m (Ends (Giving (Some v) h memory)) (Continues (at c m turns [] (emit.give_back (r ∷ []) ∷ []) g memory))
+    value_returns : (r : Reg) (v : Value) (h : Here) (g : File) (memory : Memory) → Holds r v g → FollowsText c m (Ends (Giving (Some v) h memory)) (Continues (at c m turns [] (emit.give_back (r ∷ []) ∷ []) g memory))
     value_returns r v h g memory holds =
-        walks (subst (λ o. Follows c m (Ends (Giving (Some v) h memory)) (on_values c m (emit.give_back (r ∷ [])) [] g (calm c m turns [] memory) (with_held o (Some [])))) (sym holds.is) gives)
+        walks (subst (λ o. FollowsText c m (Ends (Giving (Some v) h memory)) (on_lossless_values c m (emit.give_back (r ∷ [])) [] g (calm c m turns [] memory) (with_held o (Some [])))) (sym holds.is) gives)
 
     -- a value goes to its seat first
     seat_returns : (r : Reg) (q : Comp) (v : Value) (h : Here) (g : File) (memory : Memory) → fits c.setting.end (type_of_comp q) v ≡ true → Holds r v g →
-        Follows c m (Ends (Giving (Some v) h memory)) (Continues (at c m turns [] (returns r (suc number) (ret.Comp q)) g memory))
+        FollowsText c m (Ends (Giving (Some v) h memory)) (Continues (at c m turns [] (return_code r (suc number) (ret.Comp q)) g memory))
     seat_returns r q v h g memory fv holds =
         let y = seat 0 (suc number) q in
         move_follows c m turns [] holds
-        (subst (λ b. Follows c m (Ends (Giving (Some v) h memory)) (wrote (emit.give_back (y ∷ []) ∷ []) (calm c m turns [] memory) (put_if b y v (Some g)))) (sym fv)
-        (value_returns y v h (put y v g) memory (put_same y v g)))
+        (subst (λ b. FollowsText c m (Ends (Giving (Some v) h memory)) (wrote (emit.give_back (y ∷ []) ∷ []) (calm c m turns [] memory) (put_if b y v (Some g)))) (sym fv)
+        (value_returns y v h (assign_register y v g) memory (put_same y v g)))
 
-    returns_follow : (U : Ty) (v : Option Value) (h : Here) (g : File) (memory : Memory) → Left c m turns [] (Some U) (fresh number U) g v → Follows c m (Ends (Giving v h memory)) (Continues (at c m turns [] (return U) g memory))
+    returns_follow : (U : Ty) (v : Option Value) (h : Here) (g : File) (memory : Memory) → Left c m turns [] (Some U) (fresh_register number U) g v → FollowsText c m (Ends (Giving v h memory)) (Continues (at c m turns [] (return U) g memory))
     returns_follow ty.NoValue None h g memory left = walks gives
     returns_follow ty.NoValue (Some v) h g memory (holding (fit x) holds) = absurd (true≢false (sym x))
     returns_follow ty.Never None h g memory (nothing (gone no')) = elim no' [ ]
@@ -213,11 +213,11 @@ module _ (c : Place) (f : FunctionTree) where
     returns_follow ty.Val None h g memory (nothing (gone no')) = elim no' [ ]
     returns_follow ty.Addr None h g memory (nothing (gone no')) = elim no' [ ]
     returns_follow ty.Never (Some v) h g memory (holding (fit x) holds) = absurd (true≢false (sym x))
-    returns_follow ty.Int (Some v) h g memory (holding (fit x) holds) = seat_returns (fresh number ty.Int) comp.Int v h g memory x holds
-    returns_follow ty.Val (Some v) h g memory (holding (fit x) holds) = seat_returns (fresh number ty.Val) comp.Val v h g memory x holds
-    returns_follow ty.Addr (Some v) h g memory (holding (fit x) holds) = seat_returns (fresh number ty.Addr) comp.Addr v h g memory x holds
+    returns_follow ty.Int (Some v) h g memory (holding (fit x) holds) = seat_returns (fresh_register number ty.Int) comp.Int v h g memory x holds
+    returns_follow ty.Val (Some v) h g memory (holding (fit x) holds) = seat_returns (fresh_register number ty.Val) comp.Val v h g memory x holds
+    returns_follow ty.Addr (Some v) h g memory (holding (fit x) holds) = seat_returns (fresh_register number ty.Addr) comp.Addr v h g memory x holds
 
-    tails : (U : Ty) (v : Option Value) (h : Here) (memory : Memory) → Shape c m turns [] (Some U) v → Follows c m (Ends (Giving v h memory)) (Finishes (Gave (kept c m turns [] (not (is_no_value U)) v) memory))
+    tails : (U : Ty) (v : Option Value) (h : Here) (memory : Memory) → Shape c m turns [] (Some U) v → FollowsText c m (Ends (Giving v h memory)) (Finishes (Gave (kept c m turns [] (not (is_no_value U)) v) memory))
     tails ty.NoValue None h memory shape = gives
     tails ty.NoValue (Some v) h memory (a_shape (fit x)) = absurd (true≢false (sym x))
     tails ty.Never v h memory shape = gives
@@ -225,7 +225,7 @@ module _ (c : Place) (f : FunctionTree) where
     tails ty.Val v h memory shape = gives
     tails ty.Addr v h memory shape = gives
 
-    ends_after : (U : Ty) → After c m turns [] (Some U) env [] (not (is_no_value U)) true (fresh number U) (return U) Anything Ends
+    ends_after : (U : Ty) → After c m turns [] (Some U) env [] (not (is_no_value U)) true (fresh_register number U) (return U) Anything Ends
     ends_after U =
         record {
           outs = record { exit = λ l values h f memory level r p. exits; raising = λ v fv h f memory level r p. raises };
@@ -235,7 +235,7 @@ module _ (c : Place) (f : FunctionTree) where
           tailing = λ e v shape h memory. tails U v h memory shape;
         }
       where
-        own : (U : Ty) (v : Value) → Fit c m turns [] (Some U) v → fits c.setting.end (type_of_comp (comp_of U)) v ≡ false → ⊥
+        own : (U : Ty) (v : Value) → Fit c m turns [] (Some U) v → fits c.setting.end (type_of_comp (comp_of_type U)) v ≡ false → ⊥
         own U v (fit x) misfit' = true≢false (sym (own_fits c m turns [] U v x) ∙ misfit')
 
     -- the arguments in their seats
@@ -243,10 +243,10 @@ module _ (c : Place) (f : FunctionTree) where
         (g' : File) × (put_all c.setting.end (seats i n (params_from j ps)) vs g ≡ Some g') × PutAll c.setting.end (seats i n (params_from j ps)) vs g g'
     put_arguments all_none i n j g = (g, refl, nil)
     put_arguments (all_one {p = p} {v = v} e all) i n j g =
-        let r = seat i n (comp_of (type_of_comp p.comp)) in
+        let r = seat i n (comp_of_type (type_of_comp p.comp)) in
         let more = put_arguments all (suc i) (suc n) (suc j) g in
         let good : fits c.setting.end (type_of_comp r.comp) v ≡ true = own_fits c m turns [] (type_of_comp p.comp) v e in (
-          put r v more.0,
+          assign_register r v more.0,
           ap (λ o. put_if (fits c.setting.end (type_of_comp r.comp) v) r v o) more.1 ∙ ap (λ b. put_if b r v (Some more.0)) good,
           cons good more.2,
         )
@@ -255,21 +255,21 @@ module _ (c : Place) (f : FunctionTree) where
     begun_with arguments = record { names = bound (map scoped_parameter f.params) arguments []; below = c.below; frame = c.frame; tries = 0 }
 
     pub function_follows : fits c.setting.end ty.Val bound_error ≡ true → width f.body < 2 ^ 60 → (arguments : List Value) (memory : Memory) (g : File) → AllFit c.setting.end f.params arguments →
-        PutAll c.setting.end (seats 0 first params) arguments (λ n. None) g →
-        Follows c m (does (text_of c) turns f.body true (begun_with arguments) memory Ends) (Continues (at c m turns [] m.code g memory))
-    function_follows still fine arguments memory g all put =
+        PutAll c.setting.end (seats 0 first_after_colours params) arguments (λ n. None) g →
+        FollowsText c m (does (text_setting c) turns f.body true (begun_with arguments) memory Ends) (Continues (at c m turns [] m.code g memory))
+    function_follows still fine arguments memory g all assign_register =
         let labelled = selected_labelled f in
-        let long = seats_length 0 first params in
+        let long = seats_length 0 first_after_colours params in
         let same = params_length entry f.params in
-        let from : Between first entry (seats 0 first params) = between_rising entry (rising_seats 0 first params) (omega (arith, long, same)) in
+        let from : Between first_after_colours entry (seats 0 first_after_colours params) = between_rising entry (rising_seats 0 first_after_colours params) (omega (arith, long, same)) in
         let to : Between entry number params = between_params entry number f.params (le_refl number) in
         let moved = put_params c m turns [] all entry g in
         let whole = moves_end in
-        moves_follow c m turns [] (seats 0 first params) params body_code arguments (row_put_all (rising_seats 0 first params) put) (off_before from to (le_refl entry)) moved.2
-        (selects c m turns low_colours labelled still [] f.body env [] (not (is_no_value T)) true (fresh number T) (suc (suc number)) (return T) Anything Ends fine
+        moves_follow c m turns [] (seats 0 first_after_colours params) params body_code arguments (row_put_all (rising_seats 0 first_after_colours params) assign_register) (off_before from to (le_refl entry)) moved.2
+        (selects c m turns low_colours labelled still [] f.body env [] (not (is_no_value T)) true (fresh_register number T) (suc (suc number)) (return T) Anything Ends fine
         (record { under = under_with entry (suc (suc number)) f.params (omega arith) (omega arith) none; lower = no_label; off = λ q. off q; below = omega arith; first = omega arith })
         (record { puts = λ r v f may p. tt; calls = λ f g w p. tt }) (record { ending = whole.ending; caught = body_tries })
-        (subst (λ V. After c m turns [] (Some V) env [] (not (is_no_value T)) true (fresh number T) (return T) Anything Ends) same_type (ends_after T))
+        (subst (λ V. After c m turns [] (Some V) env [] (not (is_no_value T)) true (fresh_register number T) (return T) Anything Ends) same_type (ends_after T))
         (begun_with arguments) moved.0 memory (record { below = refl; frame = refl; tries = refl })
         (stands_params entry f.params arguments (row_put_all (rising_params entry f.params) moved.2) none) tt)
       where
@@ -277,17 +277,17 @@ module _ (c : Place) (f : FunctionTree) where
         same_type = ap (λ sc. type_of sc f.body) (sym (scopes_params entry f.params []))
 
         moves_end : Within body_code m.code
-        moves_end = ending_moves (seats 0 first params) params body_code
+        moves_end = ending_moves (seats 0 first_after_colours params) params body_code
 
-        return_tries : (d : Reg) (n : ℕ) (r : Ret) → tries_at (returns d n r) ≡ []
+        return_tries : (d : Reg) (n : ℕ) (r : Ret) → tries_at (return_code d n r) ≡ []
         return_tries d n ret.Unit = refl
         return_tries d n (ret.Comp q) = refl
 
         body_in : Within (return T) body_code
-        body_in = ending_select env [] (not (is_no_value T)) true (fresh number T) (suc (suc number)) f.body (return T)
+        body_in = ending_select env [] (not (is_no_value T)) true (fresh_register number T) (suc (suc number)) f.body (return T)
 
         body_tries : tries_at body_code ≡ []
-        body_tries = let e = body_in.tries in e ∙ return_tries (fresh number T) (suc number) (result_of T)
+        body_tries = let e = body_in.tries in e ∙ return_tries (fresh_register number T) (suc number) (result_of T)
 
         off : IsNamed number env → ⊥
         off q = let small = named_under (under_with entry number f.params (omega arith) (le_refl number) none) q in omega (arith, small)

@@ -15,7 +15,7 @@ use Rattle.cmm_meaning.specs.State.{Here}
 use Rattle.meaning_laws.specs.Does.{Leaves, Does}
 use Rattle.meaning_laws.specs.Interaction.{Part, with_value, both, does}
 use Rattle.mach_ir.specs.Acts.{truth_of, as_condition}
-use Rattle.mach_ir.specs.Runs.{Place, Continues}
+use Rattle.mach_ir.specs.Runs.{ActivationSetting, Continues}
 use Rattle.mach_ir.specs.Meaning.{File, values, with_held}
 use Rattle.mach_ir.specs.declared.reg.Reg.{Reg}
 use Rattle.mach_ir.specs.declared.mach.Instr.{Instr}
@@ -23,8 +23,8 @@ use Rattle.mach_ir.specs.declared.mach.Mach.{Mach}
 use Rattle.mach_ir.specs.declared.mach.Test.{Test}
 use Rattle.mach_ir.specs.declared.mach.Test.TheVariants as test
 use Rattle.mach_ir.specs.declared.op.Right.TheVariants as right
-use Rattle.selection_rules.specs.Select.{Named, Label, scopes, fresh, ordered, width, Immediate, if_commuted, left_immediate, right_immediate, Shape, InRegisters, ConstantRight, ConstantLeft, PowerRight, power_of, power_shape, shape, shape_of, shape_op, shape_right, shape_args, unless_left, unless_right, comparison, select}
-use Rattle.selection_rules.specs.Follow.{text_of, Follows}
+use Rattle.selection_rules.specs.Select.{NamedRegister, Label, scopes, fresh_register, ordered, width, Immediate, if_commuted, left_immediate, right_immediate, OperandShape, InRegisters, ConstantRight, ConstantLeft, PowerRight, power_of, power_shape, shape, operation_shape, shape_op, shape_right, shape_args, unless_left, unless_right, comparison, select}
+use Rattle.selection_rules.specs.Follow.{text_setting, FollowsText}
 use Rattle.selection_rules.proofs.Files.{Holds, Under, Stands}
 use Rattle.selection_rules.proofs.Parts.{Placed, Within, Lower, Stable, stable_inner, at, Level, Outs}
 use Rattle.selection_rules.proofs.Operands.{Selected, operand, two, ready_at}
@@ -41,7 +41,7 @@ pub data IsDivision : IntOp → Type 0 where
   is_mod : IsDivision operators.Mod
 
 -- what the shape of two operands comes to
-pub data ShapeView (op : IntOp) : Expression → Expression → Shape → Type 0 where
+pub data ShapeView (op : IntOp) : Expression → Expression → OperandShape → Type 0 where
   in_registers : {left e : Expression} → ShapeView op left e InRegisters
   constant_right : {left : Expression} {place w : ℕ} {i : Immediate} → Means op w i → ShapeView op left (Integer place w) (ConstantRight i)
   constant_left : {e : Expression} {place w : ℕ} {i : Immediate} → MeansLeft op w i → ShapeView op (Integer place w) e (ConstantLeft i)
@@ -88,20 +88,20 @@ power_view : {op : IntOp} (left e : Expression) → IsDivision op → ShapeView 
 power_view left (Integer place w) z = power_shapes left place w z (exponents 1 63 62 1 w (omega arith) (omega arith))
 power_view left e z = in_registers
 
-pub shape_view : (op : IntOp) (left e : Expression) → ShapeView op left e (shape_of op left e)
+pub shape_view : (op : IntOp) (left e : Expression) → ShapeView op left e (operation_shape op left e)
 shape_view operators.Div left e = power_view left e is_div
 shape_view operators.Mod left e = power_view left e is_mod
 shape_view op left e = shape_views (right_of_shape op e) (left_of_shape op left)
 
 -- where the operands are; the register beside a power of two takes any word
-pub data Operands (op : IntOp) (x y : Reg) (f : File) : Shape → Value → Value → Type 0 where
+pub data Operands (op : IntOp) (x y : Reg) (f : File) : OperandShape → Value → Value → Type 0 where
   both_stand : {v w : Value} → Holds x v f → Holds y w f → Operands op x y f InRegisters v w
   left_stands : {v : Value} {w : ℕ} {i : Immediate} → Means op w i → Holds x v f → Operands op x y f (ConstantRight i) v (value.Word w)
   right_stands : {v : Value} {w : ℕ} {i : Immediate} → MeansLeft op w i → Holds y v f → Operands op x y f (ConstantLeft i) (value.Word w) v
   a_power : {v : Value} {w k : ℕ} → IsDivision op → 1 ≤ k → k < 63 → 2 ^ k ≡ w → y.comp ≡ comp.Int → Holds x v f → Operands op x y f (PowerRight k) v (value.Word w)
 
 -- the values that the operation reads, where it is one
-abbrev pub shape_values : Shape → Value → Value → List Value
+abbrev pub shape_values : OperandShape → Value → Value → List Value
 shape_values InRegisters v w = v ∷ w ∷ []
 shape_values (ConstantRight i) v w = v ∷ []
 shape_values (ConstantLeft i) v w = w ∷ []
@@ -115,11 +115,11 @@ two_values {x} {y} {v} {w} {f} hv hw =
     ap (λ o. with_held o (with_held (f y.number) (Some []))) hv.is ∙ ap (λ o. with_held (Some (record { comp = x.comp; value = v })) (with_held o (Some []))) hw.is
 
 -- the test says what the comparison gives
-pub record Says (op : IntOp) (s : Shape) (t : Test) : Type 0 where
+pub record Says (op : IntOp) (s : OperandShape) (t : Test) : Type 0 where
   pub is : {x y : Reg} {f : File} {v w : Value} (z : List ℕ) → Operands op x y f s v w → truth_of z t (shape_values s v w) ≡ as_condition z (apply op z v w)
   pub reads : {x y : Reg} {f : File} {v w : Value} → Operands op x y f s v w → values f (shape_args s x y) ≡ Some (shape_values s v w)
 
-pub data Compared (op : IntOp) (s : Shape) : Option Test → Type 0 where
+pub data Compared (op : IntOp) (s : OperandShape) : Option Test → Type 0 where
   no_comparison : Compared op s None
   compares : {t : Test} → Says op s t → Compared op s (Some t)
 
@@ -136,7 +136,7 @@ both_one z (operators.Cmp q) t v w e = let same : test.Signed q right.Register �
 both_one z (operators.CmpU q) t v w e = let same : test.Unsigned q right.Register ≡ t = cc in subst (λ u. truth_of z u (v ∷ w ∷ []) ≡ as_condition z (apply (operators.CmpU q) z v w)) same refl
 both_one z o t v w e = absurd (cc)
 
-says : (op : IntOp) (s : Shape) (t : Test) → comparison (shape_op s op) (shape_right s) ≡ Some t →
+says : (op : IntOp) (s : OperandShape) (t : Test) → comparison (shape_op s op) (shape_right s) ≡ Some t →
     {x y : Reg} {f : File} {v w : Value} (z : List ℕ) → Operands op x y f s v w → truth_of z t (shape_values s v w) ≡ as_condition z (apply op z v w)
 says op s t e z (both_stand {v = v} {w = w} hv hw) = both_one z op t v w e
 says op s t e z (left_stands {v = v} {i = i} m hv) = signed_one z i t v e ∙ sym (ap (as_condition z) (m.is z v))
@@ -147,55 +147,55 @@ no_test : {op : IntOp} {t : Test} → IsDivision op → comparison op right.Regi
 no_test is_div e = cc
 no_test is_mod e = cc
 
-reads : (op : IntOp) (s : Shape) (t : Test) → comparison (shape_op s op) (shape_right s) ≡ Some t →
+reads : (op : IntOp) (s : OperandShape) (t : Test) → comparison (shape_op s op) (shape_right s) ≡ Some t →
     {x y : Reg} {f : File} {v w : Value} → Operands op x y f s v w → values f (shape_args s x y) ≡ Some (shape_values s v w)
 reads op s t e (both_stand hv hw) = two_values hv hw
 reads op s t e (left_stands m hv) = one_value hv
 reads op s t e (right_stands m hw) = one_value hw
 reads op s t e (a_power d le less p q hv) = absurd (no_test d e)
 
-compared_by : (op : IntOp) (s : Shape) (o : Option Test) → comparison (shape_op s op) (shape_right s) ≡ o → Compared op s o
+compared_by : (op : IntOp) (s : OperandShape) (o : Option Test) → comparison (shape_op s op) (shape_right s) ≡ o → Compared op s o
 compared_by op s None e = no_comparison
 compared_by op s (Some t) e = compares (record { is = λ z read. says op s t e z read; reads = λ read. reads op s t e read })
 
-pub compared : (op : IntOp) (s : Shape) → Compared op s (comparison (shape_op s op) (shape_right s))
+pub compared : (op : IntOp) (s : OperandShape) → Compared op s (comparison (shape_op s op) (shape_right s))
 compared op s = compared_by op s (comparison (shape_op s op) (shape_right s)) refl
 
-module _ (c : Place) (m : Mach) (turns : ℕ) (ts : List ℕ) where
-  pub shape_two : {B : Type 0} {env : List Named} {labels : List Label} {b d : ℕ} {P : File → Type 0} {op : IntOp} {s : Shape} (left_first : Bool) (left e : Expression) → ShapeView op left e s → is_left_first (scopes env) left e ≡ left_first →
+module _ (c : ActivationSetting) (m : Mach) (turns : ℕ) (ts : List ℕ) where
+  pub shape_two : {B : Type 0} {env : List NamedRegister} {labels : List Label} {b d : ℕ} {P : File → Type 0} {op : IntOp} {s : OperandShape} (left_first : Bool) (left e : Expression) → ShapeView op left e s → is_left_first (scopes env) left e ≡ left_first →
       Selected c m turns ts left → Selected c m turns ts e → width left < 2 ^ 60 → width e < 2 ^ 60 →
       (nx ny ix iy : ℕ) (next : List Instr) (go : Value → Value → Here → Memory → Part B) (k : Leaves B → Does) → Lower b labels → Under b env → 21 ≤ b → Stable env b d P →
       b ≤ nx → b ≤ ny → nx < ix → ny < iy → nx < iy → ny < ix → (nx ≡ ny → ⊥) →
-      ((rest : List Instr) → Within rest (select env labels false false (fresh nx (type_of (scopes env) left)) ix left rest)) →
-      ((rest : List Instr) → Within rest (select env labels false false (fresh ny (type_of (scopes env) e)) iy e rest)) →
-      Placed m ts (ordered left_first (unless_left s (select env labels false false (fresh nx (type_of (scopes env) left)) ix left)) (unless_right s (select env labels false false (fresh ny (type_of (scopes env) e)) iy e)) next) →
+      ((rest : List Instr) → Within rest (select env labels false false (fresh_register nx (type_of (scopes env) left)) ix left rest)) →
+      ((rest : List Instr) → Within rest (select env labels false false (fresh_register ny (type_of (scopes env) e)) iy e rest)) →
+      Placed m ts (ordered left_first (unless_left s (select env labels false false (fresh_register nx (type_of (scopes env) left)) ix left)) (unless_right s (select env labels false false (fresh_register ny (type_of (scopes env) e)) iy e)) next) →
       Outs c m turns ts env labels P k → (h : Here) (f : File) (memory : Memory) → Level c m turns ts h → Stands env h.names f → P f →
       ((v w : Value) (h : Here) (f : File) (memory : Memory) → Level c m turns ts h → Stands env h.names f → P f →
-      Operands op (fresh nx (type_of (scopes env) left)) (fresh ny (type_of (scopes env) e)) f s v w → Follows c m (go v w h memory k) (Continues (at c m turns ts next f memory))) →
-      Follows c m (both left_first (does (text_of c) turns left false) (does (text_of c) turns e false) h memory go k)
-      (Continues (at c m turns ts (ordered left_first (unless_left s (select env labels false false (fresh nx (type_of (scopes env) left)) ix left)) (unless_right s (select env labels false false (fresh ny (type_of (scopes env) e)) iy e)) next) f memory))
+      Operands op (fresh_register nx (type_of (scopes env) left)) (fresh_register ny (type_of (scopes env) e)) f s v w → FollowsText c m (go v w h memory k) (Continues (at c m turns ts next f memory))) →
+      FollowsText c m (both left_first (does (text_setting c) turns left false) (does (text_setting c) turns e false) h memory go k)
+      (Continues (at c m turns ts (ordered left_first (unless_left s (select env labels false false (fresh_register nx (type_of (scopes env) left)) ix left)) (unless_right s (select env labels false false (fresh_register ny (type_of (scopes env) e)) iy e)) next) f memory))
   shape_two left_first left e in_registers is sl sr fl fr nx ny ix iy next go k lower under first stable bx by' xx yy xy yx apart el er ending outs h f memory level s p on =
       two c m turns ts left_first left e sl sr fl fr nx ny ix iy next go k lower under first stable bx by' xx yy xy yx apart el er ending outs h f memory level s p
       (λ v w h f memory level s p fv fw hv hw. on v w h f memory level s p (both_stand hv hw))
   shape_two true left e (constant_right z) is sl sr fl fr nx ny ix iy next go k lower under first stable bx by' xx yy xy yx apart el er ending outs h f memory level s p on = absurd (true≢false (sym is))
   shape_two {env = env} false left e (constant_right {place = place} {w = w} z) is sl sr fl fr nx ny ix iy next go k lower under first stable bx by' xx yy xy yx apart el er ending outs h f memory level s p on =
-      constant_operand c m turns place w h memory (λ u h memory. with_value (does (text_of c) turns left false h memory) (λ v h memory. go v u h memory)) k _ refl
+      constant_operand c m turns place w h memory (λ u h memory. with_value (does (text_setting c) turns left false h memory) (λ v h memory. go v u h memory)) k _ refl
       (operand c m turns ts left sl fl nx ix next (λ v h memory. go v (value.Word w) h memory) k
       (ready_at c m turns ts (type_of (scopes env) left) nx ix lower under first bx xx) (stable_inner nx ix bx (omega (arith, bx, xx)) stable) ending outs h f memory level s p
       (λ v h f memory level s p fv hv. on v (value.Word w) h f memory level s p (left_stands z hv)))
   shape_two true left e (power_right z low top q) is sl sr fl fr nx ny ix iy next go k lower under first stable bx by' xx yy xy yx apart el er ending outs h f memory level s p on = absurd (true≢false (sym is))
   shape_two {env = env} false left e (power_right {place = place} {w = w} z le less q) is sl sr fl fr nx ny ix iy next go k lower under first stable bx by' xx yy xy yx apart el er ending outs h f memory level s p on =
-      constant_operand c m turns place w h memory (λ u h memory. with_value (does (text_of c) turns left false h memory) (λ v h memory. go v u h memory)) k _ refl
+      constant_operand c m turns place w h memory (λ u h memory. with_value (does (text_setting c) turns left false h memory) (λ v h memory. go v u h memory)) k _ refl
       (operand c m turns ts left sl fl nx ix next (λ v h memory. go v (value.Word w) h memory) k
       (ready_at c m turns ts (type_of (scopes env) left) nx ix lower under first bx xx) (stable_inner nx ix bx (omega (arith, bx, xx)) stable) ending outs h f memory level s p
       (λ v h f memory level s p fv hv. on v (value.Word w) h f memory level s p (a_power z le less q refl hv)))
   shape_two {env = env} true left e (constant_left {place = place} {w = w} z) is sl sr fl fr nx ny ix iy next go k lower under first stable bx by' xx yy xy yx apart el er ending outs h f memory level s p on =
-      constant_operand c m turns place w h memory (λ u h memory. with_value (does (text_of c) turns e false h memory) (λ v h memory. go u v h memory)) k _ refl
+      constant_operand c m turns place w h memory (λ u h memory. with_value (does (text_setting c) turns e false h memory) (λ v h memory. go u v h memory)) k _ refl
       (operand c m turns ts e sr fr ny iy next (λ v h memory. go (value.Word w) v h memory) k
       (ready_at c m turns ts (type_of (scopes env) e) ny iy lower under first by' yy) (stable_inner ny iy by' (omega (arith, by', yy)) stable) ending outs h f memory level s p
       (λ v h f memory level s p fv hv. on (value.Word w) v h f memory level s p (right_stands z hv)))
   shape_two {env = env} false left e (constant_left {place = place} {w = w} z) is sl sr fl fr nx ny ix iy next go k lower under first stable bx by' xx yy xy yx apart el er ending outs h f memory level s p on =
-      operand c m turns ts e sr fr ny iy next (λ v h memory. with_value (does (text_of c) turns (Integer place w) false h memory) (λ u h memory. go u v h memory)) k
+      operand c m turns ts e sr fr ny iy next (λ v h memory. with_value (does (text_setting c) turns (Integer place w) false h memory) (λ u h memory. go u v h memory)) k
       (ready_at c m turns ts (type_of (scopes env) e) ny iy lower under first by' yy) (stable_inner ny iy by' (omega (arith, by', yy)) stable) ending outs h f memory level s p
       (λ v h f memory level s p fv hv.
       constant_operand c m turns place w h memory (λ u h memory. go u v h memory) k _ refl (on (value.Word w) v h f memory level s p (right_stands z hv)))

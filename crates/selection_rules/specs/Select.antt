@@ -21,10 +21,10 @@ use Rattle.cmm_types.specs.Light.{is_light_address}
 use Rattle.cmm_types.specs.Types.{Scoped, type_of, type_bound, is_mutable, body_type, result_of}
 use Rattle.cmm_meaning.specs.Choices.{is_named}
 use Rattle.cmm_meaning.specs.Evaluation.{is_left_first, scoped_parameter, comps_of_arguments}
-use Rattle.mach_ir.specs.Formed.{indexes_of}
+use Rattle.mach_ir.specs.Formed.{indexes_to_label}
 use Rattle.mach_ir.specs.Forms.{is_immediate, is_immediate_12}
-use Rattle.mach_ir.specs.Placed.{colours}
-use Rattle.mach_ir.specs.Seats.{argument_places}
+use Rattle.mach_ir.specs.Placed.{colour_numbers}
+use Rattle.mach_ir.specs.Seats.{argument_locations}
 use Rattle.mach_ir.specs.declared.op.Callee.{Callee}
 use Rattle.mach_ir.specs.declared.op.Callee.TheVariants as callee
 use Rattle.mach_ir.specs.declared.mach.Instr.{Instr}
@@ -35,16 +35,16 @@ use Rattle.mach_ir.specs.declared.mach.Test.TheVariants as test
 use Rattle.mach_ir.specs.declared.op.Right.{Right}
 use Rattle.mach_ir.specs.declared.op.Right.TheVariants as right
 use Rattle.mach_ir.specs.declared.reg.Reg.{Reg}
-use Rattle.selection_rules.specs.Instructions.{bare}
+use Rattle.selection_rules.specs.Instructions.{bare_mark}
 use Rattle.selection_rules.specs.Instructions as emit
 
 -- a name in scope, and its register
-pub record Named : Type 0 where
+pub record NamedRegister : Type 0 where
   pub scoped : Scoped
   pub reg : Reg
 
-abbrev pub scopes : List Named → List Scoped
-scopes env = map (λ (x : Named). x.scoped) env
+abbrev pub scopes : List NamedRegister → List Scoped
+scopes env = map (λ (x : NamedRegister). x.scoped) env
 
 -- a handler in scope: the registers of its parameters, its label in the code, and how many tries
 -- are between it and here
@@ -54,21 +54,21 @@ pub record Label : Type 0 where
   pub number : ℕ
   pub tries : ℕ
 
-abbrev pub comp_of : Ty → Comp
-comp_of ty.Val = comp.Val
-comp_of ty.Addr = comp.Addr
-comp_of _ = comp.Int
+abbrev pub comp_of_type : Ty → Comp
+comp_of_type ty.Val = comp.Val
+comp_of_type ty.Addr = comp.Addr
+comp_of_type _ = comp.Int
 
-abbrev pub fresh : ℕ → Ty → Reg
-fresh n type = record { number = n; comp = comp_of type; loc = loc.Unset; origin = n }
+abbrev pub fresh_register : ℕ → Ty → Reg
+fresh_register n type = record { number = n; comp = comp_of_type type; loc = loc.Unset; origin = n }
 
-abbrev pub reg_of : List Named → List ℕ → Option Reg
+abbrev pub reg_of : List NamedRegister → List ℕ → Option Reg
 reg_of [] name = None
 reg_of (x ∷ env) name = cond (bytes_eq x.scoped.name name) (Some x.reg) (reg_of env name)
 
-abbrev pub label_of : List Label → LabelTree → Option Label
-label_of [] l = None
-label_of (t ∷ labels) l = cond (same_label l t.label) (Some t) (label_of labels l)
+abbrev pub visible_label : List Label → LabelTree → Option Label
+visible_label [] l = None
+visible_label (t ∷ labels) l = cond (same_label l t.label) (Some t) (visible_label labels l)
 
 -- code, before the code that follows
 abbrev pub Code : Type 0
@@ -163,51 +163,51 @@ left_immediate op e = None
 
 -- Where the operands of an operator are: in registers both, or one of them is a constant that
 -- needs none. A divisor that is a power of two needs none either.
-pub data Shape : Type 0 where
-  InRegisters : Shape
-  ConstantRight : (immediate : Immediate) → Shape
-  ConstantLeft : (immediate : Immediate) → Shape
-  PowerRight : (exponent : ℕ) → Shape
+pub data OperandShape : Type 0 where
+  InRegisters : OperandShape
+  ConstantRight : (immediate : Immediate) → OperandShape
+  ConstantLeft : (immediate : Immediate) → OperandShape
+  PowerRight : (exponent : ℕ) → OperandShape
 
-abbrev pub shape : Option Immediate → Option Immediate → Shape
+abbrev pub shape : Option Immediate → Option Immediate → OperandShape
 shape (Some i) left = ConstantRight i
 shape None (Some i) = ConstantLeft i
 shape None None = InRegisters
 
-abbrev pub power_shape : Option ℕ → Shape
+abbrev pub power_shape : Option ℕ → OperandShape
 power_shape (Some k) = PowerRight k
 power_shape None = InRegisters
 
-abbrev pub shape_of : IntOp → Expression → Expression → Shape
-shape_of operator.Div left right = power_shape (power_of right)
-shape_of operator.Mod left right = power_shape (power_of right)
-shape_of op left right = shape (right_immediate op right) (left_immediate op left)
+abbrev pub operation_shape : IntOp → Expression → Expression → OperandShape
+operation_shape operator.Div left right = power_shape (power_of right)
+operation_shape operator.Mod left right = power_shape (power_of right)
+operation_shape op left right = shape (right_immediate op right) (left_immediate op left)
 
-abbrev pub shape_op : Shape → IntOp → IntOp
+abbrev pub shape_op : OperandShape → IntOp → IntOp
 shape_op InRegisters op = op
 shape_op (ConstantRight i) op = i.op
 shape_op (ConstantLeft i) op = i.op
 shape_op (PowerRight k) op = op
 
-abbrev pub shape_right : Shape → Right
+abbrev pub shape_right : OperandShape → Right
 shape_right InRegisters = right.Register
 shape_right (ConstantRight i) = right.Constant i.word
 shape_right (ConstantLeft i) = right.Constant i.word
 shape_right (PowerRight k) = right.Register
 
-abbrev pub shape_args : Shape → Reg → Reg → List Reg
+abbrev pub shape_args : OperandShape → Reg → Reg → List Reg
 shape_args InRegisters x y = x ∷ y ∷ []
 shape_args (ConstantRight i) x y = x ∷ []
 shape_args (ConstantLeft i) x y = y ∷ []
 shape_args (PowerRight k) x y = x ∷ y ∷ []
 
-abbrev pub unless_left : Shape → Code → Code
+abbrev pub unless_left : OperandShape → Code → Code
 unless_left InRegisters code next = code next
 unless_left (ConstantRight i) code next = code next
 unless_left (ConstantLeft i) code next = next
 unless_left (PowerRight k) code next = code next
 
-abbrev pub unless_right : Shape → Code → Code
+abbrev pub unless_right : OperandShape → Code → Code
 unless_right InRegisters code next = code next
 unless_right (ConstantRight i) code next = next
 unless_right (ConstantLeft i) code next = code next
@@ -233,15 +233,15 @@ power_code op k x y d next =
     ∷ next)
 
 -- the code of an operator whose operands have this shape
-abbrev pub operator_code : Shape → IntOp → Reg → Reg → Reg → Code
+abbrev pub operator_code : OperandShape → IntOp → Reg → Reg → Reg → Code
 operator_code (PowerRight k) op x y d next = power_code op k x y d next
 operator_code s op x y d next =
     emit.operator (shape_op s op) (shape_right s) (shape_args s x y) d ∷ next
 
 -- the index of a bound test is a constant where the machine has an immediate for it
-abbrev pub right_of : IntOp → Expression → Right
-right_of f (Integer at w) = cond (is_immediate f w) (right.Constant w) right.Register
-right_of f _ = right.Register
+abbrev pub bound_test_operand : IntOp → Expression → Right
+bound_test_operand f (Integer at w) = cond (is_immediate f w) (right.Constant w) right.Register
+bound_test_operand f _ = right.Register
 
 abbrev pub unless_constant : Right → Code → Code
 unless_constant right.Register code next = code next
@@ -272,9 +272,9 @@ comparison (operator.Cmp f) r = Some (test.Signed f r)
 comparison (operator.CmpU f) r = Some (test.Unsigned f r)
 comparison _ r = None
 
-abbrev pub tested : Option Test → (Test → List Instr) → Code
-tested (Some t) fused value = fused t
-tested None fused value = value
+abbrev pub fused_test : Option Test → (Test → List Instr) → Code
+fused_test (Some t) fused value = fused t
+fused_test None fused value = value
 
 -- the index of a bound test is below the bound, unsigned
 abbrev pub bound_test : IntOp
@@ -290,7 +290,7 @@ is_no_value _ = false
 -- of a raised value, too
 abbrev pub seat : ℕ → ℕ → Comp → Reg
 seat i n c =
-    record { number = n; comp = c; loc = slice_index_or argument_places i loc.Unset; origin = n }
+    record { number = n; comp = c; loc = slice_index_or argument_locations i loc.Unset; origin = n }
 
 -- the seats of values in these registers, from a position and a number on
 abbrev pub seats : ℕ → ℕ → List Reg → List Reg
@@ -314,9 +314,9 @@ abbrev pub tail_result : Bool → Ret → Ret
 tail_result valued result = cond valued result ret.Unit
 
 -- a function that is called by its symbol needs no register
-abbrev pub symbol_of : Expression → Option (List ℕ)
-symbol_of (Symbol at name) = Some name
-symbol_of _ = None
+abbrev pub called_symbol : Expression → Option (List ℕ)
+called_symbol (Symbol at name) = Some name
+called_symbol _ = None
 
 abbrev pub unless_symbol : Option (List ℕ) → Code → Code
 unless_symbol (Some name) code next = next
@@ -339,9 +339,9 @@ call_of false valued result name f arguments n d next =
     emit.call (callee_of name) result (callee_regs name f ++ arguments) (result_seat n result)
     ∷ from_seat n result d next
 
-abbrev pub exit_to : Option Label → List Reg → Code
-exit_to None from next = next
-exit_to (Some t) from next = moves_all from t.params (bare (mark.Exit t.number t.tries) ∷ next)
+abbrev pub exit_to_handler : Option Label → List Reg → Code
+exit_to_handler None from next = next
+exit_to_handler (Some t) from next = moves_all from t.params (bare_mark (mark.Exit t.number t.tries) ∷ next)
 
 -- what a node of no value leaves to its last part
 abbrev pub inner_valued : Bool → Ty → Bool
@@ -350,10 +350,10 @@ inner_valued valued _ = valued
 
 abbrev pub params_from : ℕ → List Parameter → List Reg
 params_from b [] = []
-params_from b (p ∷ params) = fresh b (type_of_comp p.comp) ∷ params_from (suc b) params
+params_from b (p ∷ params) = fresh_register b (type_of_comp p.comp) ∷ params_from (suc b) params
 
 -- the parameters of a handler, or of a function, in scope: the last innermost
-abbrev pub with_params : List Parameter → List Reg → List Named → List Named
+abbrev pub with_params : List Parameter → List Reg → List NamedRegister → List NamedRegister
 with_params (p ∷ params) (r ∷ regs) env =
     with_params params regs (record { scoped = scoped_parameter p; reg = r } ∷ env)
 with_params _ _ env = env
@@ -366,7 +366,7 @@ labels_from b (Handle at label params body rest) =
     ∷ labels_from (suc b + length params) rest
 
 abbrev pub unless_bare : Bool → Label → List Label → List Label
-unless_bare bare t labels = cond bare labels (t ∷ labels)
+unless_bare bare_mark t labels = cond bare_mark labels (t ∷ labels)
 
 abbrev pub in_handlers : List Label → List Label
 in_handlers [] = []
@@ -377,11 +377,11 @@ width_labels NoHandler = 0
 width_labels (Handle at label params body rest) = suc (length params) + width_labels rest
 
 -- the same handlers, from within one try more
-abbrev pub deeper : List Label → List Label
-deeper [] = []
-deeper (t ∷ labels) =
+abbrev pub labels_within_try : List Label → List Label
+labels_within_try [] = []
+labels_within_try (t ∷ labels) =
     record { label = t.label; params = t.params; number = t.number; tries = suc t.tries }
-    ∷ deeper labels
+    ∷ labels_within_try labels
 
 abbrev pub count_cases : Cases → ℕ
 count_cases NoCase = 0
@@ -389,23 +389,23 @@ count_cases (Choose indexes body rest) = suc (count_cases rest)
 
 -- the label of the case for a number: that of the last case that names it, and else of the first,
 -- which has label `l`
-abbrev pub last_label : ℕ → Cases → ℕ → ℕ → ℕ
-last_label l NoCase k so_far = so_far
-last_label l (Choose indexes body rest) k so_far =
-    last_label (suc l) rest k (cond (is_named indexes k) l so_far)
+abbrev pub label_of_last_case : ℕ → Cases → ℕ → ℕ → ℕ
+label_of_last_case l NoCase k so_far = so_far
+label_of_last_case l (Choose indexes body rest) k so_far =
+    label_of_last_case (suc l) rest k (cond (is_named indexes k) l so_far)
 
 -- the labels for so many numbers from `k` on
 abbrev pub switch_labels : ℕ → Cases → ℕ → ℕ → List ℕ
 switch_labels l cases k zero = []
-switch_labels l cases k (suc n) = last_label l cases k l ∷ switch_labels l cases (suc k) n
+switch_labels l cases k (suc n) = label_of_last_case l cases k l ∷ switch_labels l cases (suc k) n
 
 -- the header of a block is 8 bytes before it
 abbrev pub header_offset : ℕ
 header_offset = 0xFFFFFFFFFFFFFFF8
 
-abbrev pub raised_name : List ℕ → ℕ → Named
+abbrev pub raised_name : List ℕ → ℕ → NamedRegister
 raised_name name n =
-    record { scoped = record { name = name; type = ty.Val; mutable = false }; reg = fresh n ty.Val }
+    record { scoped = record { name = name; type = ty.Val; mutable = false }; reg = fresh_register n ty.Val }
 
 -- what the cells of a block are written by: a block whose tag is 250 or less is scanned
 abbrev pub chunk_for : Bool → Chunk
@@ -460,34 +460,34 @@ abbrev mutual
   width_handlers NoHandler = 0
   width_handlers (Handle at label params body rest) = width body + width_handlers rest
 
-abbrev pub bound_name : List Named → ℕ → List ℕ → Option Declaration → Expression → Named
+abbrev pub bound_name : List NamedRegister → ℕ → List ℕ → Option Declaration → Expression → NamedRegister
 bound_name env b name declared e =
     let type : Ty = type_bound declared (type_of (scopes env) e) in
     let scoped : Scoped = record { name = name; type = type; mutable = is_mutable declared } in
-    record { scoped = scoped; reg = fresh b type }
+    record { scoped = scoped; reg = fresh_register b type }
 
 -- the names after bindings
-abbrev pub env_after : List Named → ℕ → Bindings → List Named
+abbrev pub env_after : List NamedRegister → ℕ → Bindings → List NamedRegister
 env_after env b NoBinding = env
 env_after env b (Bind at name declared e rest) =
     env_after (bound_name env b name declared e ∷ env) (suc (b + width e)) rest
 
 -- the registers of a row of operands
-abbrev pub regs_of : List Named → ℕ → Expressions → List Reg
+abbrev pub regs_of : List NamedRegister → ℕ → Expressions → List Reg
 regs_of env b NoMore = []
-regs_of env b (More e rest) = fresh b (type_of (scopes env) e) ∷ regs_of env (suc b) rest
+regs_of env b (More e rest) = fresh_register b (type_of (scopes env) e) ∷ regs_of env (suc b) rest
 
 -- where a node of no value has a part with one, that goes into a register that all values fit and
 -- nothing reads
 abbrev pub inner_dest : Ty → ℕ → Reg → Reg
-inner_dest ty.NoValue b d = fresh b ty.Addr
+inner_dest ty.NoValue b d = fresh_register b ty.Addr
 inner_dest _ b d = d
 
 abbrev mutual
   -- The code of an expression: its value is left in the register `d`, and its own registers and
   -- labels are numbered from `b` on. In tail position a call is a tail call; where the function's
   -- value is not wanted it gives none.
-  pub select : List Named → List Label → Bool → Bool → Reg → ℕ → Expression → Code
+  pub select : List NamedRegister → List Label → Bool → Bool → Reg → ℕ → Expression → Code
   select env labels valued tail d b (Integer at w) next =
       emit.constant w (inner_dest (type_of (scopes env) (Integer at w)) b d) ∷ next
   select env labels valued tail d b (Pointer at w) next =
@@ -504,12 +504,12 @@ abbrev mutual
       select_bound env labels (suc b) bindings
       (select inner labels (inner_valued valued type) tail (inner_dest type b d) base body next)
   select env labels valued tail d b (Assign at name_at name e) next =
-      let t = fresh (suc b) (type_of (scopes env) e) in
+      let t = fresh_register (suc b) (type_of (scopes env) e) in
       select env labels false false t (suc (suc b)) e (move_to t (reg_of env name) next)
   select env labels valued tail d b (Operator at op left right) next =
-      let x = fresh (suc b) (type_of (scopes env) left) in
-      let y = fresh (suc (suc b)) (type_of (scopes env) right) in
-      let s = shape_of op left right in
+      let x = fresh_register (suc b) (type_of (scopes env) left) in
+      let y = fresh_register (suc (suc b)) (type_of (scopes env) right) in
+      let s = operation_shape op left right in
       let type = type_of (scopes env) (Operator at op left right) in
       ordered (is_left_first (scopes env) left right)
       (unless_left s (select env labels false false x (suc (suc (suc b))) left))
@@ -517,7 +517,7 @@ abbrev mutual
       (operator_code s op x y (inner_dest type b d) next)
   select env labels valued tail d b (App at callee arguments result result_at) next =
       let type = type_of (scopes env) (App at callee arguments result result_at) in
-      let f = fresh (suc b) (type_of (scopes env) callee) in
+      let f = fresh_register (suc b) (type_of (scopes env) callee) in
       let row = suc (suc b) in
       let seated = row + count_of arguments in
       let given = seated + count_of arguments in
@@ -525,7 +525,7 @@ abbrev mutual
       let light = is_light_address (scopes env) callee in
       let regs = regs_of env row arguments in
       let args = seats 0 seated regs in
-      let name = symbol_of callee in
+      let name = called_symbol callee in
       let wants = inner_valued valued type in
       select_waiting env labels row (base + width callee) arguments
       (only_when (not light) (unless_symbol name (select env labels false false f base callee))
@@ -543,7 +543,7 @@ abbrev mutual
       select_waiting env labels row (suc given) arguments
       (select_filled env labels row (suc given) arguments
       (moves_all regs (seats 0 seated regs)
-      (emit.external name comps result frame (seats 0 seated regs) (result_seat given result)
+      (emit.external_instruction name comps result frame (seats 0 seated regs) (result_seat given result)
       ∷ from_seat given result (inner_dest type b d) next)))
   select env labels valued tail d b (Seq at elements) next =
       let type = type_of (scopes env) (Seq at elements) in
@@ -551,16 +551,16 @@ abbrev mutual
       select_seq env labels wants tail (inner_dest type b d) (suc b) elements next
   select env labels valued tail d b (If at condition on_true on_false) next =
       let type = type_of (scopes env) (If at condition on_true on_false) in
-      let t = fresh (suc b) (type_of (scopes env) condition) in
+      let t = fresh_register (suc b) (type_of (scopes env) condition) in
       let l = suc (suc b) in
       let end = suc (suc (suc b)) in
       let base = suc (suc (suc (suc b))) in
       let wants = inner_valued valued type in
       let own = inner_dest type b d in
-      let last = bare (mark.End end) ∷ next in
+      let last = bare_mark (mark.End end) ∷ next in
       let false_at = base + width condition + width on_true in
       let false_code = select env labels wants tail own false_at on_false last in
-      let else_code = bare (mark.Else l end) ∷ false_code in
+      let else_code = bare_mark (mark.Else l end) ∷ false_code in
       let true_code = select env labels wants tail own (base + width condition) on_true else_code in
       let test_code = emit.branch test.Holds l (t ∷ []) ∷ true_code in
       let value_code = select env labels false false t base condition test_code in
@@ -573,45 +573,45 @@ abbrev mutual
       let wants = inner_valued valued type in
       let d' = inner_dest type b d in
       let inside = in_handlers own ++ labels in
-      bare mark.Catch
+      bare_mark mark.Catch
       ∷ select env (own ++ labels) wants tail d' base body
       (select_handlers env inside wants tail d' end (suc (suc b)) (base + width body) handlers
-      (bare (mark.End end) ∷ next))
+      (bare_mark (mark.End end) ∷ next))
   select env labels valued tail d b (Exit at label_at label arguments) next =
       select_waiting env labels (suc b) (suc b + count_of arguments) arguments
       (select_filled env labels (suc b) (suc b + count_of arguments) arguments
-      (exit_to (label_of labels label) (regs_of env (suc b) arguments) next))
+      (exit_to_handler (visible_label labels label) (regs_of env (suc b) arguments) next))
   select env labels valued tail d b (Load at chunk address) next =
-      let x = fresh (suc b) (type_of (scopes env) (base_of address)) in
-      let v = fresh (suc b) (type_of (scopes env) address) in
+      let x = fresh_register (suc b) (type_of (scopes env) (base_of address)) in
+      let v = fresh_register (suc b) (type_of (scopes env) address) in
       let type = type_of (scopes env) (Load at chunk address) in
       let whole = select env labels false false v (suc (suc b)) address in
       select_base env labels (suc b) (suc (suc b)) address whole
       (emit.load chunk (offset_of address) x (inner_dest type b d) ∷ next)
   select env labels valued tail d b (Store at chunk address e) next =
-      let x = fresh (suc b) (type_of (scopes env) (base_of address)) in
-      let y = fresh (suc (suc b)) (type_of (scopes env) e) in
-      let v = fresh (suc b) (type_of (scopes env) address) in
+      let x = fresh_register (suc b) (type_of (scopes env) (base_of address)) in
+      let y = fresh_register (suc (suc b)) (type_of (scopes env) e) in
+      let v = fresh_register (suc b) (type_of (scopes env) address) in
       let whole = select env labels false false v (suc (suc (suc b))) address in
       ordered (is_left_first (scopes env) address e)
       (select_base env labels (suc b) (suc (suc (suc b))) address whole)
       (select env labels false false y (suc (suc (suc b)) + width address) e)
       (emit.store chunk (offset_of address) x y ∷ next)
   select env labels valued tail d b (Checkbound at bound index) next =
-      let x = fresh (suc b) (type_of (scopes env) bound) in
-      let y = fresh (suc (suc b)) (type_of (scopes env) index) in
-      let r = right_of bound_test index in
+      let x = fresh_register (suc b) (type_of (scopes env) bound) in
+      let y = fresh_register (suc (suc b)) (type_of (scopes env) index) in
+      let r = bound_test_operand bound_test index in
       ordered (is_left_first (scopes env) bound index)
       (select env labels false false x (suc (suc (suc b))) bound)
       (unless_constant r (select env labels false false y (suc (suc (suc b)) + width bound) index))
-      (emit.checkbound r x y ∷ next)
+      (emit.checkbound_instr r x y ∷ next)
   select env labels valued tail d b (Raise at e) next =
-      let x = fresh (suc b) (type_of (scopes env) e) in
+      let x = fresh_register (suc b) (type_of (scopes env) e) in
       let y = seat 0 (suc (suc b)) comp.Val in
       select env labels false false x (suc (suc (suc b))) e (emit.move x y ∷ emit.raising y ∷ next)
   select env labels valued tail d b (Switch at size_at size selector cases) next =
       let type = type_of (scopes env) (Switch at size_at size selector cases) in
-      let x = fresh (suc b) (type_of (scopes env) selector) in
+      let x = fresh_register (suc b) (type_of (scopes env) selector) in
       let end = suc (suc b) in
       let l = suc (suc (suc b)) in
       let base = l + count_cases cases in
@@ -621,7 +621,7 @@ abbrev mutual
       select env labels false false x base selector
       (emit.choose all x
       ∷ select_cases env labels wants tail d' all end l (base + width selector) cases
-      (bare (mark.End end) ∷ next))
+      (bare_mark (mark.End end) ∷ next))
   select env labels valued tail d b (Try at body name_at name handler) next =
       let type = type_of (scopes env) (Try at body name_at name handler) in
       let l = suc b in
@@ -631,16 +631,16 @@ abbrev mutual
       let base = suc (suc (suc (suc (suc b)))) in
       let wants = inner_valued valued type in
       let d' = inner_dest type b d in
-      bare (mark.Try l)
-      ∷ select env (deeper labels) wants false d' base body
-      (bare (mark.Leave l end)
+      bare_mark (mark.Try l)
+      ∷ select env (labels_within_try labels) wants false d' base body
+      (bare_mark (mark.Leave l end)
       ∷ emit.handler l y
       ∷ emit.move y x.reg
       ∷ select (x ∷ env) labels wants tail d' (base + width body) handler
-      (bare (mark.End end) ∷ next))
+      (bare_mark (mark.End end) ∷ next))
   select env labels valued tail d b (Alloc at header_at header operands) next =
-      let p = fresh (suc b) ty.Val in
-      let q = fresh (suc (suc b)) ty.Int in
+      let p = fresh_register (suc b) ty.Val in
+      let q = fresh_register (suc (suc b)) ty.Int in
       let row = suc (suc (suc b)) in
       let base = row + count_of operands in
       let type = type_of (scopes env) (Alloc at header_at header operands) in
@@ -655,12 +655,12 @@ abbrev mutual
 
   -- where a condition holds it goes on with `next`, and else at the label `l`: a comparison is a
   -- test of its own, and another condition is the code `value`
-  pub select_test : List Named → List Label → ℕ → ℕ → Expression → List Instr → Code
+  pub select_test : List NamedRegister → List Label → ℕ → ℕ → Expression → List Instr → Code
   select_test env labels l b (Operator at op left right) value next =
-      let x = fresh (suc b) (type_of (scopes env) left) in
-      let y = fresh (suc (suc b)) (type_of (scopes env) right) in
-      let s = shape_of op left right in
-      tested (comparison (shape_op s op) (shape_right s))
+      let x = fresh_register (suc b) (type_of (scopes env) left) in
+      let y = fresh_register (suc (suc b)) (type_of (scopes env) right) in
+      let s = operation_shape op left right in
+      fused_test (comparison (shape_op s op) (shape_right s))
       (λ t.
       ordered (is_left_first (scopes env) left right)
       (unless_left s (select env labels false false x (suc (suc (suc b))) left))
@@ -671,57 +671,57 @@ abbrev mutual
 
   -- the base of an address goes into the register `t`; an address that is no such sum is the code
   -- `whole`
-  pub select_base : List Named → List Label → ℕ → ℕ → Expression → Code → Code
+  pub select_base : List NamedRegister → List Label → ℕ → ℕ → Expression → Code → Code
   select_base env labels t b (Operator at op base (Integer at' w)) whole next =
-      let x = fresh t (type_of (scopes env) base) in
+      let x = fresh_register t (type_of (scopes env) base) in
       cond (is_based op w) (select env labels false false x b base next) (whole next)
   select_base env labels t b e whole next = whole next
 
   -- the operands that do not wait; their registers are numbered from `b` on, and those of their
   -- code from `i` on
-  pub select_waiting : List Named → List Label → ℕ → ℕ → Expressions → Code
+  pub select_waiting : List NamedRegister → List Label → ℕ → ℕ → Expressions → Code
   select_waiting env labels b i NoMore next = next
   select_waiting env labels b i (More e rest) next =
-      let r = fresh b (type_of (scopes env) e) in
+      let r = fresh_register b (type_of (scopes env) e) in
       let now = not (is_light_address (scopes env) e) in
       select_waiting env labels (suc b) (i + width e) rest
       (only_when now (select env labels false false r i e) next)
 
   -- and those that have waited
-  pub select_filled : List Named → List Label → ℕ → ℕ → Expressions → Code
+  pub select_filled : List NamedRegister → List Label → ℕ → ℕ → Expressions → Code
   select_filled env labels b i NoMore next = next
   select_filled env labels b i (More e rest) next =
-      let r = fresh b (type_of (scopes env) e) in
+      let r = fresh_register b (type_of (scopes env) e) in
       select_filled env labels (suc b) (i + width e) rest
       (only_when (is_light_address (scopes env) e) (select env labels false false r i e) next)
 
-  pub select_bound : List Named → List Label → ℕ → Bindings → Code
+  pub select_bound : List NamedRegister → List Label → ℕ → Bindings → Code
   select_bound env labels b NoBinding next = next
   select_bound env labels b (Bind at name declared e rest) next =
       let x = bound_name env b name declared e in
       select env labels false false x.reg (suc b) e
       (select_bound (x ∷ env) labels (suc (b + width e)) rest next)
 
-  pub select_seq : List Named → List Label → Bool → Bool → Reg → ℕ → Expressions → Code
+  pub select_seq : List NamedRegister → List Label → Bool → Bool → Reg → ℕ → Expressions → Code
   select_seq env labels valued tail d b NoMore next = next
   select_seq env labels valued tail d b (More e NoMore) next =
       select env labels valued tail d (suc b) e next
   select_seq env labels valued tail d b (More e rest) next =
-      let r = fresh b (type_of (scopes env) e) in
+      let r = fresh_register b (type_of (scopes env) e) in
       select env labels false false r (suc b) e
       (select_seq env labels valued tail d (suc (b + width e)) rest next)
 
-  pub select_cases : List Named → List Label → Bool → Bool → Reg → List ℕ → ℕ → ℕ → ℕ → Cases → Code
+  pub select_cases : List NamedRegister → List Label → Bool → Bool → Reg → List ℕ → ℕ → ℕ → ℕ → Cases → Code
   select_cases env labels valued tail d all end l b NoCase next = next
   select_cases env labels valued tail d all end l b (Choose indexes body rest) next =
-      bare (mark.Case (indexes_of l 0 all) l end)
+      bare_mark (mark.Case (indexes_to_label l 0 all) l end)
       ∷ select env labels valued tail d b body
       (select_cases env labels valued tail d all end (suc l) (b + width body) rest next)
 
-  pub select_handlers : List Named → List Label → Bool → Bool → Reg → ℕ → ℕ → ℕ → Handlers → Code
+  pub select_handlers : List NamedRegister → List Label → Bool → Bool → Reg → ℕ → ℕ → ℕ → Handlers → Code
   select_handlers env labels valued tail d end l b NoHandler next = next
   select_handlers env labels valued tail d end l b (Handle at label params body rest) next =
-      bare (mark.With l end)
+      bare_mark (mark.With l end)
       ∷ select (with_params params (params_from (suc l) params) env) labels valued tail d b body
       (select_handlers env labels valued tail d end (suc l + length params) (b + width body) rest
       next)
@@ -731,8 +731,8 @@ abbrev pub to_seat : Reg → ℕ → Ret → Code
 to_seat d n ret.Unit next = next
 to_seat d n (ret.Comp c) next = emit.move d (seat 0 n c) ∷ next
 
-abbrev pub returns : Reg → ℕ → Ret → List Instr
-returns d n result = to_seat d n result (emit.give_back (result_seat n result) ∷ [])
+abbrev pub return_code : Reg → ℕ → Ret → List Instr
+return_code d n result = to_seat d n result (emit.give_back (result_seat n result) ∷ [])
 
 -- for each colour a register that is there; their numbers are the first
 abbrev pub colour_regs : ℕ → List ℕ → List Reg
@@ -742,25 +742,25 @@ colour_regs n (colour ∷ rest) =
     ∷ colour_regs (suc n) rest
 
 -- the first number after those
-abbrev pub first : ℕ
-first = length colours
+abbrev pub first_after_colours : ℕ
+first_after_colours = length colour_numbers
 
 abbrev pub selected : FunctionTree → Mach
 selected f =
     let type : Ty = body_type f in
-    let moved = first + length f.params in
+    let moved = first_after_colours + length f.params in
     let params = params_from moved f.params in
     let n = moved + length f.params in
     let from = suc (suc n) in
     let env = with_params f.params params [] in
     record {
       name = f.name;
-      params = seats 0 first params;
+      params = seats 0 first_after_colours params;
       result = result_of type;
       labels = from + width f.body;
-      colours = colour_regs 0 colours;
+      colours = colour_regs 0 colour_numbers;
       code =
-          moves_all (seats 0 first params) params
-          (select env [] (not (is_no_value type)) true (fresh n type) from f.body
-          (returns (fresh n type) (suc n) (result_of type)));
+          moves_all (seats 0 first_after_colours params) params
+          (select env [] (not (is_no_value type)) true (fresh_register n type) from f.body
+          (return_code (fresh_register n type) (suc n) (result_of type)));
     }

@@ -4,8 +4,8 @@ use Rattle.std.proofs.lemmas.List.{length-append, reverse-append}
 use Rattle.cmm_tree.specs.Tree.{is_bare}
 use Rattle.cmm_types.proofs.Leaving.{drop_front}
 use Rattle.cmm_types.proofs.Stacks.{lowest}
-use Rattle.selection_rules.specs.Select.{Label, unless_bare, in_handlers, deeper}
-use Rattle.selection_scope.specs.Scoping.{higher}
+use Rattle.selection_rules.specs.Select.{Label, unless_bare, in_handlers, labels_within_try}
+use Rattle.selection_scope.specs.Scoping.{labels_outside_try}
 
 -- what is left below is what was there before
 pub left-below : {A B : Type 0} (f : A → B) (n : ℕ) (xs : List A) (front rest : List B) → map f (reverse xs) ≡ front ++ rest → length rest ≡ n
@@ -40,8 +40,8 @@ below-named xs t rest bare =
     ap (λ l. l ++ rest) (handlers-append xs (t ∷ []) ∙ ap (λ b. in_handlers xs ++ unless_bare b t []) bare)
     ∙ append_assoc (in_handlers xs) (t ∷ []) rest
 
-pub higher-deeper : (ls : List Label) → higher (deeper ls) ≡ ls
+pub higher-deeper : (ls : List Label) → labels_outside_try (labels_within_try ls) ≡ ls
 higher-deeper [] = refl
 higher-deeper (t ∷ ls) =
     let same : suc t.tries - 1 ≡ t.tries = omega arith in
-    ap (λ n. record { label = t.label; params = t.params; number = t.number; tries = n } ∷ higher (deeper ls)) same ∙ ap (λ l. t ∷ l) (higher-deeper ls)
+    ap (λ n. record { label = t.label; params = t.params; number = t.number; tries = n } ∷ labels_outside_try (labels_within_try ls)) same ∙ ap (λ l. t ∷ l) (higher-deeper ls)

@@ -31,8 +31,8 @@ abbrev pub indexes_in_handlers : Handlers → ℕ
 indexes_in_handlers handlers = handlers_total own_indexes handlers
 
 -- an expression has room whose own numbers begin with this one
-abbrev pub HasRoom : ℕ → Expression → Type 0
-HasRoom base e = base + (width e + indexes_in e) < most_numbers
+abbrev pub HasExpressionRoom : ℕ → Expression → Type 0
+HasExpressionRoom base e = base + (width e + indexes_in e) < most_numbers
 
 -- a function has room: in its Mach function `labels` is the first number after its own
 abbrev pub IsSelectable : FunctionTree → Type 0

@@ -2,16 +2,16 @@
 use Rattle.std.specs.Prelude.{◌-◌, List, [], ◌∷◌}
 use Rattle.cmm_tree.specs.View.{label_view}
 use Rattle.cmm_types.specs.Types.{Scoped}
-use Rattle.selection_rules.specs.Select.{Named, Label, scopes}
+use Rattle.selection_rules.specs.Select.{NamedRegister, Label, scopes}
 use Rattle.selection_scope.specs.declared.scope.Bound.{Bound}
 use Rattle.selection_scope.specs.declared.scope.Target.{Target}
 
 -- the names and the labels in scope, the innermost first
-pub record Visible : Type 0 where
-  pub names : List Named
+pub record LexicalScope : Type 0 where
+  pub names : List NamedRegister
   pub labels : List Label
 
-abbrev pub named_view : Bound → Named
+abbrev pub named_view : Bound → NamedRegister
 named_view b =
     let scoped : Scoped = record { name = b.name; type = b.ty; mutable = b.mutable } in
     record { scoped = scoped; reg = b.reg }
@@ -26,12 +26,12 @@ target_view t =
     }
 
 -- the names alone, as types are known by
-abbrev pub names_in : Visible → List Scoped
-names_in scope = scopes scope.names
+abbrev pub scoped_names : LexicalScope → List Scoped
+scoped_names scope = scopes scope.names
 
 -- the same handlers, from within one try less
-abbrev pub higher : List Label → List Label
-higher [] = []
-higher (t ∷ labels) =
+abbrev pub labels_outside_try : List Label → List Label
+labels_outside_try [] = []
+labels_outside_try (t ∷ labels) =
     record { label = t.label; params = t.params; number = t.number; tries = t.tries - 1 }
-    ∷ higher labels
+    ∷ labels_outside_try labels

@@ -3,7 +3,7 @@ ghost use Rattle.std.specs.Prelude.{◌≡◌};
 ghost use Rattle.cmm_tree.specs.View.{expr_view};
 ghost use Rattle.cmm_types.specs.Light.{is_light, is_light_address};
 ghost use Rattle.cmm_meaning.specs.Evaluation.{is_left_first};
-ghost use Rattle.selection_scope.specs.Scoping.{names_in};
+ghost use Rattle.selection_scope.specs.Scoping.{scoped_names};
 
 use crate::outline::{Outline, outline_of};
 use crate::scope::Scope;
@@ -13,7 +13,7 @@ use cmm_types::{is_light_operator, makes_address};
 /// Whether the expression is a light address: it is selected after the other operands of its operation.
 #[tactic(auto, using(crate::proofs::Outlines::other_address))]
 pub fn is_light_address(scope: &Scope, expr: &Expr) -> bool
-    ensures { result ≡ is_light_address (names_in scope.now) (expr_view expr.now) }
+    ensures { result ≡ is_light_address (scoped_names scope.now) (expr_view expr.now) }
 {
     match outline_of(expr) {
         Outline::Operator(op, left, right) => {
@@ -25,7 +25,7 @@ pub fn is_light_address(scope: &Scope, expr: &Expr) -> bool
 
 /// Whether the right operand alone is a light address, so that the left one is selected first.
 pub fn is_left_first(scope: &Scope, left: &Expr, right: &Expr) -> bool
-    ensures { result ≡ is_left_first (names_in scope.now) (expr_view left.now)
+    ensures { result ≡ is_left_first (scoped_names scope.now) (expr_view left.now)
         (expr_view right.now) }
 {
     is_light_address(scope, right) && !is_light_address(scope, left)
@@ -33,7 +33,7 @@ pub fn is_left_first(scope: &Scope, left: &Expr, right: &Expr) -> bool
 
 #[tactic(auto, using(crate::proofs::Outlines::other_light))]
 fn is_light(scope: &Scope, expr: &Expr) -> bool
-    ensures { result ≡ is_light (names_in scope.now) (expr_view expr.now) }
+    ensures { result ≡ is_light (scoped_names scope.now) (expr_view expr.now) }
 {
     match outline_of(expr) {
         Outline::Integer(_) | Outline::Symbol(_) => true,

@@ -1,6 +1,6 @@
 //! Where the value of a node goes, and whether that is the end of the function.
 ghost use Rattle.std.specs.Prelude.{◌≡◌, false};
-ghost use Rattle.selection_rules.specs.Select.{comp_of, fresh, inner_dest, inner_valued, is_no_value};
+ghost use Rattle.selection_rules.specs.Select.{comp_of_type, fresh_register, inner_dest, inner_valued, is_no_value};
 ghost use Rattle.mach_ir.specs.declared.reg.Reg.{Reg};
 
 use bs_words::{Comp, Loc, Ty};
@@ -81,7 +81,7 @@ impl Node {
 
 /// The component of a register for a value of this type.
 fn comp_of(ty: Ty) -> Comp
-    ensures { result ≡ comp_of ty }
+    ensures { result ≡ comp_of_type ty }
 {
     match ty {
         Ty::Val => Comp::Val,
@@ -92,7 +92,7 @@ fn comp_of(ty: Ty) -> Comp
 
 /// A register of this number that no convention places, for a value of this type.
 pub fn fresh(number: u32, ty: Ty) -> Reg
-    ensures { result ≡ fresh number ty }
+    ensures { result ≡ fresh_register number ty }
 {
     Reg {
         number,

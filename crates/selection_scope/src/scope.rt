@@ -4,10 +4,10 @@ ghost use Rattle.std.specs.Prelude.{not, length, map, reverse, option_map, optio
 ghost use Rattle.cmm_tree.specs.Rows.{handlers_of};
 ghost use Rattle.cmm_tree.specs.View.{label_view, params_view};
 ghost use Rattle.cmm_types.specs.Light.{is_immutable};
-ghost use Rattle.selection_rules.specs.Select.{Named, Label as InCode, scopes, reg_of, label_of, params_from, with_params, labels_from, in_handlers, deeper};
+ghost use Rattle.selection_rules.specs.Select.{NamedRegister, Label as InCode, scopes, reg_of, visible_label, params_from, with_params, labels_from, in_handlers, labels_within_try};
 ghost use Rattle.selection_rules.specs.Select.{width_labels};
 ghost use Rattle.selection_scope.specs.Room.{most_numbers, most_tries};
-ghost use Rattle.selection_scope.specs.Scoping.{named_view, target_view, names_in, higher};
+ghost use Rattle.selection_scope.specs.Scoping.{named_view, target_view, scoped_names, labels_outside_try};
 
 use crate::place::fresh;
 use crate::row::Regs;
@@ -56,9 +56,9 @@ pub struct Scope {
 
 impl Model for Scope {
     ghost use Rattle.std.specs.Prelude.{map, reverse};
-    ghost use Rattle.selection_scope.specs.Scoping.{Visible, named_view, target_view};
+    ghost use Rattle.selection_scope.specs.Scoping.{LexicalScope, named_view, target_view};
 
-    ghost Value = { Visible };
+    ghost Value = { LexicalScope };
 
     ghost view = { λ scope. record {
       names = map named_view (reverse scope.names.items);
@@ -86,7 +86,7 @@ fn innermost<'b>(names: &'b [Bound], name: &Name) -> Option<&'b Bound>
 
 /// The last of the handlers that has the label.
 fn handler_for<'b>(labels: &'b [Target], label: &Label) -> Option<&'b Target>
-    ensures { option_map target_view (option_copied result) ≡ label_of (map target_view
+    ensures { option_map target_view (option_copied result) ≡ visible_label (map target_view
         (reverse labels.now)) (label_view label.now) }
 {
     let mut rest = labels;
@@ -171,7 +171,7 @@ fn put_lasting(labels: &mut Vec<Target>, targets: Vec<Target>) -> Result<(), All
 fn one_deeper(alloc: Global, labels: &mut Vec<Target>) -> Result<Vec<Target>, AllocError>
     requires { most_tries (map target_view (reverse labels.old.items)) < most_numbers }
     ensures taken { IfOk result (λ inside. map target_view inside.items ≡
-        deeper (map target_view (reverse labels.old.items))) }
+        labels_within_try (map target_view (reverse labels.old.items))) }
     ensures none { IfOk result (λ _. labels.new.items ≡ []) }
 {
     let mut inside = Vec::new(alloc);
@@ -185,7 +185,7 @@ fn one_deeper(alloc: Global, labels: &mut Vec<Target>) -> Result<Vec<Target>, Al
 /// Takes the handlers off the stack, the innermost first, with one try less before each.
 fn one_higher(alloc: Global, labels: &mut Vec<Target>) -> Result<Vec<Target>, AllocError>
     ensures taken { IfOk result (λ outside. map target_view outside.items ≡
-        higher (map target_view (reverse labels.old.items))) }
+        labels_outside_try (map target_view (reverse labels.old.items))) }
     ensures none { IfOk result (λ _. labels.new.items ≡ []) }
 {
     let mut outside = Vec::new(alloc);
@@ -225,7 +225,7 @@ impl Scope {
 
     /// Whether it is the name of a binding that no assignment changes.
     pub fn is_immutable(&self, name: &Name) -> bool
-        ensures { result ≡ is_immutable (names_in self.now) name.now }
+        ensures { result ≡ is_immutable (scoped_names self.now) name.now }
     {
         match innermost(self.names.as_slice(), name) {
             Some(bound) => !bound.mutable,
@@ -254,7 +254,7 @@ impl Scope {
 
     /// Leaves the scope of the innermost name, and answers its register.
     pub fn unbind(&mut self) -> Option<Reg>
-        ensures { (x : Named) (rest : List Named) → self.old.names ≡ x ∷ rest →
+        ensures { (x : NamedRegister) (rest : List NamedRegister) → self.old.names ≡ x ∷ rest →
             (result ≡ Some x.reg) × (self.new ≡ record self.old { names = rest }) }
     {
         match self.names.pop() {
@@ -292,7 +292,7 @@ impl Scope {
 
     /// Leaves scopes until so many names are left.
     pub fn leave_names(&mut self, left: usize)
-        ensures { (front rest : List Named) → self.old.names ≡ front ++ rest →
+        ensures { (front rest : List NamedRegister) → self.old.names ≡ front ++ rest →
             length rest ≡ left → self.new ≡ record self.old { names = rest } }
     {
         self.names.truncate(left);
@@ -300,7 +300,7 @@ impl Scope {
 
     /// The handler of a label, if it is in scope.
     pub fn target_of(&self, label: &Label) -> Option<&Target>
-        ensures { option_map target_view (option_copied result) ≡ label_of self.now.labels
+        ensures { option_map target_view (option_copied result) ≡ visible_label self.now.labels
             (label_view label.now) }
     {
         handler_for(self.labels.as_slice(), label)
@@ -350,7 +350,7 @@ impl Scope {
     /// The only error is want of memory.
     pub fn enter_try(&mut self) -> Result<(), AllocError>
         requires { most_tries self.old.labels < most_numbers }
-        ensures { OnOk result (self.new ≡ record self.old { labels = deeper self.old.labels }) }
+        ensures { OnOk result (self.new ≡ record self.old { labels = labels_within_try self.old.labels }) }
     {
         let inside = one_deeper(self.alloc, &mut self.labels)?;
         put_back(&mut self.labels, inside)
@@ -358,7 +358,7 @@ impl Scope {
 
     /// Leaves the body of a try. The only error is want of memory.
     pub fn leave_try(&mut self) -> Result<(), AllocError>
-        ensures { OnOk result (self.new ≡ record self.old { labels = higher self.old.labels }) }
+        ensures { OnOk result (self.new ≡ record self.old { labels = labels_outside_try self.old.labels }) }
     {
         let outside = one_higher(self.alloc, &mut self.labels)?;
         put_back(&mut self.labels, outside)

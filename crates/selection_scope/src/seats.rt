@@ -4,11 +4,11 @@ ghost use Rattle.bs_words.specs.declared.types.Loc.TheVariants as loc;
 ghost use Rattle.cmm_tree.specs.Rows.{row_of};
 ghost use Rattle.cmm_types.specs.Lists.{AreAnnotated};
 ghost use Rattle.cmm_meaning.specs.Evaluation.{comps_of_arguments};
-ghost use Rattle.mach_ir.specs.Placed.{colours};
-ghost use Rattle.mach_ir.specs.Seats.{argument_places};
+ghost use Rattle.mach_ir.specs.Placed.{colour_numbers};
+ghost use Rattle.mach_ir.specs.Seats.{argument_locations};
 ghost use Rattle.selection_rules.specs.Select.{seat, seats, result_seat, regs_of, colour_regs};
 ghost use Rattle.selection_scope.specs.Room.{most_numbers};
-ghost use Rattle.selection_scope.specs.Scoping.{names_in};
+ghost use Rattle.selection_scope.specs.Scoping.{scoped_names};
 
 use crate::place::fresh;
 use crate::row::Regs;
@@ -22,7 +22,7 @@ use std::alloc::{AllocError, Global};
 
 /// The place of the argument at a position. Past the last it is unset.
 fn argument_place(position: u32) -> Loc
-    ensures { result ≡ slice_index_or argument_places position loc.Unset }
+    ensures { result ≡ slice_index_or argument_locations position loc.Unset }
 {
     match ARGUMENT_REGISTERS.get(position as usize) {
         Some(register) => Loc::Machine(*register),
@@ -77,7 +77,7 @@ pub fn result_seat(alloc: Global, number: u32, given: Ret) -> Result<Regs, Alloc
 /// The registers of a row of operands, with the numbers from this one on.
 /// The only error is want of memory.
 pub fn regs_of(scope: &Scope, number: u32, exprs: &[Expr]) -> Result<Regs, AllocError>
-    requires typed { AreAnnotated (names_in scope.now) exprs.now }
+    requires typed { AreAnnotated (scoped_names scope.now) exprs.now }
     requires room { number + length exprs.now < most_numbers }
     ensures { IfOk result (λ made. made ≡ regs_of scope.now.names number (row_of exprs.now)) }
 {
@@ -94,8 +94,8 @@ pub fn regs_of(scope: &Scope, number: u32, exprs: &[Expr]) -> Result<Regs, Alloc
 
 /// The components of the arguments of an external call. The only error is want of memory.
 pub fn comps_of_arguments(scope: &Scope, exprs: &[Expr]) -> Result<Seq<Comp>, AllocError>
-    requires { AreAnnotated (names_in scope.now) exprs.now }
-    ensures { IfOk result (λ comps. comps ≡ comps_of_arguments (names_in scope.now)
+    requires { AreAnnotated (scoped_names scope.now) exprs.now }
+    ensures { IfOk result (λ comps. comps ≡ comps_of_arguments (scoped_names scope.now)
         (row_of exprs.now)) }
 {
     let mut comps = Vec::new(scope.alloc());
@@ -110,7 +110,7 @@ pub fn comps_of_arguments(scope: &Scope, exprs: &[Expr]) -> Result<Seq<Comp>, Al
 /// For each colour a register that is there; their numbers are the first.
 /// The only error is want of memory.
 pub fn colour_regs(alloc: Global) -> Result<Seq<Reg>, AllocError>
-    ensures { IfOk result (λ regs. regs ≡ colour_regs 0 colours) }
+    ensures { IfOk result (λ regs. regs ≡ colour_regs 0 colour_numbers) }
 {
     let mut regs = Vec::new(alloc);
     let mut next = 0;

@@ -14,11 +14,11 @@ use Rattle.mach_ir.specs.Sizes.{operand_count}
 use Rattle.mach_ir.specs.declared.mach.Test.TheVariants as test
 use Rattle.mach_ir.specs.declared.reg.Reg.{Reg}
 use Rattle.selection_rules.specs.Instructions as emit
-use Rattle.selection_rules.specs.Select.{Code, shape_of, shape_op, shape_right, Named, Label, scopes, reg_of, label_of, moves_all, exit_to, symbol_of, right_of, bound_test, comparison, is_based, seat, select_base, select_test, regs_of, select, select_waiting, select_filled, select_bound, select_seq, select_cases, select_handlers, deeper, labels_from, in_handlers, unless_bare, switch_labels, returns, selected, first, is_no_value, fresh, seats}
+use Rattle.selection_rules.specs.Select.{Code, operation_shape, shape_op, shape_right, NamedRegister, Label, scopes, reg_of, visible_label, moves_all, exit_to_handler, called_symbol, bound_test_operand, bound_test, comparison, is_based, seat, select_base, select_test, regs_of, select, select_waiting, select_filled, select_bound, select_seq, select_cases, select_handlers, labels_within_try, labels_from, in_handlers, unless_bare, switch_labels, return_code, selected, first_after_colours, is_no_value, fresh_register, seats}
 use Rattle.selection_rules.proofs.Rows.{regs_length, seats_length}
 use Rattle.selection_rules.proofs.Exits.{params_length}
 use Rattle.selection_places.proofs.Whole.{moved_at, value_at, params_of, env_of}
-use Rattle.pass_rules.specs.Measures.{code_words, one_if, code_points}
+use Rattle.pass_rules.specs.Measures.{code_words, one_if_true, code_points}
 use Rattle.selection_places.proofs.Adds.{part_both, now_of, later_of, in_parts}
 use Rattle.selection_sizes.proofs.Sums.{most, points, some_nodes, row_points, row_most}
 use Rattle.selection_sizes.proofs.Weights.{Weighs, weight, w_up, w_then, w_none, w_pure, w_alloc, w_load, w_store, w_raising, w_checkbound, w_branch, w_choose, w_handler, w_else, w_end, w_catch, w_with, w_case, w_try, w_leave, w_exits, w_move, w_from, w_to, w_moves, w_cells, w_ordered, w_when, w_unless, w_constant, w_left, w_right, w_tested, w_if, w_operator, w_call, w_external, w_compare}
@@ -30,7 +30,7 @@ abbrev Shallow : ℕ → List Label → Type 0
 Shallow k [] = Unit {0}
 Shallow k (t ∷ labels) = (t.tries ≤ k) × Shallow k labels
 
-one_deeper : (k : ℕ) (labels : List Label) → Shallow k labels → Shallow (suc k) (deeper labels)
+one_deeper : (k : ℕ) (labels : List Label) → Shallow k labels → Shallow (suc k) (labels_within_try labels)
 one_deeper k [] s = tt
 one_deeper k (t ∷ labels) s = let here : t.tries ≤ k = s.0 in (omega (arith, here), one_deeper k labels s.1)
 
@@ -51,12 +51,12 @@ inside_shallow k (t ∷ labels) s = by (is_bare t.label) (in_handlers labels) (i
     by false others r = (s.0, r)
 
 w_exit : (k : ℕ) (labels : List Label) (l : LabelTree) (from : List Reg) → Shallow k labels → k ≤ 250 →
-    Weighs (30 * length from + 502) 0 (exit_to (label_of labels l) from)
+    Weighs (30 * length from + 502) 0 (exit_to_handler (visible_label labels l) from)
 w_exit k [] l from s few = w_up (omega arith) (omega arith) w_none
 w_exit k (t ∷ labels) l from s few = by (same_label l t.label) (w_exit k labels l from s.1 few)
   where
-    by : (b : Bool) → Weighs (30 * length from + 502) 0 (exit_to (label_of labels l) from) →
-        Weighs (30 * length from + 502) 0 (exit_to (cond b (Some t) (label_of labels l)) from)
+    by : (b : Bool) → Weighs (30 * length from + 502) 0 (exit_to_handler (visible_label labels l) from) →
+        Weighs (30 * length from + 502) 0 (exit_to_handler (cond b (Some t) (visible_label labels l)) from)
     by true others = let here : t.tries ≤ k = s.0 in w_up (omega (arith, here, few)) (omega arith) (w_then (w_moves from t.params) (w_exits t.number t.tries))
     by false others = others
 
@@ -66,14 +66,14 @@ labels_count l cs k (suc n) = let others = labels_count l cs (suc k) n in omega 
 
 extcall_points : (at : ℕ) (frame : Bool) (name : List ℕ) (arguments : Expressions) (result : Ret) (result_at now later : ℕ) →
     now + later ≡ row_total is_frame_point arguments →
-    now + (later + (0 + one_if frame)) ≤ points (Extcall at frame name arguments result result_at)
+    now + (later + (0 + one_if_true frame)) ≤ points (Extcall at frame name arguments result result_at)
 extcall_points at true name arguments result result_at now later same = omega (arith, same)
 extcall_points at false name arguments result result_at now later same = omega (arith, same)
 
 -- ---- expressions
 
 mutual
-  w_select : (k : ℕ) (env : List Named) (labels : List Label) (valued tail : Bool) (d : Reg) (b : ℕ) (e : Expression) → Shallow k labels →
+  w_select : (k : ℕ) (env : List NamedRegister) (labels : List Label) (valued tail : Bool) (d : Reg) (b : ℕ) (e : Expression) → Shallow k labels →
       k + tries_in e ≤ 250 → Weighs (most e) (points e) (select env labels valued tail d b e)
   w_select k env labels valued tail d b (Integer at w) s few = w_up (omega arith) (omega arith) (w_pure _ [] _)
   w_select k env labels valued tail d b (Pointer at w) s few = w_up (omega arith) (omega arith) (w_pure _ [] _)
@@ -88,7 +88,7 @@ mutual
       w_up (omega arith) (omega arith)
       (w_then (w_select k env labels false false _ _ e s few) (w_to _ (reg_of env name)))
   w_select k env labels valued tail d b (Operator at op e g) s few =
-      let shape = shape_of op e g in
+      let shape = operation_shape op e g in
       w_up (omega arith) (omega arith)
       (w_then (w_ordered (is_left_first (scopes env) e g) (w_left shape (w_select k env labels false false _ _ e s (omega (arith, few))))
       (w_right shape (w_select k env labels false false _ _ g s (omega (arith, few))))) (w_operator shape op _ _ _))
@@ -107,10 +107,10 @@ mutual
       w_up (omega (arith, words, some, all, each, count, seated)) (omega (arith, calls, all_points, each_point))
       (w_then (w_waiting k env labels _ _ arguments s (omega (arith, few)))
       (w_then (w_when (not light) (most callee) (points callee)
-      (w_unless (symbol_of callee) (w_select k env labels false false _ _ callee s (omega (arith, few)))))
+      (w_unless (called_symbol callee) (w_select k env labels false false _ _ callee s (omega (arith, few)))))
       (w_then (w_filled k env labels _ _ arguments s (omega (arith, few)))
       (w_then (w_when light (most callee) (points callee) (w_select k env labels false false _ _ callee s (omega (arith, few))))
-      (w_then (w_moves regs _) (w_call tail _ result (symbol_of callee) _ (seats 0 (suc (suc b) + count_of arguments) regs) _ _))))))
+      (w_then (w_moves regs _) (w_call tail _ result (called_symbol callee) _ (seats 0 (suc (suc b) + count_of arguments) regs) _ _))))))
   w_select k env labels valued tail d b (Extcall at frame name arguments result result_at) s few =
       let regs = regs_of env (suc b) arguments in
       let all = in_parts most env arguments in
@@ -147,8 +147,8 @@ mutual
       (w_then (w_waiting k env labels _ _ arguments s few) (w_then (w_filled k env labels _ _ arguments s few)
       (w_exit k labels label (regs_of env (suc b) arguments) s (omega (arith, few)))))
   w_select k env labels valued tail d b (Alloc at header_at header operands) s few =
-      let p = fresh (suc b) ty.Val in
-      let q = fresh (suc (suc b)) ty.Int in
+      let p = fresh_register (suc b) ty.Val in
+      let q = fresh_register (suc (suc b)) ty.Int in
       let all = in_parts most env operands in
       let each = row_most operands in
       let all_points = in_parts points env operands in
@@ -173,8 +173,8 @@ mutual
   w_select k env labels valued tail d b (Checkbound at e g) s few =
       w_up (omega arith) (omega arith)
       (w_then (w_ordered (is_left_first (scopes env) e g) (w_select k env labels false false _ _ e s (omega (arith, few)))
-      (w_constant (right_of bound_test g) (w_select k env labels false false _ _ g s (omega (arith, few)))))
-      (w_checkbound (right_of bound_test g) _ _))
+      (w_constant (bound_test_operand bound_test g) (w_select k env labels false false _ _ g s (omega (arith, few)))))
+      (w_checkbound (bound_test_operand bound_test g) _ _))
   w_select k env labels valued tail d b (Raise at e) s few =
       let y = seat 0 (suc (suc b)) comp.Val in
       w_up (omega arith) (omega arith) (w_then (w_select k env labels false false _ _ e s few) (w_then (w_move _ y) (w_raising y)))
@@ -188,19 +188,19 @@ mutual
       let y = seat 0 (suc (suc (suc (suc b)))) comp.Val in
       w_up (omega arith) (omega arith)
       (w_then (w_try _)
-      (w_then (w_select (suc k) env (deeper labels) _ false _ _ body (one_deeper k labels s) (omega (arith, few)))
+      (w_then (w_select (suc k) env (labels_within_try labels) _ false _ _ body (one_deeper k labels s) (omega (arith, few)))
       (w_then (w_leave _ _) (w_then (w_handler _ y) (w_then (w_move y _) (w_then (w_select k _ labels _ tail _ _ handler s (omega (arith, few))) (w_end _)))))))
 
-  w_base : {whole : Code} (k : ℕ) (env : List Named) (labels : List Label) (t b : ℕ) (e : Expression) → Shallow k labels → k + tries_in e ≤ 250 →
+  w_base : {whole : Code} (k : ℕ) (env : List NamedRegister) (labels : List Label) (t b : ℕ) (e : Expression) → Shallow k labels → k + tries_in e ≤ 250 →
       Weighs (most e) (points e) whole → Weighs (most e) (points e) (select_base env labels t b e whole)
   w_base k env labels t b (Operator at op base (Integer at' w)) s few inside = w_if (is_based op w)
-      (w_up (omega arith) (omega arith) (w_select k env labels false false (fresh t (type_of (scopes env) base)) b base s (omega (arith, few)))) inside
+      (w_up (omega arith) (omega arith) (w_select k env labels false false (fresh_register t (type_of (scopes env) base)) b base s (omega (arith, few)))) inside
   w_base k env labels t b e s few inside = inside
 
-  w_test : {value : Code} (k : ℕ) (env : List Named) (labels : List Label) (l b : ℕ) (e : Expression) → Shallow k labels → k + tries_in e ≤ 250 →
+  w_test : {value : Code} (k : ℕ) (env : List NamedRegister) (labels : List Label) (l b : ℕ) (e : Expression) → Shallow k labels → k + tries_in e ≤ 250 →
       Weighs (most e + 58) (points e + 0) value → Weighs (most e + 58) (points e + 0) (λ next. select_test env labels l b e (value next) next)
   w_test k env labels l b (Operator at op e g) s few v =
-      let shape = shape_of op e g in
+      let shape = operation_shape op e g in
       w_tested (comparison (shape_op shape op) (shape_right shape)) _
       (λ t. w_up (omega arith) (omega arith)
       (w_then (w_ordered (is_left_first (scopes env) e g) (w_left shape (w_select k env labels false false _ _ e s (omega (arith, few))))
@@ -208,7 +208,7 @@ mutual
       v
   w_test k env labels l b e s few v = v
 
-  w_cases : (k : ℕ) (env : List Named) (labels : List Label) (valued tail : Bool) (d : Reg) (all : List ℕ) (end l b : ℕ) (cs : Cases) → Shallow k labels →
+  w_cases : (k : ℕ) (env : List NamedRegister) (labels : List Label) (valued tail : Bool) (d : Reg) (all : List ℕ) (end l b : ℕ) (cs : Cases) → Shallow k labels →
       k + tries_in_cases cs ≤ 250 →
       Weighs (640 * cases_total counts_one cs + 4 * cases_total own_indexes cs) (cases_total is_frame_point cs)
       (select_cases env labels valued tail d all end l b cs)
@@ -219,7 +219,7 @@ mutual
       (w_then (w_case _ _ _) (w_then (w_select k env labels valued tail d b body s (omega (arith, few)))
       (w_cases k env labels valued tail d all end _ _ rest s (omega (arith, few)))))
 
-  w_waiting : (k : ℕ) (env : List Named) (labels : List Label) (b i : ℕ) (es : Expressions) → Shallow k labels → k + tries_in_row es ≤ 250 →
+  w_waiting : (k : ℕ) (env : List NamedRegister) (labels : List Label) (b i : ℕ) (es : Expressions) → Shallow k labels → k + tries_in_row es ≤ 250 →
       Weighs (now_of most env es) (now_of points env es) (select_waiting env labels b i es)
   w_waiting k env labels b i NoMore s few = w_none
   w_waiting k env labels b i (More e rest) s few =
@@ -227,7 +227,7 @@ mutual
       (w_then (w_waiting k env labels _ _ rest s (omega (arith, few))) (w_when (not (is_light_address (scopes env) e)) (most e) (points e)
       (w_select k env labels false false _ i e s (omega (arith, few)))))
 
-  w_filled : (k : ℕ) (env : List Named) (labels : List Label) (b i : ℕ) (es : Expressions) → Shallow k labels → k + tries_in_row es ≤ 250 →
+  w_filled : (k : ℕ) (env : List NamedRegister) (labels : List Label) (b i : ℕ) (es : Expressions) → Shallow k labels → k + tries_in_row es ≤ 250 →
       Weighs (later_of most env es) (later_of points env es) (select_filled env labels b i es)
   w_filled k env labels b i NoMore s few = w_none
   w_filled k env labels b i (More e rest) s few =
@@ -235,14 +235,14 @@ mutual
       (w_then (w_filled k env labels _ _ rest s (omega (arith, few))) (w_when (is_light_address (scopes env) e) (most e) (points e)
       (w_select k env labels false false _ i e s (omega (arith, few)))))
 
-  w_bound : (k : ℕ) (env : List Named) (labels : List Label) (b : ℕ) (bs : Bindings) → Shallow k labels → k + tries_in_bindings bs ≤ 250 →
+  w_bound : (k : ℕ) (env : List NamedRegister) (labels : List Label) (b : ℕ) (bs : Bindings) → Shallow k labels → k + tries_in_bindings bs ≤ 250 →
       Weighs (640 * bindings_total counts_one bs + 4 * bindings_total own_indexes bs) (bindings_total is_frame_point bs) (select_bound env labels b bs)
   w_bound k env labels b NoBinding s few = w_up (omega arith) (omega arith) w_none
   w_bound k env labels b (Bind at name declared e rest) s few =
       w_up (omega arith) (omega arith)
       (w_then (w_select k env labels false false _ _ e s (omega (arith, few))) (w_bound k _ labels _ rest s (omega (arith, few))))
 
-  w_seq : (k : ℕ) (env : List Named) (labels : List Label) (valued tail : Bool) (d : Reg) (b : ℕ) (es : Expressions) → Shallow k labels →
+  w_seq : (k : ℕ) (env : List NamedRegister) (labels : List Label) (valued tail : Bool) (d : Reg) (b : ℕ) (es : Expressions) → Shallow k labels →
       k + tries_in_row es ≤ 250 →
       Weighs (640 * row_total counts_one es + 4 * row_total own_indexes es) (row_total is_frame_point es) (select_seq env labels valued tail d b es)
   w_seq k env labels valued tail d b NoMore s few = w_up (omega arith) (omega arith) w_none
@@ -252,7 +252,7 @@ mutual
       w_up (omega arith) (omega arith)
       (w_then (w_select k env labels false false _ _ e s (omega (arith, few))) (w_seq k env labels valued tail d _ (More g rest) s (omega (arith, few))))
 
-  w_handlers : (k : ℕ) (env : List Named) (labels : List Label) (valued tail : Bool) (d : Reg) (end l b : ℕ) (hs : Handlers) → Shallow k labels →
+  w_handlers : (k : ℕ) (env : List NamedRegister) (labels : List Label) (valued tail : Bool) (d : Reg) (end l b : ℕ) (hs : Handlers) → Shallow k labels →
       k + tries_in_handlers hs ≤ 250 →
       Weighs (640 * handlers_total counts_one hs + 4 * handlers_total own_indexes hs) (handlers_total is_frame_point hs)
       (select_handlers env labels valued tail d end l b hs)
@@ -265,38 +265,38 @@ mutual
 
 -- ---- whole
 
-w_returns : (d : Reg) (n : ℕ) (result : Ret) → weight (returns d n result) ≤ 80
+w_returns : (d : Reg) (n : ℕ) (result : Ret) → weight (return_code d n result) ≤ 80
 w_returns d n ret.Unit = omega arith
 w_returns d n (ret.Comp c) = let few = (w_move d (seat 0 n c)).words (emit.give_back (seat 0 n c ∷ []) ∷ []) in omega (arith, few)
 
-no_points : (d : Reg) (n : ℕ) (result : Ret) → code_points (returns d n result) ≡ 0
+no_points : (d : Reg) (n : ℕ) (result : Ret) → code_points (return_code d n result) ≡ 0
 no_points d n ret.Unit = refl
 no_points d n (ret.Comp c) = refl
 
 module _ (f : FunctionTree) (few : tries f ≤ 250) where
   abbrev value_reg : Reg
-  value_reg = fresh (value_at f) (body_type f)
+  value_reg = fresh_register (value_at f) (body_type f)
 
-  whole : Weighs (30 * length (seats 0 first (params_of f)) + most f.body) (0 + points f.body)
-      (λ next. moves_all (seats 0 first (params_of f)) (params_of f)
+  whole : Weighs (30 * length (seats 0 first_after_colours (params_of f)) + most f.body) (0 + points f.body)
+      (λ next. moves_all (seats 0 first_after_colours (params_of f)) (params_of f)
       (select (env_of f) [] (not (is_no_value (body_type f))) true value_reg (suc (suc (value_at f))) f.body next))
   whole =
-      w_then (w_moves (seats 0 first (params_of f)) (params_of f))
+      w_then (w_moves (seats 0 first_after_colours (params_of f)) (params_of f))
       (w_select 0 (env_of f) [] (not (is_no_value (body_type f))) true value_reg (suc (suc (value_at f))) f.body tt (omega (arith, few)))
 
   -- words of selected code, and twelve for each of its operands and results
   pub selected_words : code_words (selected f).code + 12 * operand_count (selected f).code ≤ 48 * length f.params + (640 * nodes_in f.body + 4 * switch_indexes f)
   selected_words =
-      let all = whole.words (returns value_reg (suc (value_at f)) (result_of (body_type f))) in
+      let all = whole.words (return_code value_reg (suc (value_at f)) (result_of (body_type f))) in
       let last = w_returns value_reg (suc (value_at f)) (result_of (body_type f)) in
       let some = some_nodes f.body in
-      let seated = seats_length 0 first (params_of f) in
+      let seated = seats_length 0 first_after_colours (params_of f) in
       let count = params_length (moved_at f) f.params in
       omega (arith, all, last, some, seated, count)
 
   -- and its frame points
   pub selected_points : code_points (selected f).code ≤ frame_points f
   selected_points =
-      let all = whole.points (returns value_reg (suc (value_at f)) (result_of (body_type f))) in
+      let all = whole.points (return_code value_reg (suc (value_at f)) (result_of (body_type f))) in
       let last = no_points value_reg (suc (value_at f)) (result_of (body_type f)) in
       omega (arith, all, last)

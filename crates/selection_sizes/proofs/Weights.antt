@@ -18,10 +18,10 @@ use Rattle.mach_ir.specs.declared.op.Pure.TheVariants as pure
 use Rattle.mach_ir.specs.declared.op.Right.{Right}
 use Rattle.mach_ir.specs.declared.op.Right.TheVariants as right
 use Rattle.mach_ir.specs.declared.reg.Reg.{Reg}
-use Rattle.selection_rules.specs.Instructions.{bare}
+use Rattle.selection_rules.specs.Instructions.{bare_mark}
 use Rattle.selection_rules.specs.Instructions as emit
-use Rattle.selection_rules.specs.Select.{Code, Shape, InRegisters, ConstantRight, ConstantLeft, PowerRight, shape_args, unless_left, unless_right, power_code, operator_code, move_from, move_to, moves_all, ordered, only_when, from_seat, unless_symbol, unless_constant, tested, call_of, cell_stores, result_seat}
-use Rattle.pass_rules.specs.Measures.{code_words, one_if, code_points}
+use Rattle.selection_rules.specs.Select.{Code, OperandShape, InRegisters, ConstantRight, ConstantLeft, PowerRight, shape_args, unless_left, unless_right, power_code, operator_code, move_from, move_to, moves_all, ordered, only_when, from_seat, unless_symbol, unless_constant, fused_test, call_of, cell_stores, result_seat}
+use Rattle.pass_rules.specs.Measures.{code_words, one_if_true, code_points}
 use Rattle.pass_rules.proofs.Words.{at_most_copy}
 use Rattle.selection_places.proofs.Adds.{part}
 use Rattle.selection_rules.proofs.Rows.{result_few}
@@ -52,7 +52,7 @@ w_none = record { words = λ next. omega arith; points = λ next. omega arith }
 
 -- ---- one instruction
 
-pub w_pure : (f : Pure) (args : List Reg) (d : Reg) → Weighs (60 + 12 * length args) 0 (λ next. emit.operation (op.Pure f) args (d ∷ []) ∷ next)
+pub w_pure : (f : Pure) (args : List Reg) (d : Reg) → Weighs (60 + 12 * length args) 0 (λ next. emit.operation_instr (op.Pure f) args (d ∷ []) ∷ next)
 w_pure (pure.Copy kind) args d =
     record { words = λ next. let few = at_most_copy (same_spot args (d ∷ [])) in omega (arith, few); points = λ next. omega arith }
 w_pure (pure.Constant w) args d = record { words = λ next. omega arith; points = λ next. omega arith }
@@ -71,7 +71,7 @@ w_store k offset a v = record { words = λ next. omega arith; points = λ next. 
 pub w_raising : (y : Reg) → Weighs 44 0 (λ next. emit.raising y ∷ next)
 w_raising y = record { words = λ next. omega arith; points = λ next. omega arith }
 
-pub w_checkbound : (r : Right) (x y : Reg) → Weighs 56 0 (λ next. emit.checkbound r x y ∷ next)
+pub w_checkbound : (r : Right) (x y : Reg) → Weighs 56 0 (λ next. emit.checkbound_instr r x y ∷ next)
 w_checkbound right.Register x y = record { words = λ next. omega arith; points = λ next. omega arith }
 w_checkbound (right.Constant w) x y = record { words = λ next. omega arith; points = λ next. omega arith }
 
@@ -84,28 +84,28 @@ w_choose labels x = record { words = λ next. omega arith; points = λ next. ome
 pub w_handler : (l : ℕ) (y : Reg) → Weighs 62 0 (λ next. emit.handler l y ∷ next)
 w_handler l y = record { words = λ next. omega arith; points = λ next. omega arith }
 
-pub w_else : (l end : ℕ) → Weighs 34 0 (λ next. bare (mark.Else l end) ∷ next)
+pub w_else : (l end : ℕ) → Weighs 34 0 (λ next. bare_mark (mark.Else l end) ∷ next)
 w_else l end = record { words = λ next. omega arith; points = λ next. omega arith }
 
-pub w_end : (l : ℕ) → Weighs 34 0 (λ next. bare (mark.End l) ∷ next)
+pub w_end : (l : ℕ) → Weighs 34 0 (λ next. bare_mark (mark.End l) ∷ next)
 w_end l = record { words = λ next. omega arith; points = λ next. omega arith }
 
-pub w_catch : Weighs 34 0 (λ next. bare mark.Catch ∷ next)
+pub w_catch : Weighs 34 0 (λ next. bare_mark mark.Catch ∷ next)
 w_catch = record { words = λ next. omega arith; points = λ next. omega arith }
 
-pub w_with : (l end : ℕ) → Weighs 34 0 (λ next. bare (mark.With l end) ∷ next)
+pub w_with : (l end : ℕ) → Weighs 34 0 (λ next. bare_mark (mark.With l end) ∷ next)
 w_with l end = record { words = λ next. omega arith; points = λ next. omega arith }
 
-pub w_case : (indexes : List ℕ) (l end : ℕ) → Weighs 34 0 (λ next. bare (mark.Case indexes l end) ∷ next)
+pub w_case : (indexes : List ℕ) (l end : ℕ) → Weighs 34 0 (λ next. bare_mark (mark.Case indexes l end) ∷ next)
 w_case indexes l end = record { words = λ next. omega arith; points = λ next. omega arith }
 
-pub w_try : (l : ℕ) → Weighs 34 0 (λ next. bare (mark.Try l) ∷ next)
+pub w_try : (l : ℕ) → Weighs 34 0 (λ next. bare_mark (mark.Try l) ∷ next)
 w_try l = record { words = λ next. omega arith; points = λ next. omega arith }
 
-pub w_leave : (l end : ℕ) → Weighs 34 0 (λ next. bare (mark.Leave l end) ∷ next)
+pub w_leave : (l end : ℕ) → Weighs 34 0 (λ next. bare_mark (mark.Leave l end) ∷ next)
 w_leave l end = record { words = λ next. omega arith; points = λ next. omega arith }
 
-pub w_exits : (l n : ℕ) → Weighs (2 + 2 * n) 0 (λ next. bare (mark.Exit l n) ∷ next)
+pub w_exits : (l n : ℕ) → Weighs (2 + 2 * n) 0 (λ next. bare_mark (mark.Exit l n) ∷ next)
 w_exits l n = record { words = λ next. omega arith; points = λ next. omega arith }
 
 -- ---- moves
@@ -155,20 +155,20 @@ pub w_constant : {code : Code} {n p : ℕ} (r : Right) → Weighs n p code → W
 w_constant right.Register e = e
 w_constant (right.Constant w) e = w_up (omega arith) (omega arith) w_none
 
-pub w_left : {code : Code} {n p : ℕ} (s : Shape) → Weighs n p code → Weighs n p (unless_left s code)
+pub w_left : {code : Code} {n p : ℕ} (s : OperandShape) → Weighs n p code → Weighs n p (unless_left s code)
 w_left InRegisters e = e
 w_left (ConstantRight i) e = e
 w_left (ConstantLeft i) e = w_up (omega arith) (omega arith) w_none
 w_left (PowerRight k) e = e
 
-pub w_right : {code : Code} {n p : ℕ} (s : Shape) → Weighs n p code → Weighs n p (unless_right s code)
+pub w_right : {code : Code} {n p : ℕ} (s : OperandShape) → Weighs n p code → Weighs n p (unless_right s code)
 w_right InRegisters e = e
 w_right (ConstantRight i) e = w_up (omega arith) (omega arith) w_none
 w_right (ConstantLeft i) e = e
 w_right (PowerRight k) e = w_up (omega arith) (omega arith) w_none
 
 pub w_tested : {value : Code} {n p : ℕ} (o : Option Test) (fused : Test → Code) → ((t : Test) → Weighs n p (fused t)) → Weighs n p value → Weighs n p
-    (λ next. tested o (λ t. fused t next) (value next))
+    (λ next. fused_test o (λ t. fused t next) (value next))
 w_tested (Some t) fused f v = f t
 w_tested None fused f v = v
 
@@ -182,7 +182,7 @@ w_power : (f : IntOp) (k : ℕ) (x y d : Reg) → Weighs 504 0 (power_code f k x
 w_power operator.Div k x y d = record { words = λ next. omega arith; points = λ next. omega arith }
 w_power f k x y d = record { words = λ next. omega arith; points = λ next. omega arith }
 
-pub w_operator : (s : Shape) (f : IntOp) (x y d : Reg) → Weighs 504 0 (operator_code s f x y d)
+pub w_operator : (s : OperandShape) (f : IntOp) (x y d : Reg) → Weighs 504 0 (operator_code s f x y d)
 w_operator (PowerRight k) f x y d = w_power f k x y d
 w_operator InRegisters f x y d = w_up (omega arith) (omega arith) (w_pure _ _ d)
 w_operator (ConstantRight i) f x y d = w_up (omega arith) (omega arith) (w_pure _ _ d)
@@ -204,7 +204,7 @@ w_call false valued result (Some name) f rs n d = record {
 }
 
 pub w_external : (name : List ℕ) (comps : List Comp) (result : Ret) (frame : Bool) (rs : List Reg) (n : ℕ) (d : Reg) →
-    Weighs (90 + 12 * length rs) (one_if frame) (λ next. emit.external name comps result frame rs (result_seat n result) ∷ from_seat n result d next)
+    Weighs (90 + 12 * length rs) (one_if_true frame) (λ next. emit.external_instruction name comps result frame rs (result_seat n result) ∷ from_seat n result d next)
 w_external name comps result frame rs n d = record {
   words = λ next. let one = result_few n result in let last = (w_given n result d).words next in omega (arith, one, last);
   points = λ next. let last = (w_given n result d).points next in omega (arith, last);
@@ -213,11 +213,11 @@ w_external name comps result frame rs n d = record {
 -- ---- tests
 
 -- a test compares at most two operands
-shape_few : (s : Shape) (x y : Reg) → length (shape_args s x y) ≤ 2
+shape_few : (s : OperandShape) (x y : Reg) → length (shape_args s x y) ≤ 2
 shape_few InRegisters x y = omega arith
 shape_few (ConstantRight i) x y = omega arith
 shape_few (ConstantLeft i) x y = omega arith
 shape_few (PowerRight k) x y = omega arith
 
-pub w_compare : (t : Test) (l : ℕ) (s : Shape) (x y : Reg) → Weighs 58 0 (λ next. emit.branch t l (shape_args s x y) ∷ next)
+pub w_compare : (t : Test) (l : ℕ) (s : OperandShape) (x y : Reg) → Weighs 58 0 (λ next. emit.branch t l (shape_args s x y) ∷ next)
 w_compare t l s x y = let few = shape_few s x y in w_up (omega (arith, few)) (omega arith) (w_branch t l (shape_args s x y))

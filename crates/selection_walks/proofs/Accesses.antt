@@ -17,17 +17,17 @@ use Rattle.cmm_types.specs.Standing.{Visible}
 use Rattle.cmm_types.specs.Gathered.{faults_in}
 use Rattle.cmm_types.specs.declared.role.Role.TheVariants as role
 use Rattle.cmm_meaning.specs.Evaluation.{is_left_first}
-use Rattle.walk_tables.specs.Walks.{Event, Binds, Uses, Task, Does, Evaluates, MayRaise, Slotted, names, takes, operand, tasks_of, all_operands, two, behind_raise}
+use Rattle.walk_tables.specs.Walks.{Event, Binds, Uses, Task, Does, Evaluates, MayRaise, Slotted, names, operand_uses, operand, tasks_of, all_operands, two_expressions, behind_raise}
 use Rattle.walk_tables.specs.Walks as walk
 use Rattle.mach_ir.specs.Meaning.{passes_frame}
-use Rattle.mach_ir.specs.Walks.{Among, first}
+use Rattle.mach_ir.specs.Walks.{AmongRegisters, first}
 use Rattle.mach_ir.specs.declared.op.Right.{Right}
 use Rattle.mach_ir.specs.declared.op.Right.TheVariants as right_side
 use Rattle.mach_ir.specs.declared.mach.Instr.{Instr}
 use Rattle.mach_ir.specs.declared.mach.Mach.{Mach}
 use Rattle.mach_ir.specs.declared.reg.Reg.{Reg}
 use Rattle.selection_rules.specs.Instructions as emit
-use Rattle.selection_rules.specs.Select.{Named, Label, scopes, reg_of, move_from, fresh, ordered, Shape, InRegisters, ConstantRight, ConstantLeft, PowerRight, shape_of, unless_left, unless_right, operator_code, power_code, rounded, right_of, unless_constant, bound_test, is_based, base_of, offset_of, inner_dest, width, select, select_base, Code}
+use Rattle.selection_rules.specs.Select.{NamedRegister, Label, scopes, reg_of, move_from, fresh_register, ordered, OperandShape, InRegisters, ConstantRight, ConstantLeft, PowerRight, operation_shape, unless_left, unless_right, operator_code, power_code, rounded, bound_test_operand, unless_constant, bound_test, is_based, base_of, offset_of, inner_dest, width, select, select_base, Code}
 use Rattle.selection_rules.proofs.Parts.{Placed, placed_in, placed_next}
 use Rattle.selection_rules.proofs.Endings.{ending_select}
 use Rattle.selection_rules.proofs.Once.{address_is_light}
@@ -56,14 +56,14 @@ module _ (m : Mach) (n : ℕ) (defined : List ℕ → Option DefinedSymbol) wher
   calm_ordered true f g z = g _ (f _ z)
   calm_ordered false f g z = f _ (g _ z)
 
-  calm_left : {k : ℕ} {ca : Code} (s : Shape) → ((next : List Instr) → Ahead m n k Bound (ca next) → Ahead m n k Bound next) → (next : List Instr) →
+  calm_left : {k : ℕ} {ca : Code} (s : OperandShape) → ((next : List Instr) → Ahead m n k Bound (ca next) → Ahead m n k Bound next) → (next : List Instr) →
       Ahead m n k Bound (unless_left s ca next) → Ahead m n k Bound next
   calm_left InRegisters f next z = f next z
   calm_left (ConstantRight i) f next z = f next z
   calm_left (ConstantLeft i) f next z = z
   calm_left (PowerRight e) f next z = f next z
 
-  calm_right : {k : ℕ} {ca : Code} (s : Shape) → ((next : List Instr) → Ahead m n k Bound (ca next) → Ahead m n k Bound next) → (next : List Instr) →
+  calm_right : {k : ℕ} {ca : Code} (s : OperandShape) → ((next : List Instr) → Ahead m n k Bound (ca next) → Ahead m n k Bound next) → (next : List Instr) →
       Ahead m n k Bound (unless_right s ca next) → Ahead m n k Bound next
   calm_right InRegisters f next z = f next z
   calm_right (ConstantRight i) f next z = z
@@ -79,7 +79,7 @@ module _ (m : Mach) (n : ℕ) (defined : List ℕ → Option DefinedSymbol) wher
   calm_power op e x y d z = calm_plain (plain_operator m n defined _ _ _ _) (calm_plain (plain_operator m n defined _ _ _ _)
       (calm_plain (plain_operator m n defined _ _ _ _) (calm_rounded e x y z)))
 
-  calm_operator : {k : ℕ} {next : List Instr} (s : Shape) (op : IntOp) (x y d : Reg) → Ahead m n k Bound (operator_code s op x y d next) →
+  calm_operator : {k : ℕ} {next : List Instr} (s : OperandShape) (op : IntOp) (x y d : Reg) → Ahead m n k Bound (operator_code s op x y d next) →
       Ahead m n k Bound next
   calm_operator (PowerRight e) op x y d z = calm_power op e x y d z
   calm_operator InRegisters op x y d z = calm_plain (plain_operator m n defined _ _ _ _) z
@@ -90,21 +90,21 @@ module _ (m : Mach) (n : ℕ) (defined : List ℕ → Option DefinedSymbol) wher
   calm_from None d z = z
   calm_from (Some a) d z = calm_plain (plain_move m n a d) z
 
-  light_calm : {k : ℕ} (env : List Named) (labels : List Label) (valued tail : Bool) (d : Reg) (b : ℕ) (e : Expression) (next : List Instr) →
+  light_calm : {k : ℕ} (env : List NamedRegister) (labels : List Label) (valued tail : Bool) (d : Reg) (b : ℕ) (e : Expression) (next : List Instr) →
       is_light (scopes env) e ≡ true → Ahead m n k Bound (select env labels valued tail d b e next) → Ahead m n k Bound next
   light_calm env labels valued tail d b (Integer at w) next l z = calm_plain (record { on = refl; calm = refl; inside = refl; tries = λ next. refl }) z
   light_calm env labels valued tail d b (Symbol at w) next l z = calm_plain (record { on = refl; calm = refl; inside = refl; tries = λ next. refl }) z
   light_calm env labels valued tail d b (Name at x) next l z = calm_from (reg_of env x) _ z
   light_calm env labels valued tail d b (Operator at op a c) next l z =
-      let s = shape_of op a c in
+      let s = operation_shape op a c in
       let lights = (and_parts (is_light_operator op) (is_light (scopes env) a && is_light (scopes env) c) l).1 in
       calm_operator s op _ _ _
       (calm_ordered (is_left_first (scopes env) a c)
       (calm_left s
-      (λ next y. light_calm env labels false false (fresh (suc b) (type_of (scopes env) a)) (suc (suc (suc b))) a next
+      (λ next y. light_calm env labels false false (fresh_register (suc b) (type_of (scopes env) a)) (suc (suc (suc b))) a next
       (and_parts (is_light (scopes env) a) (is_light (scopes env) c) lights).0 y))
       (calm_right s
-      (λ next y. light_calm env labels false false (fresh (suc (suc b)) (type_of (scopes env) c)) (suc (suc (suc b)) + width a) c next
+      (λ next y. light_calm env labels false false (fresh_register (suc (suc b)) (type_of (scopes env) c)) (suc (suc (suc b)) + width a) c next
       (and_parts (is_light (scopes env) a) (is_light (scopes env) c) lights).1 y)) z)
   light_calm env labels valued tail d b (Pointer at w) next l z = absurd (true≢false (sym l))
   light_calm env labels valued tail d b (Nothing at) next l z = absurd (true≢false (sym l))
@@ -141,7 +141,7 @@ module _ (m : Mach) (n : ℕ) (defined : List ℕ → Option DefinedSymbol) wher
       number (here e a) = sym e
       number (there i) = absurd (no_written m n i)
 
-      by : (p : Phase) → Off p (Among n (x ∷ [])) → Told p v tasks → Told p w tasks
+      by : (p : Phase) → Off p (AmongRegisters n (x ∷ [])) → Told p v tasks → Told p w tasks
       by Early f t = any_early t
       by Bound f t = subst (λ u. Told Bound u tasks) (others (λ e. f (first (sym e)))) t
       by Passed f t = subst (λ u. Told Passed u tasks) (others (λ e. f (first (sym e)))) t
@@ -153,19 +153,19 @@ module _ (m : Mach) (n : ℕ) (defined : List ℕ → Option DefinedSymbol) wher
 
   abbrev pub Bases : Expression → Type 0
   Bases e =
-      (k : ℕ) (ts : List ℕ) (w v : Option ℕ) (x slot i free : ℕ) (env : List Named) (scope : List Slotted) (labels : List Label) (vis : List Visible)
+      (k : ℕ) (ts : List ℕ) (w v : Option ℕ) (x slot i free : ℕ) (env : List NamedRegister) (scope : List Slotted) (labels : List Label) (vis : List Visible)
       (next : List Instr) (rest : List Task) → x < i → Scene m n w i free env scope labels vis → Faultless (faults_in defined (scopes env) vis e) →
       Fits (scopes env) e →
       (type_of (scopes env) e ≡ ty.NoValue → ⊥) → (n ≡ x → w ≡ None) → ((s : ℕ) → w ≡ Some s → slot ≡ s → ⊥) → ((n ≡ x → ⊥) → v ≡ w) → (n ≡ x → v ≡ Some slot) →
       Calm ts k x next → OutsOf m n k w ts labels rest → Sit m n [] k v ts labels next rest →
-      Sit m n [] k w ts labels (select_base env labels x i e (select env labels false false (fresh x (type_of (scopes env) e)) i e) next)
+      Sit m n [] k w ts labels (select_base env labels x i e (select env labels false false (fresh_register x (type_of (scopes env) e)) i e) next)
       (operand scope free slot e ++ rest)
 
   pub whole_base : (e : Expression) → Claim m n defined true e →
-      ((env : List Named) (labels : List Label) (t b : ℕ) (code : Code) (next : List Instr) → select_base env labels t b e code next ≡ code next) → Bases e
+      ((env : List NamedRegister) (labels : List Label) (t b : ℕ) (code : Code) (next : List Instr) → select_base env labels t b e code next ≡ code next) → Bases e
   whole_base e claim is k ts w v x slot i free env scope labels vis next rest xi at ff fits value apart vacant others same calm o y =
       subst (λ c. Sit m n [] k w ts labels c (operand scope free slot e ++ rest))
-      (sym (is env labels x i (select env labels false false (fresh x (type_of (scopes env) e)) i e) next))
+      (sym (is env labels x i (select env labels false false (fresh_register x (type_of (scopes env) e)) i e) next))
       ((operand_step m n defined e claim x slot xi at ff fits value apart vacant others same).run next rest o y)
 
   pub sum_base : (place : ℕ) (op : IntOp) (base : Expression) (at' u : ℕ) → Claim m n defined true base →
@@ -182,30 +182,30 @@ module _ (m : Mach) (n : ℕ) (defined : List ℕ → Option DefinedSymbol) wher
       behind : List Task
       behind = Does (Binds slot (is_address (type_of (names scope) sum)) place) ∷ rest
 
-      after : Sit m n (fresh x (type_of (scopes env) base) ∷ []) k w ts labels next
+      after : Sit m n (fresh_register x (type_of (scopes env) base) ∷ []) k w ts labels next
           (Does (Binds free (is_address (type_of (names scope) base)) (place_of base)) ∷ Does (Uses free place) ∷ Does (Uses (suc free) place) ∷ behind)
       after =
           skip_sit _ (λ p. low free (omega arith) p _ _) (skip_sit _ (λ p. apart_uses p w free place)
           (skip_sit _ (λ p. apart_uses p w (suc free) place) (skip_sit _ (λ p. apart_binds p w slot _ _ vacant)
-          (junk_of (fresh x (type_of (scopes env) base)) y others calm o))))
+          (junk_of (fresh_register x (type_of (scopes env) base)) y others calm o))))
 
-      evaluated : Sit m n [] k w ts labels (select env labels false false (fresh x (type_of (scopes env) base)) i base next)
+      evaluated : Sit m n [] k w ts labels (select env labels false false (fresh_register x (type_of (scopes env) base)) i base next)
           (Evaluates scope (free + 2) (Integer at' u) ∷ Does (Binds (suc free) false at') ∷ Evaluates scope (free + 2) base ∷ Does
           (Binds free (is_address (type_of (names scope) base)) (place_of base)) ∷ Does (Uses free place) ∷ Does (Uses (suc free) place) ∷ behind)
       evaluated =
           quiet_sit m n (walk.evaluates scope (free + 2) (Integer at' u) _) o
           (skip_sit _ (λ p. low (suc free) (omega arith) p _ _)
-          (of_claim m n defined true base claim false false (fresh x (type_of (scopes env) base)) (at_more m n (omega arith) (omega arith) at)
+          (of_claim m n defined true base claim false false (fresh_register x (type_of (scopes env) base)) (at_more m n (omega arith) (omega arith) at)
           (left (left ff)) fits.0 (has_one defined (scopes env) vis base (left (left ff)) (has_value role.Taken tt _ _ (right (left ff)))) apart xi after))
 
-      turned : (l : Bool) → Sit m n [] k w ts labels (select env labels false false (fresh x (type_of (scopes env) base)) i base next)
+      turned : (l : Bool) → Sit m n [] k w ts labels (select env labels false false (fresh_register x (type_of (scopes env) base)) i base next)
           ((((operand scope (free + 2) (suc free) (Integer at' u) ++ cond l [] (operand scope (free + 2) free base)) ++
-          ([] ++ cond l (operand scope (free + 2) free base) [])) ++ takes place free 2) ++ behind)
+          ([] ++ cond l (operand scope (free + 2) free base) [])) ++ operand_uses place free 2) ++ behind)
       turned true = evaluated
       turned false = evaluated
 
-      by : (q : Bool) → Sit m n [] k w ts labels (cond q (select env labels false false (fresh x (type_of (scopes env) base)) i base next)
-          (select env labels false false (fresh x (type_of (scopes env) sum)) i sum next)) (operand scope free slot sum ++ rest)
+      by : (q : Bool) → Sit m n [] k w ts labels (cond q (select env labels false false (fresh_register x (type_of (scopes env) base)) i base next)
+          (select env labels false false (fresh_register x (type_of (scopes env) sum)) i sum next)) (operand scope free slot sum ++ rest)
       by true = quiet_sit m n (walk.evaluates scope free sum behind) o (turned (is_light_address (names scope) base))
       by false = (operand_step m n defined sum claim_sum x slot xi at ff fits value apart vacant others same).run next rest o y
 
@@ -226,7 +226,7 @@ module _ (m : Mach) (n : ℕ) (defined : List ℕ → Option DefinedSymbol) wher
       bound_none w (none q) (by want y (placed_next (plain.tries next) placed) (straight plain.on plain.calm plain.inside z))
     where
       by : (want : Bool) → Sit m n (out m n want d) k w ts labels next tasks → Placed m ts next → Past m n k i next Bound → Told Bound w tasks
-      by true y placed (kept_on a o z) = y.cont placed Bound (λ s. o (subst (Among n) (sym e) s)) z
+      by true y placed (kept_on a o z) = y.cont placed Bound (λ s. o (subst (AmongRegisters n) (sym e) s)) z
       by false y placed (kept_on a o z) = go m n y placed Bound z
 
   plain_load : (c : Chunk) (offset : ℕ) (x d : Reg) → IsPlain (emit.load c offset x d)
@@ -251,7 +251,7 @@ module _ (m : Mach) (n : ℕ) (defined : List ℕ → Option DefinedSymbol) wher
       d' = inner_dest T b d
 
       x : Reg
-      x = fresh (suc b) (type_of (scopes env) (base_of e))
+      x = fresh_register (suc b) (type_of (scopes env) (base_of e))
 
       none : n ≡ suc b → w ≡ None
       none q = low_none at.low (omega (arith, q))
@@ -281,20 +281,20 @@ module _ (m : Mach) (n : ℕ) (defined : List ℕ → Option DefinedSymbol) wher
   store_form place c a e bases claim false k ts w b slot env scope labels vis next tasks valued tail d at ff fits value apart below y0 =
       quiet_sit m n (walk.evaluates scope slot (Store place c a e) tasks) y0.outs
       (subst (λ os. Sit m n [] k w ts labels (ordered (is_left_first (scopes env) a e) base_code value_code store_code) os)
-      (sym (append_assoc (all_operands scope slot (two a e)) (takes place slot 2) tasks))
+      (sym (append_assoc (all_operands scope slot (two_expressions a e)) (operand_uses place slot 2) tasks))
       (subst (λ sc. Sit m n [] k w ts labels (ordered (is_left_first (scopes env) a e) base_code value_code (store_code))
       (((cond (is_light_address sc e) [] (operand scope (slot + 2) (suc slot) e) ++ cond (is_light_address sc a) []
       (operand scope (slot + 2) slot a)) ++
       (cond (is_light_address sc e) (operand scope (slot + 2) (suc slot) e) [] ++ cond (is_light_address sc a)
-      (operand scope (slot + 2) slot a) [])) ++ (takes place slot 2 ++ tasks)))
+      (operand scope (slot + 2) slot a) [])) ++ (operand_uses place slot 2 ++ tasks)))
       (sym (paired_names at.paired)) (pair_flags base_code value_code a e (is_light_address (scopes env) a)
       (is_light_address (scopes env) e) left_first right_first)))
     where
       x : Reg
-      x = fresh (suc b) (type_of (scopes env) (base_of a))
+      x = fresh_register (suc b) (type_of (scopes env) (base_of a))
 
       y : Reg
-      y = fresh (suc (suc b)) (type_of (scopes env) e)
+      y = fresh_register (suc (suc b)) (type_of (scopes env) e)
 
       i : ℕ
       i = suc (suc (suc b))
@@ -303,7 +303,7 @@ module _ (m : Mach) (n : ℕ) (defined : List ℕ → Option DefinedSymbol) wher
       j = suc (suc (suc b)) + width a
 
       base_code : Code
-      base_code = select_base env labels (suc b) i a (select env labels false false (fresh (suc b) (type_of (scopes env) a)) i a)
+      base_code = select_base env labels (suc b) i a (select env labels false false (fresh_register (suc b) (type_of (scopes env) a)) i a)
 
       value_code : Code
       value_code = select env labels false false y j e
@@ -333,7 +333,7 @@ module _ (m : Mach) (n : ℕ) (defined : List ℕ → Option DefinedSymbol) wher
       ky = hold_kept (suc slot) none_y
 
       stored : (v : Option ℕ) → Kept w v → (n ≡ suc b → v ≡ Some slot) → (n ≡ suc (suc b) → v ≡ Some (suc slot)) →
-          Sit m n [] k v ts labels store_code (takes place slot 2 ++ tasks)
+          Sit m n [] k v ts labels store_code (operand_uses place slot 2 ++ tasks)
       stored v keeps fx fy =
           mute_sit m n _ (plain_store c (offset_of a) x y) refl
           (λ r. two_of m n defined (λ q. used_by m n tasks place slot 2 (first_stood (fx q))) (λ q. used_by m n tasks place slot 2 (second_stood (fy q))) r)
@@ -358,12 +358,12 @@ module _ (m : Mach) (n : ℕ) (defined : List ℕ → Option DefinedSymbol) wher
       x_not_y q h = omega (arith, q, h)
 
       right_first : Sit m n [] k w ts labels (value_code (base_code store_code))
-          (operand scope (slot + 2) (suc slot) e ++ (operand scope (slot + 2) slot a ++ (takes place slot 2 ++ tasks)))
+          (operand scope (slot + 2) (suc slot) e ++ (operand scope (slot + 2) slot a ++ (operand_uses place slot 2 ++ tasks)))
       right_first =
           (operand_step m n defined e claim (suc (suc b)) (suc slot) (omega arith) (at_more m n (omega arith) (omega arith) at) (left (right ff)) fits.1
           (has_value role.Taken tt _ _ (right (right ff))) none_y (λ s q h. let l = low s q in omega (arith, l, h))
           (hold_other n (suc (suc b)) (suc slot) w) (hold_same n (suc (suc b)) (suc slot) w)).run _ _ y0.outs
-          (bases k ts wy (hold n (suc b) slot wy) (suc b) slot i (slot + 2) env scope labels vis store_code (takes place slot 2 ++ tasks) (omega arith) scene_y
+          (bases k ts wy (hold n (suc b) slot wy) (suc b) slot i (slot + 2) env scope labels vis store_code (operand_uses place slot 2 ++ tasks) (omega arith) scene_y
           (left (left ff)) fits.0 (has_value role.Taken tt _ _ (right (left ff)))
           (λ q. hold_other n (suc (suc b)) (suc slot) w (x_not_y q) ∙ none q) vacant (hold_other n (suc b) slot wy) (hold_same n (suc b) slot wy) calm_store
           (outs_kept m n ky y0.outs)
@@ -377,10 +377,10 @@ module _ (m : Mach) (n : ℕ) (defined : List ℕ → Option DefinedSymbol) wher
               (Rattle.selection_walks.proofs.Situations.same_or n (suc (suc b)))
 
       left_first : is_light_address (scopes env) e ≡ true → Sit m n [] k w ts labels (base_code (value_code store_code)) (operand scope (slot + 2) slot a ++
-          (operand scope (slot + 2) (suc slot) e ++ (takes place slot 2 ++ tasks)))
+          (operand scope (slot + 2) (suc slot) e ++ (operand_uses place slot 2 ++ tasks)))
       left_first light =
           bases k ts w wx (suc b) slot i (slot + 2) env scope labels vis (value_code store_code)
-          (operand scope (slot + 2) (suc slot) e ++ (takes place slot 2 ++ tasks)) (omega arith) (at_more m n (omega arith) (omega arith) at)
+          (operand scope (slot + 2) (suc slot) e ++ (operand_uses place slot 2 ++ tasks)) (omega arith) (at_more m n (omega arith) (omega arith) at)
           (left (left ff)) fits.0 (has_value role.Taken tt _ _ (right (left ff)))
           none (λ s q h. let l = low s q in omega (arith, l, h)) (hold_other n (suc b) slot w) (hold_same n (suc b) slot w)
           (λ placed q z. calm_store (placed_in (ending_select env labels false false y j e store_code) placed) q
@@ -399,7 +399,7 @@ module _ (m : Mach) (n : ℕ) (defined : List ℕ → Option DefinedSymbol) wher
 
   -- ---- tests of bounds
 
-  bare_index : (f : IntOp) (e : Expression) (u : ℕ) → right_of f e ≡ right_side.Constant u → (scope : List Slotted) (free : ℕ) → tasks_of scope free e ≡ []
+  bare_index : (f : IntOp) (e : Expression) (u : ℕ) → bound_test_operand f e ≡ right_side.Constant u → (scope : List Slotted) (free : ℕ) → tasks_of scope free e ≡ []
   bare_index f (Integer at w) u q scope free = refl
   bare_index f e u q scope free = cc
 
@@ -420,13 +420,13 @@ module _ (m : Mach) (n : ℕ) (defined : List ℕ → Option DefinedSymbol) wher
   checkbound_form place a e claim_a claim_e true k ts w b slot env scope labels vis next tasks valued tail d at ff fits value apart below y =
       absurd (value refl)
   checkbound_form place a e claim_a claim_e false k ts w b slot env scope labels vis next tasks valued tail d at ff fits value apart below y0 =
-      by (right_of bound_test e) refl
+      by (bound_test_operand bound_test e) refl
     where
       x : Reg
-      x = fresh (suc b) (type_of (scopes env) a)
+      x = fresh_register (suc b) (type_of (scopes env) a)
 
       y : Reg
-      y = fresh (suc (suc b)) (type_of (scopes env) e)
+      y = fresh_register (suc (suc b)) (type_of (scopes env) e)
 
       scene : Scene m n w (suc b) slot env scope labels vis
       scene = at_more m n (omega arith) (omega arith) at
@@ -437,17 +437,17 @@ module _ (m : Mach) (n : ℕ) (defined : List ℕ → Option DefinedSymbol) wher
       j : ℕ
       j = suc (suc (suc b)) + width a
 
-      bounded : {v : Option ℕ} {c : Code} (r : Right) → Step m n k ts labels w v c (all_operands scope slot (two a e)) →
-          (Among n (x ∷ emit.right_regs r y) → Stood v slot 2) →
-          Sit m n [] k w ts labels (c (emit.checkbound r x y ∷ next)) (Evaluates scope slot (Checkbound place a e) ∷ tasks)
+      bounded : {v : Option ℕ} {c : Code} (r : Right) → Step m n k ts labels w v c (all_operands scope slot (two_expressions a e)) →
+          (AmongRegisters n (x ∷ emit.right_regs r y) → Stood v slot 2) →
+          Sit m n [] k w ts labels (c (emit.checkbound_instr r x y ∷ next)) (Evaluates scope slot (Checkbound place a e) ∷ tasks)
       bounded {v} r step reads =
-          whole m n (Checkbound place a e) (takes place slot 2 ++ (MayRaise ∷ []))
-          (append_assoc (all_operands scope slot (two a e)) (takes place slot 2) (MayRaise ∷ [])) step y0.outs y0.outs
-          (calling m n (emit.checkbound r x y) refl (λ next. refl) refl y0 (bound_meets refl) step.keeps place slot 2 (λ s f. reads s)
+          whole m n (Checkbound place a e) (operand_uses place slot 2 ++ (MayRaise ∷ []))
+          (append_assoc (all_operands scope slot (two_expressions a e)) (operand_uses place slot 2) (MayRaise ∷ [])) step y0.outs y0.outs
+          (calling m n (emit.checkbound_instr r x y) refl (λ next. refl) refl y0 (bound_meets refl) step.keeps place slot 2 (λ s f. reads s)
           (λ s. absurd (no_among m n s)) y0.outs)
 
-      by : (r : Right) → right_of bound_test e ≡ r → Sit m n [] k w ts labels (ordered (is_left_first (scopes env) a e) (select env labels false false x i a)
-          (unless_constant r (select env labels false false y j e)) (emit.checkbound r x y ∷ next)) (Evaluates scope slot (Checkbound place a e) ∷ tasks)
+      by : (r : Right) → bound_test_operand bound_test e ≡ r → Sit m n [] k w ts labels (ordered (is_left_first (scopes env) a e) (select env labels false false x i a)
+          (unless_constant r (select env labels false false y j e)) (emit.checkbound_instr r x y ∷ next)) (Evaluates scope slot (Checkbound place a e) ∷ tasks)
       by right_side.Register q =
           bounded right_side.Register
           (two_args m n defined a e (omega arith) (omega arith) scene

@@ -14,15 +14,15 @@ use Rattle.cmm_types.specs.Types.{type_without_float, type_of_cases, join}
 use Rattle.walk_tables.specs.Walks.{Task, Evaluates, Slotted, bodies}
 use Rattle.mach_ir.specs.Acts.{Target, On, At}
 use Rattle.mach_ir.specs.Meaning.{passes_frame, after_label, code_at, tries_at}
-use Rattle.mach_ir.specs.Walks.{Among, this, other, targets, may_raise}
+use Rattle.mach_ir.specs.Walks.{AmongRegisters, this, other, targets, may_raise}
 use Rattle.mach_ir.specs.Walks as mach
 use Rattle.mach_ir.specs.declared.mach.Instr.{Instr}
 use Rattle.mach_ir.specs.declared.mach.Mach.{Mach}
 use Rattle.mach_ir.specs.declared.mach.Mark.{Mark}
 use Rattle.mach_ir.specs.declared.mach.Mark.TheVariants as mark
 use Rattle.mach_ir.specs.declared.reg.Reg.{Reg}
-use Rattle.selection_rules.specs.Instructions.{bare}
-use Rattle.selection_rules.specs.Select.{Named, Label, scopes, count_cases, width, switch_labels, last_label, select_cases}
+use Rattle.selection_rules.specs.Instructions.{bare_mark}
+use Rattle.selection_rules.specs.Select.{NamedRegister, Label, scopes, count_cases, width, switch_labels, label_of_last_case, select_cases}
 use Rattle.selection_rules.proofs.Parts.{Within, Placed, placed_in, placed_next, WellLabelled}
 use Rattle.selection_rules.proofs.Endings.{ending_select, ending_cases}
 use Rattle.selection_laws.proofs.Accepting.{left, right}
@@ -44,7 +44,7 @@ module _ (m : Mach) (n : ℕ) where
   pub fork_sit : {k : ℕ} {ts : List ℕ} {labels : List Label} {w v : Option ℕ} {next : List Instr} {mid more : List Task} (i : Instr) → i.results ≡ [] →
       may_raise i.op ≡ false → passes_frame i.op ≡ false →
       (Placed m ts (i ∷ next) → (u : Target) → mach.OneOf u (targets i.op) → (p : Phase) → Ahead m n k p (code_at m.code next u) → Told p w mid) →
-      (Among n i.args → Told Passed v more) → ((p : Phase) → Told p w mid → Told p v more) → OutsOf m n k v ts labels more →
+      (AmongRegisters n i.args → Told Passed v more) → ((p : Phase) → Told p w mid → Told p v more) → OutsOf m n k v ts labels more →
       Sit m n [] k v ts labels (i ∷ next) more
   fork_sit {k} {ts} {w = w} {v = v} {next = next} {mid = mid} {more = more} i e mr pf there reads pre o =
       sit m n (λ placed p z. by k p (there placed) (marked e mr pf z)) o
@@ -56,8 +56,8 @@ module _ (m : Mach) (n : ℕ) where
 
   -- a mark that goes to one place
   pub jump_sit : {D : List Reg} {k : ℕ} {ts : List ℕ} {labels : List Label} {w : Option ℕ} {code to : List Instr} {tasks : List Task} (f : Mark) (u : Target) →
-      targets (bare f).op ≡ u ∷ [] → (Placed m ts (bare f ∷ code) → (code_at m.code code u ≡ to) × Placed m ts to) →
-      Sit m n D k w ts labels to tasks → Sit m n D k w ts labels (bare f ∷ code) tasks
+      targets (bare_mark f).op ≡ u ∷ [] → (Placed m ts (bare_mark f ∷ code) → (code_at m.code code u ≡ to) × Placed m ts to) →
+      Sit m n D k w ts labels to tasks → Sit m n D k w ts labels (bare_mark f ∷ code) tasks
   jump_sit {D} {k} {ts} {w = w} {code = code} {to = to} {tasks = tasks} f u e there x =
       record {
         cont = λ placed p o z. by k p (λ y. x.cont (there placed).1 p o (subst (Ahead m n k p) (there placed).0 y)) (marked refl refl refl z);
@@ -69,18 +69,18 @@ module _ (m : Mach) (n : ℕ) where
       the_one v this = refl
       the_one v (other o) = elim o [ ]
 
-      by : {Q : Type 0} (k : ℕ) (p : Phase) → (Ahead m n k p (code_at m.code code u) → Q) → Marked m n (bare f) code k p → Q
+      by : {Q : Type 0} (k : ℕ) (p : Phase) → (Ahead m n k p (code_at m.code code u) → Q) → Marked m n (bare_mark f) code k p → Q
       by k p g (read_there a) = absurd (no_among m n a)
       by k p g (moved_on {k = j} v q y) = g (more_steps (subst (λ s. Ahead m n j p (code_at m.code code s)) (the_one v (subst (mach.OneOf v) e q)) y))
 
   pub end_sit : {D : List Reg} {k : ℕ} {ts : List ℕ} {labels : List Label} {w : Option ℕ} {next : List Instr} {tasks : List Task} (l : ℕ) →
-      Sit m n D k w ts labels next tasks → Sit m n D k w ts labels (bare (mark.End l) ∷ next) tasks
+      Sit m n D k w ts labels next tasks → Sit m n D k w ts labels (bare_mark (mark.End l) ∷ next) tasks
   end_sit l x = jump_sit (mark.End l) On refl (λ placed. (refl, placed_next refl placed)) x
 
   -- a mark that goes after the end of its form
   pub past_sit : {D : List Reg} {k : ℕ} {ts : List ℕ} {labels : List Label} {w : Option ℕ} {code next : List Instr} {tasks : List Task} (f : Mark) (end : ℕ) →
-      WellLabelled m → targets (bare f).op ≡ At end ∷ [] → ((c : List Instr) → tries_at (bare f ∷ c) ≡ tries_at c) → Within (bare (mark.End end) ∷ next) code →
-      Sit m n D k w ts labels next tasks → Sit m n D k w ts labels (bare f ∷ code) tasks
+      WellLabelled m → targets (bare_mark f).op ≡ At end ∷ [] → ((c : List Instr) → tries_at (bare_mark f ∷ c) ≡ tries_at c) → Within (bare_mark (mark.End end) ∷ next) code →
+      Sit m n D k w ts labels next tasks → Sit m n D k w ts labels (bare_mark f ∷ code) tasks
   past_sit {code = code} f end labelled e tr inside x =
       jump_sit f (At end) e (λ placed. let below = placed_in inside (placed_next (tr code) placed) in
       (labelled.behind_is end _ _ below.ending (eq-eqb end end refl), placed_next refl below)) x
@@ -89,9 +89,9 @@ module _ (m : Mach) (n : ℕ) where
 
   module _ (defined : List ℕ → Option DefinedSymbol) (labelled : WellLabelled m) where
     -- the code of cases, before which none is chosen
-    pub cases_sit : {D : List Reg} {k : ℕ} {ts : List ℕ} {labels : List Label} {w : Option ℕ} {next : List Instr} {tasks : List Task} (env : List Named)
+    pub cases_sit : {D : List Reg} {k : ℕ} {ts : List ℕ} {labels : List Label} {w : Option ℕ} {next : List Instr} {tasks : List Task} (env : List NamedRegister)
         (valued tail : Bool) (d : Reg) (ls : List ℕ) (end l b : ℕ) (cs : Cases) → Sit m n D k w ts labels next tasks →
-        Sit m n D k w ts labels (select_cases env labels valued tail d ls end l b cs (bare (mark.End end) ∷ next)) tasks
+        Sit m n D k w ts labels (select_cases env labels valued tail d ls end l b cs (bare_mark (mark.End end) ∷ next)) tasks
     cases_sit env valued tail d ls end l b NoCase x = end_sit end x
     cases_sit {labels = labels} env valued tail d ls end l b (Choose indexes body rest) x =
         past_sit (mark.Case _ l end) end labelled refl (λ c. refl)
@@ -106,11 +106,11 @@ module _ (m : Mach) (n : ℕ) where
 
     abbrev pub Chooses : Cases → Type 0
     Chooses cs =
-        (want : Bool) (k : ℕ) (ts : List ℕ) (w : Option ℕ) (b slot : ℕ) (env : List Named) (scope : List Slotted) (labels : List Label) (vis : List Visible)
+        (want : Bool) (k : ℕ) (ts : List ℕ) (w : Option ℕ) (b slot : ℕ) (env : List NamedRegister) (scope : List Slotted) (labels : List Label) (vis : List Visible)
         (next : List Instr) (tasks : List Task) (valued tail : Bool) (d : Reg) (ls : List ℕ) (end l : ℕ) → Scene m n w b slot env scope labels vis →
         Faultless (cases_faults defined (scopes env) vis cs) → CasesFit (scopes env) cs → Wanted m n want (type_of_cases (scopes env) cs) → ApartFrom m n d w →
         d.number < b → Sit m n (out m n want d) k w ts labels next tasks →
-        Placed m ts (select_cases env labels valued tail d ls end l b cs (bare (mark.End end) ∷ next)) → (j : ℕ) → j < count_cases cs → (p : Phase) →
+        Placed m ts (select_cases env labels valued tail d ls end l b cs (bare_mark (mark.End end) ∷ next)) → (j : ℕ) → j < count_cases cs → (p : Phase) →
         Ahead m n k p (after_label (l + j) m.code) → OneTold p w scope slot (bodies cs) tasks
 
     pub no_cases : Chooses NoCase
@@ -169,13 +169,13 @@ module _ (m : Mach) (n : ℕ) where
       pub is : u ≡ At (lo + index)
 
     last_in : (lo hi l : ℕ) (cs : Cases) (i so_far : ℕ) → lo ≤ so_far → so_far < hi → lo ≤ l → l + count_cases cs ≤ hi →
-        (lo ≤ last_label l cs i so_far) × (last_label l cs i so_far < hi)
+        (lo ≤ label_of_last_case l cs i so_far) × (label_of_last_case l cs i so_far < hi)
     last_in lo hi l NoCase i so_far a b c e = (a, b)
     last_in lo hi l (Choose indexes body rest) i so_far a b c e =
         by (Rattle.cmm_meaning.specs.Choices.is_named indexes i) (λ s x y. last_in lo hi (suc l) rest i s x y (omega (arith, c)) (omega (arith, e)))
       where
-        by : (q : Bool) → ((s : ℕ) → lo ≤ s → s < hi → (lo ≤ last_label (suc l) rest i s) × (last_label (suc l) rest i s < hi)) →
-            (lo ≤ last_label (suc l) rest i (cond q l so_far)) × (last_label (suc l) rest i (cond q l so_far) < hi)
+        by : (q : Bool) → ((s : ℕ) → lo ≤ s → s < hi → (lo ≤ label_of_last_case (suc l) rest i s) × (label_of_last_case (suc l) rest i s < hi)) →
+            (lo ≤ label_of_last_case (suc l) rest i (cond q l so_far)) × (label_of_last_case (suc l) rest i (cond q l so_far) < hi)
         by true f = f l c (omega (arith, e))
         by false f = f so_far a b
 
@@ -185,6 +185,6 @@ module _ (m : Mach) (n : ℕ) where
     in_labels u l cs i (suc size) some this =
         let x = last_in l (l + count_cases cs) l cs i l (omega arith) (omega (arith, some)) (omega arith) (omega arith) in
         let lo = x.0 in let hi = x.1 in
-        let e : last_label l cs i l ≡ l + (last_label l cs i l - l) = omega (arith, lo) in
-        record { index = last_label l cs i l - l; within = omega (arith, lo, hi); is = ap At e }
+        let e : label_of_last_case l cs i l ≡ l + (label_of_last_case l cs i l - l) = omega (arith, lo) in
+        record { index = label_of_last_case l cs i l - l; within = omega (arith, lo, hi); is = ap At e }
     in_labels u l cs i (suc size) some (other o) = in_labels u l cs (suc i) size some o

@@ -18,13 +18,13 @@ use Rattle.cmm_types.specs.Gathered.{faults_in, row_faults, bindings_faults}
 use Rattle.cmm_types.specs.Types.{binding_of, type_of, type_without_float, type_named, type_bound, type_of_result, type_of_last, with_bindings, holds_float, is_mutable}
 use Rattle.cmm_types.specs.declared.role.Role.TheVariants as role
 use Rattle.cmm_meaning.specs.Evaluation.{is_left_first, comps_of_arguments}
-use Rattle.walk_tables.specs.Walks.{Passes, Task, Does, Evaluates, Enters, Raises, Exits, Slotted, names, takes, all_operands, two, called, in_order, bound_at, slot_of, behind_raise, behind_exit}
+use Rattle.walk_tables.specs.Walks.{Passes, Task, Does, Evaluates, Enters, Raises, Exits, Slotted, names, operand_uses, all_operands, two_expressions, call_tasks, tasks_in_order, bound_at, slot_of, behind_raise, behind_exit}
 use Rattle.walk_tables.specs.Walks as walk
 use Rattle.mach_ir.specs.declared.mach.Instr.{Instr}
 use Rattle.mach_ir.specs.declared.mach.Mach.{Mach}
 use Rattle.mach_ir.specs.declared.reg.Reg.{Reg}
 use Rattle.selection_rules.specs.Instructions as emit
-use Rattle.selection_rules.specs.Select.{shape_of, unless_left, unless_right, ordered, Named, Label, scopes, comp_of, fresh, reg_of, label_of, regs_of, symbol_of, seat, exit_to, inner_dest, inner_valued, bound_name, env_after, header_offset, chunk_for, width, width_bound, select, select_bound, select_seq, select_waiting, select_filled}
+use Rattle.selection_rules.specs.Select.{operation_shape, unless_left, unless_right, ordered, NamedRegister, Label, scopes, comp_of_type, fresh_register, reg_of, visible_label, regs_of, called_symbol, seat, exit_to_handler, inner_dest, inner_valued, bound_name, env_after, header_offset, chunk_for, width, width_bound, select, select_bound, select_seq, select_waiting, select_filled}
 use Rattle.cmm_tree.specs.Measures.{count_of}
 use Rattle.selection_rules.proofs.Parts.{WellLabelled}
 use Rattle.selection_laws.proofs.Accepting.{left, right}
@@ -102,7 +102,7 @@ module _ (m : Mach) (n : ℕ) (defined : List ℕ → Option DefinedSymbol) wher
       (assign_sit m n place (type_named (scopes env) x) t (reg_of env x) (slot_of scope x) (binding_of (scopes env) x) (looked x at.paired) away y)))
     where
       t : Reg
-      t = fresh (suc b) (type_of (scopes env) e)
+      t = fresh_register (suc b) (type_of (scopes env) e)
 
       away : ApartFrom m n t w
       away q = low_none at.low (omega (arith, q))
@@ -110,10 +110,10 @@ module _ (m : Mach) (n : ℕ) (defined : List ℕ → Option DefinedSymbol) wher
   operator_form : (at : ℕ) (op : IntOp) (l r : Expression) → Claim m n defined true l → Claim m n defined true r → Claims (Operator at op l r)
   operator_form place op l r cl cr want k ts w b slot env scope labels vis next tasks valued tail d at ff fits value apart below y =
       let step = sh.step in
-      whole m n (Operator place op l r) (takes place slot 2) refl step y.outs y.outs
+      whole m n (Operator place op l r) (operand_uses place slot 2) refl step y.outs y.outs
       (shape_end m n defined want d' x z place slot step.keeps (inner_apart m n T b d at.low apart)
       (inner m n want T b d (wanted_typed m n want (holds_float (Operator place op l r)) (type_without_float (scopes env) (Operator place op l r)) value) y)
-      (shape_of op l r) op (λ e q. int_not z.comp (power_int op l r (scopes env) e q)) sh.lefts sh.reads)
+      (operation_shape op l r) op (λ e q. int_not z.comp (power_int op l r (scopes env) e q)) sh.lefts sh.reads)
     where
       T : Ty
       T = type_of (scopes env) (Operator place op l r)
@@ -122,28 +122,28 @@ module _ (m : Mach) (n : ℕ) (defined : List ℕ → Option DefinedSymbol) wher
       d' = inner_dest T b d
 
       x : Reg
-      x = fresh (suc b) (type_of (scopes env) l)
+      x = fresh_register (suc b) (type_of (scopes env) l)
 
       z : Reg
-      z = fresh (suc (suc b)) (type_of (scopes env) r)
+      z = fresh_register (suc (suc b)) (type_of (scopes env) r)
 
       sh : Shaped m n defined k ts labels w slot (ordered (is_left_first (scopes env) l r)
-          (unless_left (shape_of op l r) (select env labels false false x (suc (suc (suc b))) l))
-          (unless_right (shape_of op l r) (select env labels false false z (suc (suc (suc b)) + width l) r))) (all_operands scope slot (two l r))
-          (shape_of op l r) x z
+          (unless_left (operation_shape op l r) (select env labels false false x (suc (suc (suc b))) l))
+          (unless_right (operation_shape op l r) (select env labels false false z (suc (suc (suc b)) + width l) r))) (all_operands scope slot (two_expressions l r))
+          (operation_shape op l r) x z
       sh =
           shaped m n defined op l r cl cr (suc (suc (suc b))) (suc (suc (suc b)) + width l) (omega arith) (omega arith)
           (at_more m n (omega arith) (omega arith) at) (left (left ff)) fits.0 (has_value role.Taken tt _ _ (right (left ff))) (left (right ff)) fits.1
           (has_value role.Taken tt _ _ (right (right ff)))
-          (shape_of op l r) refl
+          (operation_shape op l r) refl
 
   raise_form : (at : ℕ) (e : Expression) → Claim m n defined true e → Claims (Raise at e)
   raise_form place e claim want k ts w b slot env scope labels vis next tasks valued tail d at ff fits value apart below y =
-      whole m n (Raise place e) (takes place slot 1 ++ (Raises ∷ []))
-      (append_assoc (all_operands scope slot (More e NoMore)) (takes place slot 1) (Raises ∷ []))
+      whole m n (Raise place e) (operand_uses place slot 1 ++ (Raises ∷ []))
+      (append_assoc (all_operands scope slot (More e NoMore)) (operand_uses place slot 1) (Raises ∷ []))
       (one_arg m n defined e (omega arith) (at_more m n (omega arith) (omega arith) at)
       (coded m n defined (suc b) slot (suc (suc (suc b))) (slot + 1) e claim (left ff) fits (has_value role.Taken tt _ _ (right ff)))) y.outs y.outs
-      (raise_sit m n place slot (fresh (suc b) (type_of (scopes env) e)) (seat 0 (suc (suc b)) comp.Val)
+      (raise_sit m n place slot (fresh_register (suc b) (type_of (scopes env) e)) (seat 0 (suc (suc b)) comp.Val)
       (hold_kept slot (λ q. low_none at.low (omega (arith, q)))) (λ q. single_stands m n defined (suc b) w q)
       (λ q. low_none at.low (omega (arith, q))) y.outs)
 
@@ -154,12 +154,12 @@ module _ (m : Mach) (n : ℕ) (defined : List ℕ → Option DefinedSymbol) wher
   app_form : (at : ℕ) (callee : Expression) (es : Expressions) (result : Ret) (result_at : ℕ) → Claim m n defined true callee → Waits m n defined es →
       Fills m n defined es → Claims (App at callee es result result_at)
   app_form place callee es result result_at claim waits fills want k ts w b slot env scope labels vis next tasks valued tail d at ff fits value apart below y =
-      whole m n (App place callee es result result_at) (takes place slot (suc (count_of es)) ++ called true place) refl
+      whole m n (App place callee es result result_at) (operand_uses place slot (suc (count_of es)) ++ call_tasks true place) refl
       (call_steps m n defined callee es claim waits fills role.Taken base tt (omega arith) (at_more m n (omega arith) (omega arith) at)
-      (left (left (right ff))) fits.1.0 (has_value role.Taken tt _ _ (right (left (right ff)))) (right (right ff)) fits.1.1 (symbol_of callee) refl) y.outs
+      (left (left (right ff))) fits.1.0 (has_value role.Taken tt _ _ (right (left (right ff)))) (right (right ff)) fits.1.1 (called_symbol callee) refl) y.outs
       (outs_behind y.outs)
-      (same_tasks (sym (append_assoc (takes place slot (suc (count_of es))) (called true place) tasks))
-      (call_sit m n defined want place tail (inner_valued valued T) result (symbol_of callee) (fresh (suc b) (type_of (scopes env) callee)) env es
+      (same_tasks (sym (append_assoc (operand_uses place slot (suc (count_of es))) (call_tasks true place) tasks))
+      (call_sit m n defined want place tail (inner_valued valued T) result (called_symbol callee) (fresh_register (suc b) (type_of (scopes env) callee)) env es
       (suc (suc b) + count_of es) (suc (suc b) + count_of es + count_of es) (inner_dest T b d) refl (low_more (omega arith) (omega arith) at.low)
       (omega arith) (omega arith)
       (unit_value want false result value) (inner m n want T b d
@@ -172,20 +172,20 @@ module _ (m : Mach) (n : ℕ) (defined : List ℕ → Option DefinedSymbol) wher
       base : ℕ
       base = suc (suc (suc b) + count_of es + count_of es)
 
-      outs_behind : OutsOf m n k w ts labels tasks → OutsOf m n k w ts labels ((takes place slot (suc (count_of es)) ++ called true place) ++ tasks)
+      outs_behind : OutsOf m n k w ts labels tasks → OutsOf m n k w ts labels ((operand_uses place slot (suc (count_of es)) ++ call_tasks true place) ++ tasks)
       outs_behind o =
-          outs_over m n (ap behind_raise (append_assoc (takes place slot (suc (count_of es))) (called true place) tasks) ∙ takes_raising place slot
-          (suc (count_of es)) (called true place ++ tasks))
-          (λ label. ap (behind_exit label) (append_assoc (takes place slot (suc (count_of es))) (called true place) tasks) ∙ takes_exiting place slot
-          (suc (count_of es)) (called true place ++ tasks) label) o
+          outs_over m n (ap behind_raise (append_assoc (operand_uses place slot (suc (count_of es))) (call_tasks true place) tasks) ∙ takes_raising place slot
+          (suc (count_of es)) (call_tasks true place ++ tasks))
+          (λ label. ap (behind_exit label) (append_assoc (operand_uses place slot (suc (count_of es))) (call_tasks true place) tasks) ∙ takes_exiting place slot
+          (suc (count_of es)) (call_tasks true place ++ tasks) label) o
 
   extcall_form : (at : ℕ) (frame : Bool) (name : List ℕ) (es : Expressions) (result : Ret) (result_at : ℕ) → Waits m n defined es → Fills m n defined es →
       Claims (Extcall at frame name es result result_at)
   extcall_form place frame name es result result_at waits fills want k ts w b slot env scope labels vis next tasks valued tail d at ff fits value apart below y =
-      whole m n (Extcall place frame name es result result_at) (takes place slot (count_of es) ++ called frame place) refl
+      whole m n (Extcall place frame name es result result_at) (operand_uses place slot (count_of es) ++ call_tasks frame place) refl
       (row_steps m n defined es waits fills role.Outer (suc (suc b + count_of es + count_of es)) tt (omega arith)
       (at_more m n (omega arith) (omega arith) at) (right ff) fits.1.1) y.outs (outs_behind y.outs)
-      (same_tasks (sym (append_assoc (takes place slot (count_of es)) (called frame place) tasks))
+      (same_tasks (sym (append_assoc (operand_uses place slot (count_of es)) (call_tasks frame place) tasks))
       (external_sit m n defined want place frame name (comps_of_arguments (scopes env) es) result env es (suc b + count_of es)
       (suc b + count_of es + count_of es)
       (inner_dest T b d) (low_more (omega arith) (omega arith) at.low) (omega arith) (omega arith)
@@ -196,23 +196,23 @@ module _ (m : Mach) (n : ℕ) (defined : List ℕ → Option DefinedSymbol) wher
       T : Ty
       T = type_of (scopes env) (Extcall place frame name es result result_at)
 
-      outs_called : (f : Bool) → OutsOf m n k w ts labels tasks → OutsOf m n k w ts labels (called f place ++ tasks)
+      outs_called : (f : Bool) → OutsOf m n k w ts labels tasks → OutsOf m n k w ts labels (call_tasks f place ++ tasks)
       outs_called true o = o
       outs_called false o = o
 
-      outs_behind : OutsOf m n k w ts labels tasks → OutsOf m n k w ts labels ((takes place slot (count_of es) ++ called frame place) ++ tasks)
+      outs_behind : OutsOf m n k w ts labels tasks → OutsOf m n k w ts labels ((operand_uses place slot (count_of es) ++ call_tasks frame place) ++ tasks)
       outs_behind o =
-          outs_over m n (ap behind_raise (append_assoc (takes place slot (count_of es)) (called frame place) tasks) ∙ takes_raising place slot (count_of es)
-          (called frame place ++ tasks))
-          (λ label. ap (behind_exit label) (append_assoc (takes place slot (count_of es)) (called frame place) tasks) ∙ takes_exiting place slot
+          outs_over m n (ap behind_raise (append_assoc (operand_uses place slot (count_of es)) (call_tasks frame place) tasks) ∙ takes_raising place slot (count_of es)
+          (call_tasks frame place ++ tasks))
+          (λ label. ap (behind_exit label) (append_assoc (operand_uses place slot (count_of es)) (call_tasks frame place) tasks) ∙ takes_exiting place slot
           (count_of es)
-          (called frame place ++ tasks) label) (outs_called frame o)
+          (call_tasks frame place ++ tasks) label) (outs_called frame o)
 
   exit_form : (at label_at : ℕ) (label : LabelTree) (es : Expressions) → Waits m n defined es → Fills m n defined es → Claims (Exit at label_at label es)
   exit_form place label_at label es waits fills want k ts w b slot env scope labels vis next tasks valued tail d at ff fits value apart below y =
-      whole m n (Exit place label_at label es) (takes place slot (count_of es) ++ (Exits label ∷ [])) refl
+      whole m n (Exit place label_at label es) (operand_uses place slot (count_of es) ++ (Exits label ∷ [])) refl
       (row_steps m n defined es waits fills role.Taken (suc b + count_of es) tt (omega arith) scene (right ff) fits) y.outs (outs_behind y.outs)
-      (same_tasks (sym (append_assoc (takes place slot (count_of es)) (Exits label ∷ []) tasks)) (by (label_of labels label) x.is))
+      (same_tasks (sym (append_assoc (operand_uses place slot (count_of es)) (Exits label ∷ []) tasks)) (by (visible_label labels label) x.is))
     where
       scene : Scene m n w (suc b) slot env scope labels vis
       scene = at_more m n (omega arith) (omega arith) at
@@ -223,30 +223,30 @@ module _ (m : Mach) (n : ℕ) (defined : List ℕ → Option DefinedSymbol) wher
       keeps : Kept w (all_held n (suc b) slot es w)
       keeps = (held_row n (suc b) slot es).kept w scene.low
 
-      by : (o : Option Label) → o ≡ Some x.t → Sit m n [] k (all_held n (suc b) slot es w) ts labels (exit_to o (regs_of env (suc b) es) next) (takes place slot
+      by : (o : Option Label) → o ≡ Some x.t → Sit m n [] k (all_held n (suc b) slot es w) ts labels (exit_to_handler o (regs_of env (suc b) es) next) (operand_uses place slot
           (count_of es) ++ (Exits label ∷ tasks))
       by o e =
-          subst (λ u. Sit m n [] k (all_held n (suc b) slot es w) ts labels (exit_to u (regs_of env (suc b) es) next)
-          (takes place slot (count_of es) ++ (Exits label ∷ tasks))) (sym e)
+          subst (λ u. Sit m n [] k (all_held n (suc b) slot es w) ts labels (exit_to_handler u (regs_of env (suc b) es) next)
+          (operand_uses place slot (count_of es) ++ (Exits label ∷ tasks))) (sym e)
           (moves_sit m n (regs_of env (suc b) es) x.t.params _ (regs_length env (suc b) es ∙ sym (row_count es) ∙ sym x.arity)
           (takes_sit m n place slot (count_of es) keeps (exit_sit m n label x.t x.is y.outs))
           (λ a. used_by m n (Exits label ∷ tasks) place slot (count_of es) (row_stands env es (suc b) slot w scene.low a)))
 
-      outs_behind : OutsOf m n k w ts labels tasks → OutsOf m n k w ts labels ((takes place slot (count_of es) ++ (Exits label ∷ [])) ++ tasks)
+      outs_behind : OutsOf m n k w ts labels tasks → OutsOf m n k w ts labels ((operand_uses place slot (count_of es) ++ (Exits label ∷ [])) ++ tasks)
       outs_behind o =
-          outs_over m n (ap behind_raise (append_assoc (takes place slot (count_of es)) (Exits label ∷ []) tasks) ∙ takes_raising place slot (count_of es)
+          outs_over m n (ap behind_raise (append_assoc (operand_uses place slot (count_of es)) (Exits label ∷ []) tasks) ∙ takes_raising place slot (count_of es)
           (Exits label ∷ tasks))
-          (λ l. ap (behind_exit l) (append_assoc (takes place slot (count_of es)) (Exits label ∷ []) tasks) ∙ takes_exiting place slot (count_of es)
+          (λ l. ap (behind_exit l) (append_assoc (operand_uses place slot (count_of es)) (Exits label ∷ []) tasks) ∙ takes_exiting place slot (count_of es)
           (Exits label ∷ tasks) l) o
 
   alloc_form : (at header_at header : ℕ) (es : Expressions) → Waits m n defined es → Fills m n defined es → Claims (Alloc at header_at header es)
   alloc_form place header_at header es waits fills want k ts w b slot env scope labels vis next tasks valued tail d at ff fits value apart below y =
-      whole m n (Alloc place header_at header es) (Does (Passes place) ∷ (walk.filled scope free slot es ++ takes place slot (count_of es))) refl wait y.outs
+      whole m n (Alloc place header_at header es) (Does (Passes place) ∷ (walk.filled_slots scope free slot es ++ operand_uses place slot (count_of es))) refl wait y.outs
       (outs_behind y.outs)
-      (same_tasks (ap (λ us. Does (Passes place) ∷ us) (sym (append_assoc (walk.filled scope free slot es) (takes place slot (count_of es)) tasks)))
+      (same_tasks (ap (λ us. Does (Passes place) ∷ us) (sym (append_assoc (walk.filled_slots scope free slot es) (operand_uses place slot (count_of es)) tasks)))
       (alloc_sit m n place _ p refl (outs_kept m n wait.keeps (outs_filled y.outs))
       (λ away. header_sit m n header header_offset p q away refl
-      (fill.run _ (takes place slot (count_of es) ++ tasks) (outs_kept m n wait.keeps (outs_takes m n tasks place slot (count_of es) y.outs))
+      (fill.run _ (operand_uses place slot (count_of es) ++ tasks) (outs_kept m n wait.keeps (outs_takes m n tasks place slot (count_of es) y.outs))
       (cells_sit m n (chunk_for (nat_le (header % 256) 250)) p 0 (regs_of env row es) away
       (λ a. used_by m n tasks place slot (count_of es) (row_stands env es row slot w scene.low a))
       (ended m n want d' _ (plain_move m n p d') refl place slot (count_of es) (kept_then wait.keeps fill.keeps) (λ a. absurd (away (one_number m n a)))
@@ -260,10 +260,10 @@ module _ (m : Mach) (n : ℕ) (defined : List ℕ → Option DefinedSymbol) wher
       d' = inner_dest T b d
 
       p : Reg
-      p = fresh (suc b) ty.Val
+      p = fresh_register (suc b) ty.Val
 
       q : Reg
-      q = fresh (suc (suc b)) ty.Int
+      q = fresh_register (suc (suc b)) ty.Int
 
       row : ℕ
       row = suc (suc (suc b))
@@ -279,23 +279,23 @@ module _ (m : Mach) (n : ℕ) (defined : List ℕ → Option DefinedSymbol) wher
       wait = waits k ts w row slot env scope labels vis role.Taken (row + count_of es) free tt (omega arith) (omega arith) scene (right ff) fits.1.1
 
       fill : Step m n k ts labels (waited n (scopes env) row slot es w) (all_held n row slot es w) (select_filled env labels row (row + count_of es) es)
-          (walk.filled scope free slot es)
+          (walk.filled_slots scope free slot es)
       fill = fills k ts w row slot env scope labels vis role.Taken (row + count_of es) free tt (omega arith) (omega arith) scene (right ff) fits.1.1
 
-      outs_filled : OutsOf m n k w ts labels tasks → OutsOf m n k w ts labels (walk.filled scope free slot es ++ (takes place slot (count_of es) ++ tasks))
-      outs_filled o = outs_over m n (fill.raising (takes place slot (count_of es) ++ tasks)) (λ l. fill.exiting l (takes place slot (count_of es) ++ tasks))
+      outs_filled : OutsOf m n k w ts labels tasks → OutsOf m n k w ts labels (walk.filled_slots scope free slot es ++ (operand_uses place slot (count_of es) ++ tasks))
+      outs_filled o = outs_over m n (fill.raising (operand_uses place slot (count_of es) ++ tasks)) (λ l. fill.exiting l (operand_uses place slot (count_of es) ++ tasks))
           (outs_takes m n tasks place slot (count_of es) o)
 
       outs_behind : OutsOf m n k w ts labels tasks → OutsOf m n k w ts labels
-          ((Does (Passes place) ∷ (walk.filled scope free slot es ++ takes place slot (count_of es))) ++ tasks)
-      outs_behind o = outs_over m n (ap behind_raise (append_assoc (walk.filled scope free slot es) (takes place slot (count_of es)) tasks)) (λ l. ap
-          (behind_exit l) (append_assoc (walk.filled scope free slot es) (takes place slot (count_of es)) tasks)) (outs_filled o)
+          ((Does (Passes place) ∷ (walk.filled_slots scope free slot es ++ operand_uses place slot (count_of es))) ++ tasks)
+      outs_behind o = outs_over m n (ap behind_raise (append_assoc (walk.filled_slots scope free slot es) (operand_uses place slot (count_of es)) tasks)) (λ l. ap
+          (behind_exit l) (append_assoc (walk.filled_slots scope free slot es) (operand_uses place slot (count_of es)) tasks)) (outs_filled o)
 
   -- ---- scopes
 
   abbrev Lets : Bindings → Type 0
   Lets bs =
-      (body : Expression) → Claims body → (want : Bool) (k : ℕ) (ts : List ℕ) (w : Option ℕ) (b j slot : ℕ) (env : List Named) (scope : List Slotted)
+      (body : Expression) → Claims body → (want : Bool) (k : ℕ) (ts : List ℕ) (w : Option ℕ) (b j slot : ℕ) (env : List NamedRegister) (scope : List Slotted)
       (labels : List Label) (vis : List Visible) (next : List Instr) (tasks : List Task) (valued tail : Bool) (d : Reg) →
       Scene m n w b slot env scope labels vis → b + width_bound bs ≤ j →
       Faultless (bindings_faults defined (scopes env) vis bs) → BindingsFit (scopes env) bs →
@@ -322,7 +322,7 @@ module _ (m : Mach) (n : ℕ) (defined : List ℕ → Option DefinedSymbol) wher
       (omega (arith, lj)) (right fb) ib.1 ff fits value
       (λ q. hold_other n b slot w (λ h. omega (arith, q, h, below)) ∙ apart q) (omega (arith, below)) (takes_sit m n 0 0 0 (hold_kept slot none) y))))
     where
-      x : Named
+      x : NamedRegister
       x = bound_name env b name declared e
 
       bound : Slotted
@@ -331,8 +331,8 @@ module _ (m : Mach) (n : ℕ) (defined : List ℕ → Option DefinedSymbol) wher
       none : n ≡ b → w ≡ None
       none q = low_none at.low (omega (arith, q))
 
-      kind : x.reg.comp ≡ comp_of (type_bound declared (type_of (names scope) e))
-      kind = ap (λ sc. comp_of (type_bound declared (type_of sc e))) (sym (paired_names at.paired))
+      kind : x.reg.comp ≡ comp_of_type (type_bound declared (type_of (names scope) e))
+      kind = ap (λ sc. comp_of_type (type_bound declared (type_of sc e))) (sym (paired_names at.paired))
 
       back : hold n b slot w ≡ Some slot → b ≡ n
       back q = ⊎_elim (λ h. sym h) (λ h. let z = at.low slot (sym (hold_other n b slot w h) ∙ q) in let l = z.1 in absurd (omega (arith, l))) (same_or n b)
@@ -363,11 +363,11 @@ module _ (m : Mach) (n : ℕ) (defined : List ℕ → Option DefinedSymbol) wher
 
   abbrev Seqs : Expressions → Type 0
   Seqs es =
-      (want : Bool) (k : ℕ) (ts : List ℕ) (w : Option ℕ) (b slot : ℕ) (env : List Named) (scope : List Slotted) (labels : List Label) (vis : List Visible)
+      (want : Bool) (k : ℕ) (ts : List ℕ) (w : Option ℕ) (b slot : ℕ) (env : List NamedRegister) (scope : List Slotted) (labels : List Label) (vis : List Visible)
       (next : List Instr) (tasks : List Task) (valued tail : Bool) (d : Reg) → Scene m n w b slot env scope labels vis →
       Faultless (row_faults role.Visited defined (scopes env) vis es) → RowFits (scopes env) es →
       Wanted m n want (type_of_last (scopes env) es) → ApartFrom m n d w → d.number < b → Sit m n (out m n want d) k w ts labels next tasks →
-      Sit m n [] k w ts labels (select_seq env labels valued tail d b es next) (in_order scope slot es ++ tasks)
+      Sit m n [] k w ts labels (select_seq env labels valued tail d b es next) (tasks_in_order scope slot es ++ tasks)
 
   no_seq : Seqs NoMore
   no_seq true k ts w b slot env scope labels vis next tasks valued tail d at ff fits value apart below y = absurd (value refl)
@@ -380,7 +380,7 @@ module _ (m : Mach) (n : ℕ) (defined : List ℕ → Option DefinedSymbol) wher
 
   more_seq : (e h : Expression) (rest : Expressions) → Claims e → Seqs (More h rest) → Seqs (More e (More h rest))
   more_seq e h rest claim others want k ts w b slot env scope labels vis next tasks valued tail d at ff fits value apart below y =
-      of_claim m n defined false e (claim false) false false (fresh b (type_of (scopes env) e)) (at_more m n (omega arith) (omega arith) at)
+      of_claim m n defined false e (claim false) false false (fresh_register b (type_of (scopes env) e)) (at_more m n (omega arith) (omega arith) at)
       (left (left ff)) fits.0 tt (λ q. low_none at.low (omega (arith, q))) (omega arith)
       (others want k ts w (suc (b + width e)) slot env scope labels vis next tasks valued tail d (at_more m n (omega arith) (omega arith) at)
       (right ff) fits.1 value apart (omega (arith, below)) y)

@@ -15,11 +15,11 @@ use Rattle.cmm_types.specs.Standing.{Visible}
 use Rattle.cmm_types.specs.Gathered.{faults_in}
 use Rattle.cmm_types.specs.declared.role.Role.TheVariants as role
 use Rattle.cmm_meaning.specs.Evaluation.{is_left_first}
-use Rattle.walk_tables.specs.Walks.{Binds, Uses, Task, Does, Evaluates, OneOf, Slotted, names, takes, operand, all_operands, two, bodies}
+use Rattle.walk_tables.specs.Walks.{Binds, Uses, Task, Does, Evaluates, OneOf, Slotted, names, operand_uses, operand, all_operands, two_expressions, bodies}
 use Rattle.walk_tables.specs.Walks as walk
 use Rattle.mach_ir.specs.Acts.{Target, On, At}
 use Rattle.mach_ir.specs.Meaning.{code_at}
-use Rattle.mach_ir.specs.Walks.{Among, this, other}
+use Rattle.mach_ir.specs.Walks.{AmongRegisters, this, other}
 use Rattle.mach_ir.specs.Walks as mach
 use Rattle.mach_ir.specs.declared.mach.Instr.{Instr}
 use Rattle.mach_ir.specs.declared.mach.Mach.{Mach}
@@ -29,8 +29,8 @@ use Rattle.mach_ir.specs.declared.mach.Test.{Test}
 use Rattle.mach_ir.specs.declared.mach.Test.TheVariants as test
 use Rattle.mach_ir.specs.declared.reg.Reg.{Reg}
 use Rattle.selection_rules.specs.Instructions as emit
-use Rattle.selection_rules.specs.Instructions.{bare}
-use Rattle.selection_rules.specs.Select.{Shape, InRegisters, ConstantRight, ConstantLeft, PowerRight, shape_of, shape_op, shape_right, shape_args, unless_left, unless_right, comparison, tested, Named, Label, scopes, comp_of, fresh, ordered, inner_dest, inner_valued, width, count_cases, switch_labels, select, select_test, select_cases, Code}
+use Rattle.selection_rules.specs.Instructions.{bare_mark}
+use Rattle.selection_rules.specs.Select.{OperandShape, InRegisters, ConstantRight, ConstantLeft, PowerRight, operation_shape, shape_op, shape_right, shape_args, unless_left, unless_right, comparison, fused_test, NamedRegister, Label, scopes, comp_of_type, fresh_register, ordered, inner_dest, inner_valued, width, count_cases, switch_labels, select, select_test, select_cases, Code}
 use Rattle.selection_rules.proofs.Parts.{Placed, placed_in, placed_next, WellLabelled}
 use Rattle.selection_rules.proofs.Endings.{ending_select}
 use Rattle.selection_laws.proofs.Accepting.{left, right}
@@ -46,21 +46,21 @@ use Rattle.selection_walks.proofs.Branches.{fork_sit, past_sit, end_sit, Chooses
 
 module _ (m : Mach) (n : ℕ) (defined : List ℕ → Option DefinedSymbol) where
   -- two operands, of which one may be a constant of the instruction
-  pub record Shaped (k : ℕ) (ts : List ℕ) (labels : List Label) (w : Option ℕ) (slot : ℕ) (code : Code) (us : List Task) (s : Shape) (x y : Reg) : Type 0 where
+  pub record Shaped (k : ℕ) (ts : List ℕ) (labels : List Label) (w : Option ℕ) (slot : ℕ) (code : Code) (us : List Task) (s : OperandShape) (x y : Reg) : Type 0 where
     pub v : Option ℕ
     pub step : Step m n k ts labels w v code us
-    pub reads : ((e : ℕ) → s ≡ PowerRight e → ⊥) → Among n (shape_args s x y) → Stood v slot 2
+    pub reads : ((e : ℕ) → s ≡ PowerRight e → ⊥) → AmongRegisters n (shape_args s x y) → Stood v slot 2
     pub lefts : (e : ℕ) → s ≡ PowerRight e → n ≡ x.number → Stood v slot 2
 
-  pub shaped : {k : ℕ} {ts : List ℕ} {w : Option ℕ} {b slot : ℕ} {env : List Named} {scope : List Slotted} {labels : List Label} {vis : List Visible}
+  pub shaped : {k : ℕ} {ts : List ℕ} {w : Option ℕ} {b slot : ℕ} {env : List NamedRegister} {scope : List Slotted} {labels : List Label} {vis : List Visible}
       (op : IntOp) (l r : Expression) → Claim m n defined true l → Claim m n defined true r → (i j : ℕ) → suc (suc b) ≤ i → suc (suc b) ≤ j →
       Scene m n w b slot env scope labels vis →
       Faultless (faults_in defined (scopes env) vis l) → Fits (scopes env) l → (type_of (scopes env) l ≡ ty.NoValue → ⊥) →
-      Faultless (faults_in defined (scopes env) vis r) → Fits (scopes env) r → (type_of (scopes env) r ≡ ty.NoValue → ⊥) → (s : Shape) →
-      shape_of op l r ≡ s →
-      Shaped k ts labels w slot (ordered (is_left_first (scopes env) l r) (unless_left s (select env labels false false (fresh b (type_of (scopes env) l)) i l))
-      (unless_right s (select env labels false false (fresh (suc b) (type_of (scopes env) r)) j r))) (all_operands scope slot (two l r)) s
-      (fresh b (type_of (scopes env) l)) (fresh (suc b) (type_of (scopes env) r))
+      Faultless (faults_in defined (scopes env) vis r) → Fits (scopes env) r → (type_of (scopes env) r ≡ ty.NoValue → ⊥) → (s : OperandShape) →
+      operation_shape op l r ≡ s →
+      Shaped k ts labels w slot (ordered (is_left_first (scopes env) l r) (unless_left s (select env labels false false (fresh_register b (type_of (scopes env) l)) i l))
+      (unless_right s (select env labels false false (fresh_register (suc b) (type_of (scopes env) r)) j r))) (all_operands scope slot (two_expressions l r)) s
+      (fresh_register b (type_of (scopes env) l)) (fresh_register (suc b) (type_of (scopes env) r))
   shaped {w = w} {b = b} {slot = slot} op l r cl cr i j li lj at fl il vl fr ir vr (ConstantRight q) e =
       record {
         v = hold n b slot w;
@@ -107,12 +107,12 @@ module _ (m : Mach) (n : ℕ) (defined : List ℕ → Option DefinedSymbol) wher
   -- where the branch of a condition goes, for whatever it reads
   abbrev pub Forked : ℕ → List ℕ → List Label → Option ℕ → ℕ → List Instr → List Task → Type 0
   Forked k ts labels w l code mid =
-      (v : Option ℕ) (more : List Task) (t : Test) (args : List Reg) → (Among n args → Told Passed v more) → ((p : Phase) → Told p w mid → Told p v more) →
+      (v : Option ℕ) (more : List Task) (t : Test) (args : List Reg) → (AmongRegisters n args → Told Passed v more) → ((p : Phase) → Told p w mid → Told p v more) →
       OutsOf m n k v ts labels more → Sit m n [] k v ts labels (emit.branch t l args ∷ code) more
 
   abbrev pub Tests : Expression → Type 0
   Tests c =
-      (k : ℕ) (ts : List ℕ) (w : Option ℕ) (b slot : ℕ) (env : List Named) (scope : List Slotted) (labels : List Label) (vis : List Visible) (l at : ℕ)
+      (k : ℕ) (ts : List ℕ) (w : Option ℕ) (b slot : ℕ) (env : List NamedRegister) (scope : List Slotted) (labels : List Label) (vis : List Visible) (l at : ℕ)
       (value code : List Instr) (mid : List Task) → Low n w b slot → Scene m n w b (slot + 1) env scope labels vis →
       Faultless (faults_in defined (scopes env) vis c) → Fits (scopes env) c →
       Forked k ts labels w l code mid → OutsOf m n k w ts labels mid →
@@ -123,20 +123,20 @@ module _ (m : Mach) (n : ℕ) (defined : List ℕ → Option DefinedSymbol) wher
   operator_test place op l r cl cr k ts w b slot env scope labels vis end at value code mid low scene ff fits fork o val =
       by (comparison (shape_op s op) (shape_right s)) refl
     where
-      s : Shape
-      s = shape_of op l r
+      s : OperandShape
+      s = operation_shape op l r
 
       x : Reg
-      x = fresh (suc b) (type_of (scopes env) l)
+      x = fresh_register (suc b) (type_of (scopes env) l)
 
       y : Reg
-      y = fresh (suc (suc b)) (type_of (scopes env) r)
+      y = fresh_register (suc (suc b)) (type_of (scopes env) r)
 
       rest : List Task
       rest = Does (Binds slot (is_address (type_of (names scope) (Operator place op l r))) place) ∷ Does (Uses slot at) ∷ mid
 
       sh : Shaped k ts labels w (slot + 1) (ordered (is_left_first (scopes env) l r) (unless_left s (select env labels false false x (suc (suc (suc b))) l))
-          (unless_right s (select env labels false false y (suc (suc (suc b)) + width l) r))) (all_operands scope (slot + 1) (two l r)) s x y
+          (unless_right s (select env labels false false y (suc (suc (suc b)) + width l) r))) (all_operands scope (slot + 1) (two_expressions l r)) s x y
       sh =
           shaped op l r cl cr (suc (suc (suc b))) (suc (suc (suc b)) + width l) (omega arith) (omega arith) (at_more m n (omega arith) (omega arith) scene)
           (left (left ff)) fits.0 (has_value role.Taken tt _ _ (right (left ff))) (left (right ff)) fits.1 (has_value role.Taken tt _ _ (right (right ff)))
@@ -149,37 +149,37 @@ module _ (m : Mach) (n : ℕ) (defined : List ℕ → Option DefinedSymbol) wher
           none_test t e = cc
 
       by : (t : Option Test) → comparison (shape_op s op) (shape_right s) ≡ t →
-          Sit m n [] k w ts labels (tested t
+          Sit m n [] k w ts labels (fused_test t
           (λ t. ordered (is_left_first (scopes env) l r) (unless_left s (select env labels false false x (suc (suc (suc b))) l))
           (unless_right s (select env labels false false y (suc (suc (suc b)) + width l) r)) (emit.branch t end (shape_args s x y) ∷ code)) value)
           (Evaluates scope (slot + 1) (Operator place op l r) ∷ rest)
       by None z = val
       by (Some t) z =
           let step = sh.step in
-          whole m n {v = sh.v} (Operator place op l r) (takes place (slot + 1) 2) refl step o (outs_takes m n rest place (slot + 1) 2 o)
-          (fork sh.v (takes place (slot + 1) 2 ++ rest) t (shape_args s x y) (λ a. used_by m n {v = sh.v} rest place (slot + 1) 2 (sh.reads (not_power t z) a))
+          whole m n {v = sh.v} (Operator place op l r) (operand_uses place (slot + 1) 2) refl step o (outs_takes m n rest place (slot + 1) 2 o)
+          (fork sh.v (operand_uses place (slot + 1) 2 ++ rest) t (shape_args s x y) (λ a. used_by m n {v = sh.v} rest place (slot + 1) 2 (sh.reads (not_power t z) a))
           (λ p u. through_takes m n p place (slot + 1) 2
           (grown p w sh.v step.keeps
           (skipped (apart_binds p w slot _ _ (λ i e q. let z = low i e in let j = z.1 in omega (arith, j, q))) (skipped (apart_uses p w slot at) u))))
           (outs_takes m n rest place (slot + 1) 2 (outs_kept m n step.keeps o)))
 
-  pub other_test : (c : Expression) → ((env : List Named) (labels : List Label) (l b : ℕ) (value next : List Instr) →
+  pub other_test : (c : Expression) → ((env : List NamedRegister) (labels : List Label) (l b : ℕ) (value next : List Instr) →
       select_test env labels l b c value next ≡ value) → Tests c
   other_test c e k ts w b slot env scope labels vis l at value code mid low scene ff fits fork o val =
       subst (λ z. Sit m n [] k w ts labels z (operand scope (slot + 1) slot c ++ (Does (Uses slot at) ∷ mid))) (sym (e env labels l b value code)) val
 
   -- the value of a condition, which is used at once
-  single : {k : ℕ} {ts : List ℕ} {w : Option ℕ} {b slot : ℕ} {env : List Named} {scope : List Slotted} {labels : List Label} {vis : List Visible}
+  single : {k : ℕ} {ts : List ℕ} {w : Option ℕ} {b slot : ℕ} {env : List NamedRegister} {scope : List Slotted} {labels : List Label} {vis : List Visible}
       {next : List Instr} {mid : List Task} (c : Expression) → Claim m n defined true c → (i at : ℕ) → suc b < i → Scene m n w b slot env scope labels vis →
       Faultless (faults_in defined (scopes env) vis c) → Fits (scopes env) c → (type_of (scopes env) c ≡ ty.NoValue → ⊥) →
       OutsOf m n k w ts labels mid → Sit m n [] k (hold n (suc b) slot w) ts labels next (Does (Uses slot at) ∷ mid) →
-      Sit m n [] k w ts labels (select env labels false false (fresh (suc b) (type_of (scopes env) c)) i c next)
+      Sit m n [] k w ts labels (select env labels false false (fresh_register (suc b) (type_of (scopes env) c)) i c next)
       (operand scope (slot + 1) slot c ++ (Does (Uses slot at) ∷ mid))
   single {w = w} {b = b} {slot = slot} {env = env} {scope = scope} {vis = vis} c claim i at li scene ff fits value o y =
-      of_claim m n defined true c claim false false (fresh (suc b) (type_of (scopes env) c)) (at_more m n (omega (arith, li)) (omega arith) scene) ff fits
+      of_claim m n defined true c claim false false (fresh_register (suc b) (type_of (scopes env) c)) (at_more m n (omega (arith, li)) (omega arith) scene) ff fits
       (has_one defined (scopes env) vis c ff value) (λ e. low_none scene.low (omega (arith, e))) li
-      (binding m n (fresh (suc b) (type_of (scopes env) c)) (type_of (names scope) c) slot (place_of c)
-      (ap (λ sc. comp_of (type_of sc c)) (sym (paired_names scene.paired))) (λ s e q. let z = scene.low s e in let l = z.1 in omega (arith, l, q))
+      (binding m n (fresh_register (suc b) (type_of (scopes env) c)) (type_of (names scope) c) slot (place_of c)
+      (ap (λ sc. comp_of_type (type_of sc c)) (sym (paired_names scene.paired))) (λ s e q. let z = scene.low s e in let l = z.1 in omega (arith, l, q))
       (hold_other n (suc b) slot w) (hold_same n (suc b) slot w) o y)
 
   -- where it is a light address it comes last, which is the same
@@ -215,7 +215,7 @@ module _ (m : Mach) (n : ℕ) (defined : List ℕ → Option DefinedSymbol) wher
         d' = inner_dest T b d
 
         t : Reg
-        t = fresh (suc b) (type_of (scopes env) c)
+        t = fresh_register (suc b) (type_of (scopes env) c)
 
         l : ℕ
         l = suc (suc b)
@@ -230,13 +230,13 @@ module _ (m : Mach) (n : ℕ) (defined : List ℕ → Option DefinedSymbol) wher
         wants = inner_valued valued T
 
         last : List Instr
-        last = bare (mark.End end) ∷ next
+        last = bare_mark (mark.End end) ∷ next
 
         false_code : List Instr
         false_code = select env labels wants tail d' (base + width c + width a) e last
 
         else_code : List Instr
-        else_code = bare (mark.Else l end) ∷ false_code
+        else_code = bare_mark (mark.Else l end) ∷ false_code
 
         true_code : List Instr
         true_code = select env labels wants tail d' (base + width c) a else_code
@@ -299,7 +299,7 @@ module _ (m : Mach) (n : ℕ) (defined : List ℕ → Option DefinedSymbol) wher
         d' = inner_dest T b d
 
         x : Reg
-        x = fresh (suc b) (type_of (scopes env) c)
+        x = fresh_register (suc b) (type_of (scopes env) c)
 
         l : ℕ
         l = suc (suc (suc b))
@@ -312,7 +312,7 @@ module _ (m : Mach) (n : ℕ) (defined : List ℕ → Option DefinedSymbol) wher
 
         code : List Instr
         code = select_cases env labels (inner_valued valued T) tail d' (switch_labels l cases 0 size) (suc (suc b)) l (base + width c) cases
-            (bare (mark.End (suc (suc b))) ∷ next)
+            (bare_mark (mark.End (suc (suc b))) ∷ next)
 
         y' : Sit m n (out m n want d') k w ts labels next tasks
         y' = inner m n want T b d (wanted_typed m n want (holds_float (Switch place size_at size c cases))

@@ -3,10 +3,10 @@ use Rattle.std.proofs.Common.{◌≡◌, ℕ, zero, suc, Bool, true, false, ◌�
 use Rattle.std.specs.Prelude.{length}
 use Rattle.bs_words.specs.declared.types.Comp.TheVariants as comp
 use Rattle.cmm_tree.specs.Tree.{LabelTree}
-use Rattle.walk_tables.specs.Walks.{Task, behind_raise, behind_exit, takes}
+use Rattle.walk_tables.specs.Walks.{Task, behind_raise, behind_exit, operand_uses}
 use Rattle.mach_ir.specs.Acts.{On}
 use Rattle.mach_ir.specs.Meaning.{passes_frame, tries_at}
-use Rattle.mach_ir.specs.Walks.{Among, first, later, targets, may_raise}
+use Rattle.mach_ir.specs.Walks.{AmongRegisters, first, later, targets, may_raise}
 use Rattle.mach_ir.specs.declared.mach.Instr.{Instr}
 use Rattle.mach_ir.specs.declared.mach.Mach.{Mach}
 use Rattle.mach_ir.specs.declared.reg.Reg.{Reg}
@@ -17,11 +17,11 @@ use Rattle.selection_walks.proofs.Phases.{Phase, Early, Bound, Passed, Off, off_
 use Rattle.selection_walks.proofs.Situations.{raised_at, OutsOf, outs_kept, Sit, sit, go, no_written, one_number, out, ApartFrom, finish, through_takes, taken}
 use Rattle.selection_walks.proofs.Operands.{Stood, outs_over}
 
-pub takes_raising : (at slot count : ℕ) (tasks : List Task) → behind_raise (takes at slot count ++ tasks) ≡ behind_raise tasks
+pub takes_raising : (at slot count : ℕ) (tasks : List Task) → behind_raise (operand_uses at slot count ++ tasks) ≡ behind_raise tasks
 takes_raising at slot zero tasks = refl
 takes_raising at slot (suc count) tasks = takes_raising at (suc slot) count tasks
 
-pub takes_exiting : (at slot count : ℕ) (tasks : List Task) (label : LabelTree) → behind_exit label (takes at slot count ++ tasks) ≡ behind_exit label tasks
+pub takes_exiting : (at slot count : ℕ) (tasks : List Task) (label : LabelTree) → behind_exit label (operand_uses at slot count ++ tasks) ≡ behind_exit label tasks
 takes_exiting at slot zero tasks label = refl
 takes_exiting at slot (suc count) tasks label = takes_exiting at (suc slot) count tasks label
 
@@ -34,17 +34,17 @@ pub record IsPlain (i : Instr) : Type 0 where
 
 module _ (m : Mach) (n : ℕ) where
   pub outs_takes : {k : ℕ} {w : Option ℕ} {ts : List ℕ} {labels : List Label} (tasks : List Task) (at slot count : ℕ) → OutsOf m n k w ts labels tasks →
-      OutsOf m n k w ts labels (takes at slot count ++ tasks)
+      OutsOf m n k w ts labels (operand_uses at slot count ++ tasks)
   outs_takes tasks at slot count o = outs_over m n (takes_raising at slot count tasks) (λ label. takes_exiting at slot count tasks label) o
 
-  pub used_by : {v : Option ℕ} (tasks : List Task) (at slot count : ℕ) → Stood v slot count → Told Passed v (takes at slot count ++ tasks)
+  pub used_by : {v : Option ℕ} (tasks : List Task) (at slot count : ℕ) → Stood v slot count → Told Passed v (operand_uses at slot count ++ tasks)
   used_by tasks at slot count x = taken m n tasks at slot count x.index x.within x.is
 
   -- the last instruction of a node writes the destination
   pub ended : {k : ℕ} {ts : List ℕ} {labels : List Label} {w v : Option ℕ} {next : List Instr} {tasks : List Task} (want : Bool) (d : Reg) (i : Instr) →
-      IsPlain i → i.results ≡ d ∷ [] → (at slot count : ℕ) → Kept w v → (Among n i.args → Stood v slot count) → ApartFrom m n d w →
+      IsPlain i → i.results ≡ d ∷ [] → (at slot count : ℕ) → Kept w v → (AmongRegisters n i.args → Stood v slot count) → ApartFrom m n d w →
       Sit m n (out m n want d) k w ts labels next tasks →
-      Sit m n [] k v ts labels (i ∷ next) (takes at slot count ++ tasks)
+      Sit m n [] k v ts labels (i ∷ next) (operand_uses at slot count ++ tasks)
   ended {w = w} {v = v} {next = next} {tasks = tasks} want d i plain e at slot count keeps reads apart x =
       sit m n
       (λ placed p z. finish m n want d x apart e (placed_next (plain.tries next) placed) (λ a. used_by tasks at slot count (reads a))
@@ -53,7 +53,7 @@ module _ (m : Mach) (n : ℕ) where
 
   -- an instruction writes a register that holds no address
   pub apart_sit : {k : ℕ} {ts : List ℕ} {labels : List Label} {v : Option ℕ} {next : List Instr} {tasks : List Task} (q : Reg) (i : Instr) → IsPlain i →
-      i.results ≡ q ∷ [] → (q.comp ≡ comp.Addr → ⊥) → (Among n i.args → Told Passed v tasks) → OutsOf m n k v ts labels tasks →
+      i.results ≡ q ∷ [] → (q.comp ≡ comp.Addr → ⊥) → (AmongRegisters n i.args → Told Passed v tasks) → OutsOf m n k v ts labels tasks →
       ((n ≡ q.number → ⊥) → Sit m n [] k v ts labels next tasks) → Sit m n [] k v ts labels (i ∷ next) tasks
   apart_sit {k} {ts} {labels} {v = v} {next = next} {tasks = tasks} q i plain e kind reads o f =
       sit m n (λ placed p z. by p (placed_next (plain.tries next) placed) (straight plain.on plain.calm plain.inside z)) o
@@ -69,7 +69,7 @@ module _ (m : Mach) (n : ℕ) where
 
   -- one that writes nothing
   pub mute_sit : {k : ℕ} {ts : List ℕ} {labels : List Label} {v : Option ℕ} {next : List Instr} {tasks : List Task} (i : Instr) → IsPlain i → i.results ≡ [] →
-      (Among n i.args → Told Passed v tasks) → Sit m n [] k v ts labels next tasks → Sit m n [] k v ts labels (i ∷ next) tasks
+      (AmongRegisters n i.args → Told Passed v tasks) → Sit m n [] k v ts labels next tasks → Sit m n [] k v ts labels (i ∷ next) tasks
   mute_sit {k} {ts} {v = v} {next = next} {tasks = tasks} i plain e reads x =
       sit m n (λ placed p z. by p (placed_next (plain.tries next) placed) (straight plain.on plain.calm plain.inside z)) x.outs
     where
@@ -93,11 +93,11 @@ module _ (m : Mach) (n : ℕ) where
         outs = x.outs;
       }
     where
-      either : (Among n D → ⊥) → (Among n (d ∷ []) → ⊥) → Among n (d ∷ D) → ⊥
+      either : (AmongRegisters n D → ⊥) → (AmongRegisters n (d ∷ []) → ⊥) → AmongRegisters n (d ∷ D) → ⊥
       either f g (first e) = g (first e)
       either f g (later i) = f i
 
-      apart : (p : Phase) → Off p (Among n D) → Off p (Among n (d ∷ [])) → Off p (Among n (d ∷ D))
+      apart : (p : Phase) → Off p (AmongRegisters n D) → Off p (AmongRegisters n (d ∷ [])) → Off p (AmongRegisters n (d ∷ D))
       apart Early f g = tt
       apart Bound f g = either f g
       apart Passed f g = either f g
@@ -106,7 +106,7 @@ module _ (m : Mach) (n : ℕ) where
       one (here e c) = here e c
       one (there i) = absurd (no_written m n i)
 
-      of_cont : (p : Phase) → Placed m ts next → Off p (Among n D) → Past m n k (emit.move a d) next p → Told p w tasks
+      of_cont : (p : Phase) → Placed m ts next → Off p (AmongRegisters n D) → Past m n k (emit.move a d) next p → Told p w tasks
       of_cont p placed f (read_here i) = reads (one_number m n i)
       of_cont p placed f (kept_on c g z) = x.cont placed p (apart p f g) z
       of_cont p placed f (wrote_it g z) = x.given placed (one g) z
@@ -116,7 +116,7 @@ module _ (m : Mach) (n : ℕ) where
 
   -- moves into registers at once
   pub moves_sit : {k : ℕ} {ts : List ℕ} {labels : List Label} {w : Option ℕ} {tasks : List Task} (from to : List Reg) (next : List Instr) →
-      length from ≡ length to → Sit m n to k w ts labels next tasks → (Among n from → Told Passed w tasks) →
+      length from ≡ length to → Sit m n to k w ts labels next tasks → (AmongRegisters n from → Told Passed w tasks) →
       Sit m n [] k w ts labels (moves_all from to next) tasks
   moves_sit [] [] next e x reads = x
   moves_sit [] (d ∷ to) next e x reads = absurd (ne e)
@@ -144,7 +144,7 @@ module _ (m : Mach) (n : ℕ) where
       number (here e c) = sym e
       number (there i) = absurd (no_written m n i)
 
-      of_cont : (want : Bool) → Sit m n (out m n want d) k w ts labels next tasks → (p : Phase) → Placed m ts next → Off p (Among n (s ∷ [])) →
+      of_cont : (want : Bool) → Sit m n (out m n want d) k w ts labels next tasks → (p : Phase) → Placed m ts next → Off p (AmongRegisters n (s ∷ [])) →
           Past m n k (emit.move s d) next p → Told p w tasks
       of_cont want x p placed f (read_here i) = absurd (f i)
       of_cont true x p placed f (kept_on c g z) = x.cont placed p g z
@@ -168,17 +168,17 @@ module _ (m : Mach) (n : ℕ) where
   pub met : {k : ℕ} {ts : List ℕ} {labels : List Label} {w : Option ℕ} {next : List Instr} {tasks more : List Task} {p : Phase} {D : List Reg} (i : Instr) →
       targets i.op ≡ On ∷ [] → tries_at (i ∷ next) ≡ tries_at next → i.results ≡ D → Sit m n D k w ts labels next tasks → Meets i w tasks more →
       Placed m ts (i ∷ next) →
-      Ahead m n k p (i ∷ next) → ((p ≡ Passed) × Among n i.args) ⊎ Told p w more
+      Ahead m n k p (i ∷ next) → ((p ≡ Passed) × AmongRegisters n i.args) ⊎ Told p w more
   met {k} {ts} {w = w} {next = next} {tasks = tasks} {more = more} {D = D} i on tr e x meets placed z = by (onward on z)
     where
       below : Placed m ts next
       below = placed_next tr placed
 
-      by : {p : Phase} → Onward m n k i next p → ((p ≡ Passed) × Among n i.args) ⊎ Told p w more
+      by : {p : Phase} → Onward m n k i next p → ((p ≡ Passed) × AmongRegisters n i.args) ⊎ Told p w more
       by (simply (read_here a)) = inl (refl, a)
-      by (simply (kept_on {p = p} a o y)) = inr (meets.stays p (x.cont below p (off_less p (λ u. subst (Among n) (sym e) u) o) y))
+      by (simply (kept_on {p = p} a o y)) = inr (meets.stays p (x.cont below p (off_less p (λ u. subst (AmongRegisters n) (sym e) u) o) y))
       by (simply (wrote_it a y)) = inr (meets.stays Early (x.given below (subst (Written n) e a) y))
-      by (crossed e' f y) = inr (meets.crossing e' (x.cont below Passed (λ u. f (subst (Among n) (sym e) u)) y))
+      by (crossed e' f y) = inr (meets.crossing e' (x.cont below Passed (λ u. f (subst (AmongRegisters n) (sym e) u)) y))
       by (flew {q = q} {l = l} {tries = tries} mr t f y) = let u = x.outs in let r =
           raised_at m n l tries u.raised (sym placed.caught ∙ t) in inr (meets.flying mr r.0 r.1 f (r.2 q y))
 
@@ -186,8 +186,8 @@ module _ (m : Mach) (n : ℕ) where
   pub calling : {k : ℕ} {ts : List ℕ} {labels : List Label} {w v : Option ℕ} {next : List Instr} {tasks more : List Task} {D S : List Reg} (i : Instr) →
       targets i.op ≡ On ∷ [] → ((next : List Instr) → tries_at (i ∷ next) ≡ tries_at next) → i.results ≡ D → Sit m n D k w ts labels next tasks →
       Meets i w tasks more →
-      Kept w v → (at slot count : ℕ) → (Among n i.args → (Among n S → ⊥) → Stood v slot count) → (Among n S → w ≡ None) → OutsOf m n k w ts labels more →
-      Sit m n S k v ts labels (i ∷ next) (takes at slot count ++ more)
+      Kept w v → (at slot count : ℕ) → (AmongRegisters n i.args → (AmongRegisters n S → ⊥) → Stood v slot count) → (AmongRegisters n S → w ≡ None) → OutsOf m n k w ts labels more →
+      Sit m n S k v ts labels (i ∷ next) (operand_uses at slot count ++ more)
   calling {k} {w = w} {v = v} {next = next} {more = more} {S = S} i on tr e x meets keeps at slot count reads apart o =
       record {
         cont = λ placed p f z. of_cont p f (met i on (tr next) e x meets placed z);
@@ -195,7 +195,7 @@ module _ (m : Mach) (n : ℕ) where
         outs = outs_takes more at slot count (outs_kept m n keeps o);
       }
     where
-      of_cont : (p : Phase) → Off p (Among n S) → ((p ≡ Passed) × Among n i.args) ⊎ Told p w more → Told p v (takes at slot count ++ more)
+      of_cont : (p : Phase) → Off p (AmongRegisters n S) → ((p ≡ Passed) × AmongRegisters n i.args) ⊎ Told p w more → Told p v (operand_uses at slot count ++ more)
       of_cont p f (inr t) = through_takes m n p at slot count (grown p w v keeps t)
       of_cont Passed f (inl a) = used_by more at slot count (reads a.1 f)
       of_cont Early f (inl a) = absurd (ne a.0)
@@ -207,7 +207,7 @@ module _ (m : Mach) (n : ℕ) where
           ne : Bound ≡ Passed → ⊥
           ne e = cc
 
-      of_given : Written n S → ((Bound ≡ Passed) × Among n i.args) ⊎ Told Bound w more → Told Early v (takes at slot count ++ more)
+      of_given : Written n S → ((Bound ≡ Passed) × AmongRegisters n i.args) ⊎ Told Bound w more → Told Early v (operand_uses at slot count ++ more)
       of_given f (inr t) = absurd (bound_none w (apart (written_among f)) t)
       of_given f (inl a) = absurd (ne a.0)
         where
@@ -217,9 +217,9 @@ module _ (m : Mach) (n : ℕ) where
   -- one that leaves the function, or raises in it
   pub leaving : {k : ℕ} {ts : List ℕ} {labels : List Label} {w v : Option ℕ} {next : List Instr} {more : List Task} {S : List Reg} (i : Instr) →
       targets i.op ≡ [] → passes_frame i.op ≡ false → tries_at (i ∷ next) ≡ tries_at next → Kept w v → (at slot count : ℕ) →
-      (Among n i.args → (Among n S → ⊥) → Stood v slot count) →
-      (Among n S → w ≡ None) → (may_raise i.op ≡ true → (h : List Task) → behind_raise more ≡ Some h → (p : Phase) → Told p w h → Told p w more) →
-      OutsOf m n k w ts labels more → Sit m n S k v ts labels (i ∷ next) (takes at slot count ++ more)
+      (AmongRegisters n i.args → (AmongRegisters n S → ⊥) → Stood v slot count) →
+      (AmongRegisters n S → w ≡ None) → (may_raise i.op ≡ true → (h : List Task) → behind_raise more ≡ Some h → (p : Phase) → Told p w h → Told p w more) →
+      OutsOf m n k w ts labels more → Sit m n S k v ts labels (i ∷ next) (operand_uses at slot count ++ more)
   leaving {k} {ts} {w = w} {v = v} {next = next} {more = more} {S = S} i on pf tr keeps at slot count reads apart flying o =
       record {
         cont = λ placed p f z. of_cont p f (left placed (leaves on pf z));
@@ -227,12 +227,12 @@ module _ (m : Mach) (n : ℕ) where
         outs = outs_takes more at slot count (outs_kept m n keeps o);
       }
     where
-      left : {p : Phase} → Placed m ts (i ∷ next) → Leaving m n k i next p → ((p ≡ Passed) × Among n i.args) ⊎ Told p w more
+      left : {p : Phase} → Placed m ts (i ∷ next) → Leaving m n k i next p → ((p ≡ Passed) × AmongRegisters n i.args) ⊎ Told p w more
       left placed (read_last a) = inl (refl, a)
       left placed (flew_off {p = p} {l = l} {tries = tries} mr t y) = let r =
           raised_at m n l tries o.raised (sym placed.caught ∙ t) in inr (flying mr r.0 r.1 p (r.2 p y))
 
-      of_cont : (p : Phase) → Off p (Among n S) → ((p ≡ Passed) × Among n i.args) ⊎ Told p w more → Told p v (takes at slot count ++ more)
+      of_cont : (p : Phase) → Off p (AmongRegisters n S) → ((p ≡ Passed) × AmongRegisters n i.args) ⊎ Told p w more → Told p v (operand_uses at slot count ++ more)
       of_cont p f (inr t) = through_takes m n p at slot count (grown p w v keeps t)
       of_cont Passed f (inl a) = used_by more at slot count (reads a.1 f)
       of_cont Early f (inl a) = absurd (ne a.0)
@@ -244,7 +244,7 @@ module _ (m : Mach) (n : ℕ) where
           ne : Bound ≡ Passed → ⊥
           ne e = cc
 
-      of_given : Written n S → ((Bound ≡ Passed) × Among n i.args) ⊎ Told Bound w more → Told Early v (takes at slot count ++ more)
+      of_given : Written n S → ((Bound ≡ Passed) × AmongRegisters n i.args) ⊎ Told Bound w more → Told Early v (operand_uses at slot count ++ more)
       of_given f (inr t) = absurd (bound_none w (apart (written_among f)) t)
       of_given f (inl a) = absurd (ne a.0)
         where

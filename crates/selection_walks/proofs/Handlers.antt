@@ -19,8 +19,8 @@ use Rattle.mach_ir.specs.declared.mach.Mach.{Mach}
 use Rattle.mach_ir.specs.declared.mach.Mark.TheVariants as mark
 use Rattle.mach_ir.specs.declared.reg.Reg.{Reg}
 use Rattle.selection_rules.specs.Instructions as emit
-use Rattle.selection_rules.specs.Instructions.{bare}
-use Rattle.selection_rules.specs.Select.{Named, Label, scopes, label_of, labels_from, in_handlers, unless_bare, deeper, width, width_labels, params_from, with_params, raised_name, inner_dest, inner_valued, seat, select, select_handlers}
+use Rattle.selection_rules.specs.Instructions.{bare_mark}
+use Rattle.selection_rules.specs.Select.{NamedRegister, Label, scopes, visible_label, labels_from, in_handlers, unless_bare, labels_within_try, width, width_labels, params_from, with_params, raised_name, inner_dest, inner_valued, seat, select, select_handlers}
 use Rattle.mach_laws.proofs.Places.{ending_next}
 use Rattle.selection_rules.proofs.Parts.{Within, ending_in, Placed, placed_in, placed_next, WellLabelled, inside_in}
 use Rattle.selection_rules.proofs.Endings.{ending_select, ending_handlers}
@@ -67,11 +67,11 @@ inside_seen l (Handle at Bare params body rest) s = inside_seen (suc l + length 
 inside_seen l (Handle at Done params body rest) s = seen refl (params_length (suc l) params) (inside_seen (suc l + length params) rest s)
 inside_seen l (Handle at Again params body rest) s = seen refl (params_length (suc l) params) (inside_seen (suc l + length params) rest s)
 
-pub deeper_seen : {labels : List Label} {vis : List Visible} → Seen labels vis → Seen (deeper labels) vis
+pub deeper_seen : {labels : List Label} {vis : List Visible} → Seen labels vis → Seen (labels_within_try labels) vis
 deeper_seen unseen = unseen
 deeper_seen (seen e l s) = seen e l (deeper_seen s)
 
-pub scopes_with : (ps : List Parameter) (b : ℕ) (env : List Named) → scopes (with_params ps (params_from b ps) env) ≡ with_parameters ps (scopes env)
+pub scopes_with : (ps : List Parameter) (b : ℕ) (env : List NamedRegister) → scopes (with_params ps (params_from b ps) env) ≡ with_parameters ps (scopes env)
 scopes_with [] b env = refl
 scopes_with (p ∷ ps) b env = scopes_with ps (suc b) _
 
@@ -93,7 +93,7 @@ module _ (m : Mach) (n : ℕ) where
   own_exits : {k : ℕ} {ts : List ℕ} {labels : List Label} {w : Option ℕ} (tasks : List Task) (within : Bool) (scope : List Slotted) (slot : ℕ)
       (whole : Handlers) (l : ℕ) (hs : Handlers) → ((s : ℕ) → w ≡ Some s → s < slot) → ((j : ℕ) → j < k → Lands j w scope slot whole tasks l hs) →
       OutsOf m n k w ts labels tasks → (label : LabelTree) (t : Label) →
-      label_of (own_labels within (labels_from l hs) ++ labels) label ≡ Some t →
+      visible_label (own_labels within (labels_from l hs) ++ labels) label ≡ Some t →
       Landing m n k w t (or_else (handler_for label scope slot within whole tasks hs) (behind_exit label tasks))
   own_exits tasks false scope slot whole l NoHandler low lands o label t e = o.exits label t e
   own_exits tasks true scope slot whole l NoHandler low lands o label t e = o.exits label t e
@@ -158,32 +158,32 @@ module _ (m : Mach) (n : ℕ) where
       flagged within b e = ap (λ x. or_else (cond x (Some own_tasks) (handler_for label scope slot within whole tasks rest)) (behind_exit label tasks)) (sym e)
 
       by : (within s : Bool) → same_label label own ≡ s → (q : Bool) → is_bare own ≡ q →
-          label_of (own_labels within (first_label ∷ labels_from (suc l + length params) rest) ++ labels) label ≡ Some t →
-          (label_of (others within) label ≡ Some t → Landing m n k w t (chosen within)) →
+          visible_label (own_labels within (first_label ∷ labels_from (suc l + length params) rest) ++ labels) label ≡ Some t →
+          (visible_label (others within) label ≡ Some t → Landing m n k w t (chosen within)) →
           Landing m n k w t (or_else (handler_for label scope slot within whole tasks (Handle at own params body rest)) (behind_exit label tasks))
       by false true s q b e ih =
           found_here _ (sym (flagged false true (and_true (same_label label own) s (is_bare label && false) (right_false (is_bare label)))))
-          (some_label first_label t (ap (λ x. cond x (Some first_label) (label_of (others false) label)) (sym s) ∙ e))
+          (some_label first_label t (ap (λ x. cond x (Some first_label) (visible_label (others false) label)) (sym s) ∙ e))
       by false false s q b e ih =
           subst (Landing m n k w t) (flagged false false (and_no (same_label label own) (not (is_bare label && false)) s))
-          (ih (ap (λ x. cond x (Some first_label) (label_of (others false) label)) (sym s) ∙ e))
+          (ih (ap (λ x. cond x (Some first_label) (visible_label (others false) label)) (sym s) ∙ e))
       by true true s true b e ih =
           subst (Landing m n k w t) (flagged true false
           (and_never (same_label label own) (is_bare label && true) (λ h. right_true (is_bare label) ∙ same_bare label own h ∙ b)))
-          (ih (ap (λ x. label_of (unless_bare x first_label (in_handlers (labels_from (suc l + length params) rest)) ++ labels) label) (sym b) ∙ e))
+          (ih (ap (λ x. visible_label (unless_bare x first_label (in_handlers (labels_from (suc l + length params) rest)) ++ labels) label) (sym b) ∙ e))
       by true false s true b e ih =
           subst (Landing m n k w t) (flagged true false (and_no (same_label label own) (not (is_bare label && true)) s))
-          (ih (ap (λ x. label_of (unless_bare x first_label (in_handlers (labels_from (suc l + length params) rest)) ++ labels) label) (sym b) ∙ e))
+          (ih (ap (λ x. visible_label (unless_bare x first_label (in_handlers (labels_from (suc l + length params) rest)) ++ labels) label) (sym b) ∙ e))
       by true true s false b e ih =
           found_here _ (sym
           (flagged true true (and_true (same_label label own) s (is_bare label && true) (right_true (is_bare label) ∙ same_bare label own s ∙ b))))
           (some_label first_label t
-          (ap (λ x. cond x (Some first_label) (label_of (others true) label)) (sym s) ∙ ap
-          (λ x. label_of (unless_bare x first_label (in_handlers (labels_from (suc l + length params) rest)) ++ labels) label) (sym b) ∙ e))
+          (ap (λ x. cond x (Some first_label) (visible_label (others true) label)) (sym s) ∙ ap
+          (λ x. visible_label (unless_bare x first_label (in_handlers (labels_from (suc l + length params) rest)) ++ labels) label) (sym b) ∙ e))
       by true false s false b e ih =
           subst (Landing m n k w t) (flagged true false (and_no (same_label label own) (not (is_bare label && true)) s))
-          (ih (ap (λ x. cond x (Some first_label) (label_of (others true) label)) (sym s) ∙ ap
-          (λ x. label_of (unless_bare x first_label (in_handlers (labels_from (suc l + length params) rest)) ++ labels) label) (sym b) ∙ e))
+          (ih (ap (λ x. cond x (Some first_label) (visible_label (others true) label)) (sym s) ∙ ap
+          (λ x. visible_label (unless_bare x first_label (in_handlers (labels_from (suc l + length params) rest)) ++ labels) label) (sym b) ∙ e))
 
   -- what is known inside a catch
   pub catch_outs : {k : ℕ} {ts : List ℕ} {labels : List Label} {w : Option ℕ} (tasks : List Task) (within : Bool) (scope : List Slotted) (slot l : ℕ)
@@ -206,9 +206,9 @@ module _ (m : Mach) (n : ℕ) where
 
   module _ (defined : List ℕ → Option DefinedSymbol) (labelled : WellLabelled m) where
     -- the code of handlers, before which no exit has come to one
-    pub handlers_sit : {D : List Reg} {k : ℕ} {ts : List ℕ} {inner : List Label} {w : Option ℕ} {next : List Instr} {tasks : List Task} (env : List Named)
+    pub handlers_sit : {D : List Reg} {k : ℕ} {ts : List ℕ} {inner : List Label} {w : Option ℕ} {next : List Instr} {tasks : List Task} (env : List NamedRegister)
         (labels : List Label) (valued tail : Bool) (d : Reg) (end l b : ℕ) (hs : Handlers) → Sit m n D k w ts inner next tasks →
-        Sit m n D k w ts inner (select_handlers env labels valued tail d end l b hs (bare (mark.End end) ∷ next)) tasks
+        Sit m n D k w ts inner (select_handlers env labels valued tail d end l b hs (bare_mark (mark.End end) ∷ next)) tasks
     handlers_sit env labels valued tail d end l b NoHandler x = end_sit m n end x
     handlers_sit env labels valued tail d end l b (Handle at label params body rest) x =
         past_sit m n (mark.With l end) end labelled refl (λ c. refl)
@@ -217,12 +217,12 @@ module _ (m : Mach) (n : ℕ) where
 
     abbrev pub Handled : Handlers → Type 0
     Handled hs =
-        (want : Bool) (k : ℕ) (ts : List ℕ) (w : Option ℕ) (l slot : ℕ) (env : List Named) (scope : List Slotted) (labels : List Label) (vis : List Visible)
+        (want : Bool) (k : ℕ) (ts : List ℕ) (w : Option ℕ) (l slot : ℕ) (env : List NamedRegister) (scope : List Slotted) (labels : List Label) (vis : List Visible)
         (next : List Instr) (tasks : List Task) (valued tail : Bool) (d : Reg) (end b : ℕ) (whole : Handlers) → Scene m n w l slot env scope labels vis →
         l + width_labels hs ≤ b →
         Faultless (handlers_faults defined (scopes env) vis hs) → HandlersFit (scopes env) hs → Wanted m n want (type_of_handlers (scopes env) hs) →
         ApartFrom m n d w → d.number < l → Sit m n (out m n want d) k w ts labels next (Catches scope slot true whole ∷ tasks) →
-        Placed m ts (select_handlers env labels valued tail d end l b hs (bare (mark.End end) ∷ next)) → Lands k w scope slot whole tasks l hs
+        Placed m ts (select_handlers env labels valued tail d end l b hs (bare_mark (mark.End end) ∷ next)) → Lands k w scope slot whole tasks l hs
 
     pub no_handlers : Handled NoHandler
     no_handlers want k ts w l slot env scope labels vis next tasks valued tail d end b whole at lb ff fits value apart below x placed = tt
@@ -250,7 +250,7 @@ module _ (m : Mach) (n : ℕ) where
         regs = params_from (suc l) params
 
         inner : Placed m ts (select (with_params params regs env) labels valued tail d b body
-            (select_handlers env labels valued tail d end (suc l + length params) (b + width body) rest (bare (mark.End end) ∷ next)))
+            (select_handlers env labels valued tail d end (suc l + length params) (b + width body) rest (bare_mark (mark.End end) ∷ next)))
         inner = placed_next refl placed
 
         same : with_parameters params (scopes env) ≡ scopes (with_params params regs env)
@@ -301,7 +301,7 @@ module _ (m : Mach) (n : ℕ) where
 
         code : List Instr
         code = select_handlers env (in_handlers (labels_from l hs) ++ labels) (inner_valued valued T) tail d' (suc b) l (base + width body) hs
-            (bare (mark.End (suc b)) ∷ next)
+            (bare_mark (mark.End (suc b)) ∷ next)
 
         low : (s : ℕ) → w ≡ Some s → s < slot
         low s e = let z = at.low s e in z.1
@@ -332,8 +332,8 @@ module _ (m : Mach) (n : ℕ) where
         y' : Sit m n (out m n want d') k w ts labels next tasks
         y' = inner m n want T b d (wanted_typed m n want (holds_float (Catch place body hs)) (type_without_float (scopes env) (Catch place body hs)) value) y
 
-        at_catch : Placed m ts (bare mark.Catch ∷ select env (labels_from l hs ++ labels) (inner_valued valued T) tail d' base body code) → (p : Phase) →
-            Ahead m n k p (bare mark.Catch ∷ select env (labels_from l hs ++ labels) (inner_valued valued T) tail d' base body code) →
+        at_catch : Placed m ts (bare_mark mark.Catch ∷ select env (labels_from l hs ++ labels) (inner_valued valued T) tail d' base body code) → (p : Phase) →
+            Ahead m n k p (bare_mark mark.Catch ∷ select env (labels_from l hs ++ labels) (inner_valued valued T) tail d' base body code) →
             Told p w (Evaluates scope slot body ∷ Catches scope slot false hs ∷ tasks)
         at_catch placed p z =
             let in_body = placed_next refl placed in
@@ -351,7 +351,7 @@ module _ (m : Mach) (n : ℕ) where
 
     record Deepened (labels : List Label) (label : LabelTree) (t : Label) : Type 0 where
       outer : Label
-      is : label_of labels label ≡ Some outer
+      is : visible_label labels label ≡ Some outer
       same : t ≡ record { label = outer.label; params = outer.params; number = outer.number; tries = suc outer.tries }
 
     some_label : (a b : Label) → Some a ≡ Some b → a ≡ b
@@ -360,31 +360,31 @@ module _ (m : Mach) (n : ℕ) where
     none_label : (a : Label) → None ≡ Some a → ⊥
     none_label a e = cc
 
-    deepened : (labels : List Label) (label : LabelTree) (t : Label) → label_of (deeper labels) label ≡ Some t → Deepened labels label t
+    deepened : (labels : List Label) (label : LabelTree) (t : Label) → visible_label (labels_within_try labels) label ≡ Some t → Deepened labels label t
     deepened [] label t e = absurd (none_label t e)
     deepened (u ∷ labels) label t e = by (same_label label u.label) refl (deepened labels label t)
       where
         deep : Label
         deep = record { label = u.label; params = u.params; number = u.number; tries = suc u.tries }
 
-        by : (q : Bool) → same_label label u.label ≡ q → (label_of (deeper labels) label ≡ Some t → Deepened labels label t) → Deepened (u ∷ labels) label t
+        by : (q : Bool) → same_label label u.label ≡ q → (visible_label (labels_within_try labels) label ≡ Some t → Deepened labels label t) → Deepened (u ∷ labels) label t
         by true q f = record {
           outer = u;
-          is = ap (λ x. cond x (Some u) (label_of labels label)) q;
+          is = ap (λ x. cond x (Some u) (visible_label labels label)) q;
           same = sym
-              (some_label deep t (ap (λ x. cond x (Some deep) (label_of (deeper labels) label)) (sym q) ∙ e));
+              (some_label deep t (ap (λ x. cond x (Some deep) (visible_label (labels_within_try labels) label)) (sym q) ∙ e));
         }
-        by false q f = let z = f (ap (λ x. cond x (Some deep) (label_of (deeper labels) label)) (sym q) ∙ e) in record {
+        by false q f = let z = f (ap (λ x. cond x (Some deep) (visible_label (labels_within_try labels) label)) (sym q) ∙ e) in record {
           outer = z.outer;
           is = ap
-              (λ x. cond x (Some u) (label_of labels label)) q ∙ z.is;
+              (λ x. cond x (Some u) (visible_label labels label)) q ∙ z.is;
           same = z.same;
         }
 
     try_outs : {k : ℕ} {ts : List ℕ} {labels : List Label} {w : Option ℕ} (tasks : List Task) (scope : List Slotted) (slot name_at : ℕ) (name : List ℕ)
         (handler : Expression) (l : ℕ) → ((p : Phase) → Ahead m n k p (from_handler l m.code) → Told p w
         (walk.handling scope slot name_at name handler ++ tasks)) → OutsOf m n k w ts labels tasks →
-        OutsOf m n k w (l ∷ ts) (deeper labels) (Handles scope slot name_at name handler ∷ tasks)
+        OutsOf m n k w (l ∷ ts) (labels_within_try labels) (Handles scope slot name_at name handler ∷ tasks)
     try_outs {k} {ts} {labels} {w} tasks scope slot name_at name handler l f o =
         record {
           raised = tried (walk.handling scope slot name_at name handler ++ tasks) refl f;
@@ -432,7 +432,7 @@ module _ (m : Mach) (n : ℕ) where
         end : ℕ
         end = suc (suc b)
 
-        x : Named
+        x : NamedRegister
         x = raised_name name (suc (suc (suc b)))
 
         v : Reg
@@ -445,7 +445,7 @@ module _ (m : Mach) (n : ℕ) where
         wants = inner_valued valued T
 
         behind : List Instr
-        behind = select (x ∷ env) labels wants tail d' (base + width body) handler (bare (mark.End end) ∷ next)
+        behind = select (x ∷ env) labels wants tail d' (base + width body) handler (bare_mark (mark.End end) ∷ next)
 
         entry : List Instr
         entry = emit.handler l v ∷ emit.move v x.reg ∷ behind
@@ -481,13 +481,13 @@ module _ (m : Mach) (n : ℕ) where
             (type_without_float (x.scoped ∷ scopes env) handler) value) apart' (omega (arith, below')) (end_sit m n end y')) placed p z)) y.outs))
 
         leave_code : List Instr
-        leave_code = bare (mark.Leave l end) ∷ entry
+        leave_code = bare_mark (mark.Leave l end) ∷ entry
 
         body_code : List Instr
-        body_code = select env (deeper labels) wants false d' base body leave_code
+        body_code = select env (labels_within_try labels) wants false d' base body leave_code
 
-        in_entry : Within (bare (mark.End end) ∷ next) behind
-        in_entry = ending_select (x ∷ env) labels wants tail d' (base + width body) handler (bare (mark.End end) ∷ next)
+        in_entry : Within (bare_mark (mark.End end) ∷ next) behind
+        in_entry = ending_select (x ∷ env) labels wants tail d' (base + width body) handler (bare_mark (mark.End end) ∷ next)
 
         to_next : Placed m ts entry → (after_label end m.code ≡ next) × Placed m ts next
         to_next placed = let e = placed_in in_entry (placed_next refl (placed_next refl placed)) in (
@@ -498,11 +498,11 @@ module _ (m : Mach) (n : ℕ) where
         of_leave : Placed m (l ∷ ts) leave_code → Placed m ts entry
         of_leave placed = record { ending = ending_next placed.ending; caught = tail_same l (tries_at entry) ts placed.caught }
 
-        raised_here : Placed m ts entry → OutsOf m n k w (l ∷ ts) (deeper labels) (Handles scope slot name_at name handler ∷ tasks)
+        raised_here : Placed m ts entry → OutsOf m n k w (l ∷ ts) (labels_within_try labels) (Handles scope slot name_at name handler ∷ tasks)
         raised_here placed = try_outs tasks scope slot name_at name handler l (λ p z. go m n handled placed p
             (subst (Ahead m n k p) (labelled.onto_is l _ _ placed.ending (eq-eqb l l refl)) z)) y.outs
 
-        left_sit : Placed m ts entry → Sit m n (out m n want d') k w (l ∷ ts) (deeper labels) leave_code (Handles scope slot name_at name handler ∷ tasks)
+        left_sit : Placed m ts entry → Sit m n (out m n want d') k w (l ∷ ts) (labels_within_try labels) leave_code (Handles scope slot name_at name handler ∷ tasks)
         left_sit placed_entry =
             record {
               cont = λ placed p o z. quietly (walk.leaves_try scope slot name_at name handler tasks)
@@ -513,11 +513,11 @@ module _ (m : Mach) (n : ℕ) where
               outs = raised_here placed_entry;
             }
           where
-            on : {Q : Type 0} (k : ℕ) (p : Phase) → (Ahead m n k p (after_label end m.code) → Q) → Marked m n (bare (mark.Leave l end)) entry k p → Q
+            on : {Q : Type 0} (k : ℕ) (p : Phase) → (Ahead m n k p (after_label end m.code) → Q) → Marked m n (bare_mark (mark.Leave l end)) entry k p → Q
             on k p g (read_there a) = absurd (no_among m n a)
             on k p g (moved_on {k = j} u q z) = g (more_steps (subst (λ s. Ahead m n j p (code_at m.code entry s)) (at_target u end q) z))
 
-        at_try : Placed m ts (bare (mark.Try l) ∷ body_code) → (p : Phase) → Ahead m n k p (bare (mark.Try l) ∷ body_code) →
+        at_try : Placed m ts (bare_mark (mark.Try l) ∷ body_code) → (p : Phase) → Ahead m n k p (bare_mark (mark.Try l) ∷ body_code) →
             Told p w (Evaluates scope slot body ∷ Handles scope slot name_at name handler ∷ tasks)
         at_try placed p z = on k p (λ q. go m n
             (of_claim m n defined want body (claim want) wants false d' scene_body (left ff) fits.0
@@ -525,7 +525,7 @@ module _ (m : Mach) (n : ℕ) where
             (omega (arith, below')) (left_sit in_entry_code)) in_body p q) (marked refl refl refl z)
           where
             inside : Within leave_code body_code
-            inside = ending_select env (deeper labels) wants false d' base body leave_code
+            inside = ending_select env (labels_within_try labels) wants false d' base body leave_code
 
             entry_tries : tries_at entry ≡ ts
             entry_tries = sym (ap (drop_tries 1) inside.tries) ∙ placed.caught
@@ -536,9 +536,9 @@ module _ (m : Mach) (n : ℕ) where
             in_entry_code : Placed m ts entry
             in_entry_code = record { ending = ending_next (ending_in inside.ending (ending_next placed.ending)); caught = entry_tries }
 
-            scene_body : Scene m n w base slot env scope (deeper labels) vis
+            scene_body : Scene m n w base slot env scope (labels_within_try labels) vis
             scene_body = record { low = low_more (omega arith) (omega arith) at.low; paired = at.paired; seen = deeper_seen at.seen }
 
-            on : {Q : Type 0} (k : ℕ) (p : Phase) → (Ahead m n k p body_code → Q) → Marked m n (bare (mark.Try l)) body_code k p → Q
+            on : {Q : Type 0} (k : ℕ) (p : Phase) → (Ahead m n k p body_code → Q) → Marked m n (bare_mark (mark.Try l)) body_code k p → Q
             on k p g (read_there a) = absurd (no_among m n a)
             on k p g (moved_on {k = j} u q z) = g (more_steps (subst (λ s. Ahead m n j p (code_at m.code body_code s)) (on_target u q) z))

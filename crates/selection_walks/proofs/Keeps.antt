@@ -13,8 +13,8 @@ use Rattle.walk_tables.specs.AddrLive.{IsLiveIn}
 use Rattle.cmm_meaning.specs.State.{Doing}
 use Rattle.cmm_meaning.specs.Evaluation.{fit_parameters, bound_error}
 use Rattle.mach_ir.specs.Keeps.{Proper}
-use Rattle.mach_ir.specs.Runs.{Place, Wrong, first_tally}
-use Rattle.mach_ir.specs.Meaning.{State, start, run}
+use Rattle.mach_ir.specs.Runs.{ActivationSetting, Wrong, first_tally}
+use Rattle.mach_ir.specs.Meaning.{State, mach_start, run_of_mach}
 use Rattle.mach_ir.specs.Walks.{NoAddrLive}
 use Rattle.selection_rules.specs.Select.{selected, width}
 use Rattle.selection_rules.specs.Bounded.{AllBounded, BoundedMemory, BoundedDoings, BoundedSymbols}
@@ -33,18 +33,18 @@ accepted_no_addr defined f fits faultless never = selected_no_addr defined f fit
 -- For every list that is handed in, every memory and arguments that fit, all of words, and every number of units: some
 -- run of the selected code has the same calls, need and end, and as many units as the function has beats; these are
 -- bounded by the units of the tree both ways.
-pub accepted_keeps : (c : Place) (defined : List ℕ → Option DefinedSymbol) (f : FunctionTree) → fits c.setting.end ty.Val bound_error ≡ true →
+pub accepted_keeps : (c : ActivationSetting) (defined : List ℕ → Option DefinedSymbol) (f : FunctionTree) → fits c.setting.end ty.Val bound_error ≡ true →
     width f.body < 2 ^ 60 → FunctionFits f → Faultless (function_faults defined f) → ((b p u : ℕ) → IsLiveIn f b p u → ⊥) →
     BoundedSymbols c.setting → (arguments : List Value) (memory : Memory) (doings : List Doing) (n : ℕ) → AllBounded arguments → BoundedMemory memory →
-    BoundedDoings doings → fit_parameters c.setting.end (comps_of f) arguments ≡ true → SelectedRun run c (selected f) f arguments memory doings n
+    BoundedDoings doings → fit_parameters c.setting.end (comps_of f) arguments ≡ true → SelectedRun run_of_mach c (selected f) f arguments memory doings n
 accepted_keeps c defined f still fine fitting faultless never =
     selection_keeps_losing c f still fine fitting (accepted_no_addr defined f fitting faultless never)
 
 -- What is live at a place of a run has been written, and registers of one origin never differ: a run that does not go
 -- wrong is nowhere stuck.
-pub accepted_proper : (c : Place) (defined : List ℕ → Option DefinedSymbol) (f : FunctionTree) → FunctionFits f → Faultless (function_faults defined f) →
+pub accepted_proper : (c : ActivationSetting) (defined : List ℕ → Option DefinedSymbol) (f : FunctionTree) → FunctionFits f → Faultless (function_faults defined f) →
     ((b p u : ℕ) → IsLiveIn f b p u → ⊥) → (arguments : List Value) (memory : Memory) (doings : List Doing) (s : State) →
-    start c (selected f) arguments memory ≡ Some s → (n : ℕ) → run c (selected f) n s (first_tally c doings) ≢ Wrong →
+    mach_start c (selected f) arguments memory ≡ Some s → (n : ℕ) → run_of_mach c (selected f) n s (first_tally c doings) ≢ Wrong →
     Proper c (selected f) n s (first_tally c doings)
 accepted_proper c defined f fits faultless never =
     runs_proper c (selected f)

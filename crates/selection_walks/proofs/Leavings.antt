@@ -12,19 +12,19 @@ use Rattle.bs_fault.specs.Reported.{Faultless, here as one_here}
 use Rattle.cmm_tree.specs.Tree.{LabelTree, Named as named, Bare, Done, Again, same_label, Parameter}
 use Rattle.cmm_types.specs.Standing.{Visible, handler_of}
 use Rattle.cmm_types.specs.Gathered.{exit_faults}
-use Rattle.walk_tables.specs.Walks.{Binds, Passes, Task, Does, Raises, Exits, Slotted, takes, behind_exit, parameters_bound, with_slots}
+use Rattle.walk_tables.specs.Walks.{Binds, Passes, Task, Does, Raises, Exits, Slotted, operand_uses, behind_exit, parameters_bound, with_slots}
 use Rattle.walk_tables.specs.Walks as walk
 use Rattle.mach_ir.specs.Acts.{Target, At}
 use Rattle.mach_ir.specs.Meaning.{code_at}
-use Rattle.mach_ir.specs.Walks.{Among, first, later, OneOf, this, other}
+use Rattle.mach_ir.specs.Walks.{AmongRegisters, first, later, OneOf, this, other}
 use Rattle.mach_ir.specs.declared.blocks.NewBlock.{NewBlock}
 use Rattle.mach_ir.specs.declared.mach.Instr.{Instr}
 use Rattle.mach_ir.specs.declared.mach.Mach.{Mach}
 use Rattle.mach_ir.specs.declared.mach.Mark.TheVariants as mark
 use Rattle.mach_ir.specs.declared.reg.Reg.{Reg}
 use Rattle.selection_rules.specs.Instructions as emit
-use Rattle.selection_rules.specs.Instructions.{bare}
-use Rattle.selection_rules.specs.Select.{Named, Label, label_of, params_from, with_params, cell_stores}
+use Rattle.selection_rules.specs.Instructions.{bare_mark}
+use Rattle.selection_rules.specs.Select.{NamedRegister, Label, visible_label, params_from, with_params, cell_stores}
 use Rattle.selection_rules.proofs.Parts.{Placed, placed_next}
 use Rattle.selection_walks.proofs.Phases.{Phase, Early, Bound, Passed, Off, Written, here, there, Addresses, Ahead, read_here, kept_on, wrote_it, Onward, simply, crossed, flew, onward, Marked, read_there, moved_on, marked, Told, skipped, held, past, quietly, any_early, Kept, kept_same, grown, apart_binds, apart_passes}
 use Rattle.selection_walks.proofs.Situations.{hold, holds, Low, hold_same, hold_other, hold_kept, low_none, Paired, pair, paired_more, Seen, unseen, seen, Landing, OutsOf, outs_kept, Sit, sit, go, no_among, no_written, one_number, through_takes, address_of, same_or}
@@ -64,10 +64,10 @@ pub data LabelSeen : Option Label → Option Visible → Type 0 where
   not_seen : LabelSeen None None
   is_seen : {t : Label} {v : Visible} → length t.params ≡ v.parameters → LabelSeen (Some t) (Some v)
 
-pub label_seen : {labels : List Label} {vis : List Visible} (label : LabelTree) → Seen labels vis → LabelSeen (label_of labels label) (handler_of vis label)
+pub label_seen : {labels : List Label} {vis : List Visible} (label : LabelTree) → Seen labels vis → LabelSeen (visible_label labels label) (handler_of vis label)
 label_seen label unseen = not_seen
 label_seen label (seen {t = t} {v = v} {labels = labels} {vis = vis} e l s) =
-    subst (λ b. LabelSeen (label_of (t ∷ labels) label) (cond b (Some v) (handler_of vis label)))
+    subst (λ b. LabelSeen (visible_label (t ∷ labels) label) (cond b (Some v) (handler_of vis label)))
     (label_turned label t.label ∙ ap (λ x. same_label x label) e) (by (same_label label t.label) (label_seen label s))
   where
     by : (b : Bool) {o : Option Label} {u : Option Visible} → LabelSeen o u → LabelSeen (cond b (Some t) o) (cond b (Some v) u)
@@ -77,12 +77,12 @@ label_seen label (seen {t = t} {v = v} {labels = labels} {vis = vis} e l s) =
 -- the handler of an exit, with as many parameters
 pub record ExitTo (labels : List Label) (label : LabelTree) (count : ℕ) : Type 0 where
   pub t : Label
-  pub is : label_of labels label ≡ Some t
+  pub is : visible_label labels label ≡ Some t
   pub arity : length t.params ≡ count
 
 pub exit_seen : {labels : List Label} {vis : List Visible} (label : LabelTree) (at label_at count : ℕ) → Seen labels vis →
     Faultless (exit_faults (handler_of vis label) at label_at count) → ExitTo labels label count
-exit_seen {labels} {vis} label at label_at count s f = by (label_of labels label) (handler_of vis label) refl (label_seen label s) f
+exit_seen {labels} {vis} label at label_at count s f = by (visible_label labels label) (handler_of vis label) refl (label_seen label s) f
   where
     same : (a : ℕ) (u : Visible) → Faultless (Rattle.bs_fault.specs.Reported.one_if (not (nat_eq u.parameters count))
         (Rattle.bs_fault.specs.declared.fault.Fault.TheVariants.Arity at)) → u.parameters ≡ count
@@ -91,7 +91,7 @@ exit_seen {labels} {vis} label at label_at count s f = by (label_of labels label
         (Rattle.bs_fault.specs.Reported.one_if (not b) (Rattle.bs_fault.specs.declared.fault.Fault.TheVariants.Arity at))) e f _ one_here))
         (cases_Bool (nat_eq u.parameters count))
 
-    by : (o : Option Label) (u : Option Visible) → label_of labels label ≡ o → LabelSeen o u → Faultless (exit_faults u at label_at count) →
+    by : (o : Option Label) (u : Option Visible) → visible_label labels label ≡ o → LabelSeen o u → Faultless (exit_faults u at label_at count) →
         ExitTo labels label count
     by None None e not_seen f = absurd (f _ one_here)
     by None (Some v) e x f = elim x [ ]
@@ -100,11 +100,11 @@ exit_seen {labels} {vis} label at label_at count s f = by (label_of labels label
 
 -- ---- parameters
 
-pub holds_apart : {n : ℕ} (rs : List Reg) (s : ℕ) (w : Option ℕ) → (Among n rs → ⊥) → holds n rs s w ≡ w
+pub holds_apart : {n : ℕ} (rs : List Reg) (s : ℕ) (w : Option ℕ) → (AmongRegisters n rs → ⊥) → holds n rs s w ≡ w
 holds_apart [] s w f = refl
 holds_apart {n} (r ∷ rs) s w f = holds_apart rs (suc s) (hold n r.number s w) (λ a. f (later a)) ∙ hold_other n r.number s w (λ e. f (first (sym e)))
 
-pub params_high : {n : ℕ} (b : ℕ) (ps : List Parameter) → Among n (params_from b ps) → (b ≤ n) × (n < b + length ps)
+pub params_high : {n : ℕ} (b : ℕ) (ps : List Parameter) → AmongRegisters n (params_from b ps) → (b ≤ n) × (n < b + length ps)
 params_high b [] a = elim a [ ]
 params_high b (p ∷ ps) (first e) = (omega (arith, e), omega (arith, e))
 params_high b (p ∷ ps) (later a) = let x = params_high (suc b) ps a in let l = x.0 in let u = x.1 in (omega (arith, l), omega (arith, u))
@@ -139,7 +139,7 @@ params_early {n} v w b slot (p ∷ ps) (there z) t = skipped tt (params_early v 
 
 module _ (m : Mach) (n : ℕ) where
   -- the parameters are in scope, in their registers and their slots
-  pub params_paired : (ps : List Parameter) (b slot : ℕ) (w : Option ℕ) (env : List Named) (scope : List Slotted) → Low n w b slot → Paired n w slot env scope →
+  pub params_paired : (ps : List Parameter) (b slot : ℕ) (w : Option ℕ) (env : List NamedRegister) (scope : List Slotted) → Low n w b slot → Paired n w slot env scope →
       Paired n (holds n (params_from b ps) slot w) (slot + length ps) (with_params ps (params_from b ps) env) (with_slots slot ps scope)
   params_paired [] b slot w env scope low x = paired_more (omega arith) kept_same (λ s e. inl e) x
   params_paired (p ∷ ps) b slot w env scope low x =
@@ -159,10 +159,10 @@ module _ (m : Mach) (n : ℕ) where
   -- ---- exits
 
   exit_told : {k : ℕ} {w : Option ℕ} {tasks : List Task} (label : LabelTree) (t : Label) (land : Landing m n k w t (behind_exit label tasks)) (p : Phase) →
-      Off p (Among n t.params) → Told p (holds n t.params land.slot land.base) land.rest → Told p w (Exits label ∷ tasks)
+      Off p (AmongRegisters n t.params) → Told p (holds n t.params land.slot land.base) land.rest → Told p w (Exits label ∷ tasks)
   exit_told {w = w} {tasks = tasks} label t land p f x = grown p land.base w land.keeps (quietly (walk.exits label tasks _ land.leads) (by p f x))
     where
-      by : (p : Phase) → Off p (Among n t.params) → Told p (holds n t.params land.slot land.base) land.rest →
+      by : (p : Phase) → Off p (AmongRegisters n t.params) → Told p (holds n t.params land.slot land.base) land.rest →
           Told p land.base (parameters_bound land.slot land.params ++ land.rest)
       by Early f x = early_params land.slot land.params (any_early x)
       by Bound f x = past_params land.slot land.params land.vacant (subst (λ o. Told Bound o land.rest) (holds_apart t.params land.slot land.base f) x)
@@ -180,8 +180,8 @@ module _ (m : Mach) (n : ℕ) where
   exit_at u l (other o) = elim o [ ]
 
   pub exit_sit : {k : ℕ} {ts : List ℕ} {labels : List Label} {w : Option ℕ} {next : List Instr} {tasks : List Task} (label : LabelTree) (t : Label) →
-      label_of labels label ≡ Some t → OutsOf m n k w ts labels tasks →
-      Sit m n t.params k w ts labels (bare (mark.Exit t.number t.tries) ∷ next) (Exits label ∷ tasks)
+      visible_label labels label ≡ Some t → OutsOf m n k w ts labels tasks →
+      Sit m n t.params k w ts labels (bare_mark (mark.Exit t.number t.tries) ∷ next) (Exits label ∷ tasks)
   exit_sit {k} {ts} {labels} {w} {next} {tasks} label t e o =
       record {
         cont = λ placed p f z. of_cont k p (o.exits label t e) f (marked refl refl refl z);
@@ -189,20 +189,20 @@ module _ (m : Mach) (n : ℕ) where
         outs = o;
       }
     where
-      of_cont : (k : ℕ) (p : Phase) → Landing m n k w t (behind_exit label tasks) → Off p (Among n t.params) →
-          Marked m n (bare (mark.Exit t.number t.tries)) next k p → Told p w (Exits label ∷ tasks)
+      of_cont : (k : ℕ) (p : Phase) → Landing m n k w t (behind_exit label tasks) → Off p (AmongRegisters n t.params) →
+          Marked m n (bare_mark (mark.Exit t.number t.tries)) next k p → Told p w (Exits label ∷ tasks)
       of_cont k p land f (read_there a) = absurd (no_among m n a)
       of_cont k p land f (moved_on {k = j} u q y) = exit_told label t land p f (land.lands j (omega arith) p
           (subst (λ v. Ahead m n j p (code_at m.code next v)) (exit_at u t.number q) y))
 
-      of_given : (k : ℕ) → Landing m n k w t (behind_exit label tasks) → Written n t.params → Marked m n (bare (mark.Exit t.number t.tries)) next k Bound →
+      of_given : (k : ℕ) → Landing m n k w t (behind_exit label tasks) → Written n t.params → Marked m n (bare_mark (mark.Exit t.number t.tries)) next k Bound →
           Told Early w (Exits label ∷ tasks)
       of_given k land f (moved_on {k = j} u q y) = exit_written label t land f (land.lands j (omega arith) Bound
           (subst (λ v. Ahead m n j Bound (code_at m.code next v)) (exit_at u t.number q) y))
 
   -- where more is held, as operands are
   pub takes_sit : {D : List Reg} {k : ℕ} {ts : List ℕ} {labels : List Label} {w v : Option ℕ} {next : List Instr} {tasks : List Task} (at slot count : ℕ) →
-      Kept w v → Sit m n D k w ts labels next tasks → Sit m n D k v ts labels next (takes at slot count ++ tasks)
+      Kept w v → Sit m n D k w ts labels next tasks → Sit m n D k v ts labels next (operand_uses at slot count ++ tasks)
   takes_sit {w = w} {v = v} {tasks = tasks} at slot count keeps x =
       record {
         cont = λ placed p f z. through_takes m n p at slot count (grown p w v keeps (x.cont placed p f z));
@@ -218,12 +218,12 @@ module _ (m : Mach) (n : ℕ) where
   pub plain_constant : (c : ℕ) (q : Reg) → IsPlain (emit.constant c q)
   plain_constant c q = record { on = refl; calm = refl; inside = refl; tries = λ next. refl }
 
-  among_two : {r q : Reg} {Q : Type 0} → (n ≡ r.number → Q) → (n ≡ q.number → Q) → Among n (r ∷ q ∷ []) → Q
+  among_two : {r q : Reg} {Q : Type 0} → (n ≡ r.number → Q) → (n ≡ q.number → Q) → AmongRegisters n (r ∷ q ∷ []) → Q
   among_two f g (first e) = f (sym e)
   among_two f g (later i) = g (one_number m n i)
 
   pub cells_sit : {k : ℕ} {ts : List ℕ} {labels : List Label} {v : Option ℕ} {next : List Instr} {tasks : List Task} (c : Chunk) (p : Reg) (i : ℕ)
-      (rs : List Reg) → (n ≡ p.number → ⊥) → (Among n rs → Told Passed v tasks) → Sit m n [] k v ts labels next tasks →
+      (rs : List Reg) → (n ≡ p.number → ⊥) → (AmongRegisters n rs → Told Passed v tasks) → Sit m n [] k v ts labels next tasks →
       Sit m n [] k v ts labels (cell_stores c p i rs next) tasks
   cells_sit c p i [] away reads x = x
   cells_sit c p i (r ∷ rs) away reads x = mute_sit m n _ (mute_store c (8 * i) p r) refl (λ a. among_two (λ e. absurd (away e)) (λ e. reads (first (sym e))) a)
@@ -259,7 +259,7 @@ module _ (m : Mach) (n : ℕ) where
 
   pub raise_sit : {k : ℕ} {ts : List ℕ} {labels : List Label} {w v : Option ℕ} {next : List Instr} {tasks : List Task} (at slot : ℕ) (x y : Reg) → Kept w v →
       (n ≡ x.number → Stood v slot 1) → (n ≡ y.number → w ≡ None) → OutsOf m n k w ts labels tasks →
-      Sit m n [] k v ts labels (emit.move x y ∷ emit.raising y ∷ next) (takes at slot 1 ++ (Raises ∷ tasks))
+      Sit m n [] k v ts labels (emit.move x y ∷ emit.raising y ∷ next) (operand_uses at slot 1 ++ (Raises ∷ tasks))
   raise_sit {w = w} {tasks = tasks} at slot x y keeps stands high o =
       move_sit m n x y
       (leaving m n (emit.raising y) refl refl refl keeps at slot 1 (λ a f. absurd (f a)) (λ a. high (one_number m n a))

@@ -7,7 +7,7 @@ use Rattle.bs_fault.specs.Reported.{Faultless, one_if, here as one_here}
 use Rattle.bs_fault.specs.declared.fault.Fault.TheVariants as fault
 use Rattle.cmm_types.specs.Types.{Scoped, unless_float, is_address}
 use Rattle.walk_tables.specs.Walks.{Binds, Task, Does, used_at, bound_at}
-use Rattle.mach_ir.specs.Walks.{Among, first}
+use Rattle.mach_ir.specs.Walks.{AmongRegisters, first}
 use Rattle.mach_ir.specs.declared.mach.Instr.{Instr}
 use Rattle.mach_ir.specs.declared.mach.Mach.{Mach}
 use Rattle.mach_ir.specs.declared.reg.Reg.{Reg}
@@ -43,7 +43,7 @@ module _ (m : Mach) (n : ℕ) where
   name_sit {w = w} want at d _ _ _ (found {r = a} {k = s} p q c) f apart y =
       ended m n want d (emit.move a d) (plain_move m n a d) refl at s 1 kept_same stands apart y
     where
-      stands : Among n (a ∷ []) → Stood w s 1
+      stands : AmongRegisters n (a ∷ []) → Stood w s 1
       stands i = let z : s ≡ s + zero = omega arith in record { index = 0; within = omega arith; is = p (sym (one_number m n i)) ∙ ap Some z }
 
   pub assign_sit : {k : ℕ} {ts : List ℕ} {labels : List Label} {w : Option ℕ} {next : List Instr} {tasks : List Task} (at : ℕ) (t : Ty) (x : Reg)
@@ -61,12 +61,12 @@ module _ (m : Mach) (n : ℕ) where
       number (here e a) = sym e
       number (there i) = absurd (no_written m n i)
 
-      away : (ph : Phase) → Off ph (Among n (r ∷ [])) → Apart ph w (Binds s (is_address t) at)
+      away : (ph : Phase) → Off ph (AmongRegisters n (r ∷ [])) → Apart ph w (Binds s (is_address t) at)
       away Early f = tt
       away Bound f = apart_binds Bound w s _ at (λ i z e. f (first (q (z ∙ ap Some (sym e)))))
       away Passed f = apart_binds Passed w s _ at (λ i z e. f (first (q (z ∙ ap Some (sym e)))))
 
-      of_cont : (ph : Phase) → Placed m ts next → Off ph (Among n (x ∷ [])) → Past m n k (emit.move x r) next ph →
+      of_cont : (ph : Phase) → Placed m ts next → Off ph (AmongRegisters n (x ∷ [])) → Past m n k (emit.move x r) next ph →
           Told ph w (Does (Binds s (is_address t) at) ∷ tasks)
       of_cont ph placed f (read_here i) = absurd (f i)
       of_cont ph placed f (kept_on c g z) = skipped (away ph g) (go m n y placed ph z)

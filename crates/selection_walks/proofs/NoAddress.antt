@@ -14,12 +14,12 @@ use Rattle.cmm_types.specs.Types.{body_type, result_of, type_without_float, with
 use Rattle.walk_tables.specs.AddrLive.{IsLiveIn}
 use Rattle.walk_tables.specs.Walks.{Evaluates, with_slots, walk_tasks}
 use Rattle.mach_ir.specs.Meaning.{passes_frame, tries_at}
-use Rattle.mach_ir.specs.Walks.{Among, first, later, Reached, at_entry, by_step, by_raise, Live, read, on, aside, LiveAcross, across_step, across_raise, IsRegister, is_in_code, NoAddrLive}
+use Rattle.mach_ir.specs.Walks.{AmongRegisters, first, later, Reached, at_entry, by_step, by_raise, Live, read, on, aside, LiveAcross, across_step, across_raise, IsRegister, is_in_code, NoAddrLive}
 use Rattle.mach_ir.specs.declared.mach.Instr.{Instr}
 use Rattle.mach_ir.specs.declared.mach.Mach.{Mach}
 use Rattle.mach_ir.specs.declared.reg.Reg.{Reg}
 use Rattle.selection_rules.specs.Instructions as emit
-use Rattle.selection_rules.specs.Select.{Named, Label, scopes, fresh, moves_all, params_from, with_params, seat, seats, returns, is_no_value, selected, select}
+use Rattle.selection_rules.specs.Select.{NamedRegister, Label, scopes, fresh_register, moves_all, params_from, with_params, seat, seats, return_code, is_no_value, selected, select}
 use Rattle.selection_rules.specs.Select as select
 use Rattle.mach_laws.specs.Expand.{Ending, all}
 use Rattle.mach_laws.proofs.Among.{among_or_not}
@@ -46,7 +46,7 @@ addresses_of : (n : ℕ) (rs : List Reg) → ((q : Reg) → Contains rs q → q.
 addresses_of n [] f = tt
 addresses_of n (r ∷ rs) f = (f r (contains_head r rs), addresses_of n rs (λ q c. f q (contains_tail r rs q c)))
 
-results_among : {n : ℕ} (ks rs : List Reg) → Among n rs → Among n (rs ++ ks)
+results_among : {n : ℕ} (ks rs : List Reg) → AmongRegisters n rs → AmongRegisters n (rs ++ ks)
 results_among ks [] i = elim i [ ]
 results_among ks (r ∷ rs) (first e) = first e
 results_among ks (r ∷ rs) (later i) = later (results_among ks rs i)
@@ -97,7 +97,7 @@ module _ (m : Mach) (tells : NumbersTell m) (r : Reg) (is : IsRegister m r) (add
 -- ---- the moves of the entry, which read nothing that is followed in the last phase
 
 data Through (m : Mach) (n k : ℕ) (to : List Reg) (next : List Instr) : Phase → Type 0 where
-  through : {p : Phase} → Off p (Among n to) → Ahead m n k p next → Through m n k to next p
+  through : {p : Phase} → Off p (AmongRegisters n to) → Ahead m n k p next → Through m n k to next p
   wrote : Written n to → Ahead m n k Bound next → Through m n k to next Early
 
 move_through : {m : Mach} {n k : ℕ} {a d : Reg} {to : List Reg} {next : List Instr} {p : Phase} → (p ≡ Passed → n ≡ a.number → ⊥) →
@@ -105,7 +105,7 @@ move_through : {m : Mach} {n k : ℕ} {a d : Reg} {to : List Reg} {next : List I
     Through m n k (d ∷ to) next p
 move_through {m} {n} {k} {a} {d} {to} {next} np (through {p = p} o y) = by np o (straight refl refl refl y)
   where
-    either : (Among n to → ⊥) → (Among n (d ∷ []) → ⊥) → Among n (d ∷ to) → ⊥
+    either : (AmongRegisters n to → ⊥) → (AmongRegisters n (d ∷ []) → ⊥) → AmongRegisters n (d ∷ to) → ⊥
     either f g (first e) = g (first e)
     either f g (later i) = f i
 
@@ -113,16 +113,16 @@ move_through {m} {n} {k} {a} {d} {to} {next} np (through {p = p} o y) = by np o 
     one (here e c) = here e c
     one (there i) = elim (written_among i) [ ]
 
-    both_off : (p : Phase) → Off p (Among n to) → Off p (Among n (d ∷ [])) → Off p (Among n (d ∷ to))
+    both_off : (p : Phase) → Off p (AmongRegisters n to) → Off p (AmongRegisters n (d ∷ [])) → Off p (AmongRegisters n (d ∷ to))
     both_off Early f g = tt
     both_off Bound f g = either f g
     both_off Passed f g = either f g
 
-    its_number : Among n (a ∷ []) → n ≡ a.number
+    its_number : AmongRegisters n (a ∷ []) → n ≡ a.number
     its_number (first e) = sym e
     its_number (later i) = elim i [ ]
 
-    by : {p : Phase} → (p ≡ Passed → n ≡ a.number → ⊥) → Off p (Among n to) → Past m n k (emit.move a d) next p → Through m n k (d ∷ to) next p
+    by : {p : Phase} → (p ≡ Passed → n ≡ a.number → ⊥) → Off p (AmongRegisters n to) → Past m n k (emit.move a d) next p → Through m n k (d ∷ to) next p
     by np o (read_here i) = absurd (np refl (its_number i))
     by np o (kept_on {p = p} c g z) = through (both_off p o g) z
     by np o (wrote_it g z) = wrote (one g) z
@@ -131,7 +131,7 @@ move_through {m} {n} {k} {a} {d} {to} {next} np (wrote w y) = by (straight refl 
     by : Past m n k (emit.move a d) next Bound → Through m n k (d ∷ to) next Early
     by (kept_on c g z) = wrote (there w) z
 
-moves_through : {m : Mach} {n k : ℕ} {p : Phase} (from to : List Reg) (next : List Instr) → length from ≡ length to → (p ≡ Passed → Among n from → ⊥) →
+moves_through : {m : Mach} {n k : ℕ} {p : Phase} (from to : List Reg) (next : List Instr) → length from ≡ length to → (p ≡ Passed → AmongRegisters n from → ⊥) →
     Ahead m n k p (moves_all from to next) → Through m n k to next p
 moves_through {p = p} [] [] next e np y = through (off p (λ a. elim a [ ])) y
 moves_through [] (d ∷ to) next e np y = absurd (ne e)
@@ -147,10 +147,10 @@ moves_through (a ∷ from) (d ∷ to) next e np y =
 
 -- ---- the end
 
-end_leaves : {m : Mach} {n k : ℕ} {next : List Instr} {p : Phase} (rs : List Reg) → Off p (Among n rs) → Ahead m n k p (emit.give_back rs ∷ next) → ⊥
+end_leaves : {m : Mach} {n k : ℕ} {next : List Instr} {p : Phase} (rs : List Reg) → Off p (AmongRegisters n rs) → Ahead m n k p (emit.give_back rs ∷ next) → ⊥
 end_leaves {m} {n} {k} {next} rs o y = by o (leaves refl refl y)
   where
-    by : {p : Phase} → Off p (Among n rs) → Leaving m n k (emit.give_back rs) next p → ⊥
+    by : {p : Phase} → Off p (AmongRegisters n rs) → Leaving m n k (emit.give_back rs) next p → ⊥
     by o (read_last a) = o a
     by o (flew_off mr t z) = true≢false (sym mr)
 
@@ -183,7 +183,7 @@ module _ (m : Mach) (n : ℕ) where
         outs = no_outs;
       }
     where
-      by : {p : Phase} → Off p (Among n (d ∷ [])) → Past m n k (emit.move d s) (emit.give_back (s ∷ []) ∷ []) p → ⊥
+      by : {p : Phase} → Off p (AmongRegisters n (d ∷ [])) → Past m n k (emit.move d s) (emit.give_back (s ∷ []) ∷ []) p → ⊥
       by o (read_here a) = o a
       by o (kept_on c g z) = end_leaves (s ∷ []) g z
       by o (wrote_it g z) = end_bound (s ∷ []) z
@@ -191,14 +191,14 @@ module _ (m : Mach) (n : ℕ) where
       by_bound : Past m n k (emit.move d s) (emit.give_back (s ∷ []) ∷ []) Bound → ⊥
       by_bound (kept_on c g z) = end_bound (s ∷ []) z
 
-  end_sit : {k : ℕ} {w : Option ℕ} (T : Ty) (d : Reg) (b : ℕ) → Sit m n (out m n (not (is_no_value T)) d) k w [] [] (returns d b (result_of T)) []
+  end_sit : {k : ℕ} {w : Option ℕ} (T : Ty) (d : Reg) (b : ℕ) → Sit m n (out m n (not (is_no_value T)) d) k w [] [] (return_code d b (result_of T)) []
   end_sit ty.NoValue d b = nothing_given []
   end_sit ty.Never d b = nothing_given (d ∷ [])
   end_sit ty.Int d b = one_given d (seat 0 b comp.Int)
   end_sit ty.Val d b = one_given d (seat 0 b comp.Val)
   end_sit ty.Addr d b = one_given d (seat 0 b comp.Addr)
 
-end_tries : (T : Ty) (d : Reg) (b : ℕ) → tries_at (returns d b (result_of T)) ≡ []
+end_tries : (T : Ty) (d : Reg) (b : ℕ) → tries_at (return_code d b (result_of T)) ≡ []
 end_tries ty.NoValue d b = refl
 end_tries ty.Never d b = refl
 end_tries ty.Int d b = refl
@@ -230,7 +230,7 @@ module _ (defined : List ℕ → Option DefinedSymbol) (f : FunctionTree) (fits 
   T = body_type f
 
   abbrev moved : ℕ
-  moved = select.first + length f.params
+  moved = select.first_after_colours + length f.params
 
   abbrev params : List Reg
   params = params_from moved f.params
@@ -238,11 +238,11 @@ module _ (defined : List ℕ → Option DefinedSymbol) (f : FunctionTree) (fits 
   abbrev b : ℕ
   b = moved + length f.params
 
-  abbrev env : List Named
+  abbrev env : List NamedRegister
   env = with_params f.params params []
 
   abbrev body_code : List Instr
-  body_code = select env [] (not (is_no_value T)) true (fresh b T) (suc (suc b)) f.body (returns (fresh b T) (suc b) (result_of T))
+  body_code = select env [] (not (is_no_value T)) true (fresh_register b T) (suc (suc b)) f.body (return_code (fresh_register b T) (suc b) (result_of T))
 
   abbrev w : Option ℕ
   w = holds n params 0 None
@@ -281,17 +281,17 @@ module _ (defined : List ℕ → Option DefinedSymbol) (f : FunctionTree) (fits 
   body_sit : {k : ℕ} → Sit m n [] k w [] [] body_code (Evaluates (with_slots 0 f.params []) (length f.params) f.body ∷ [])
   body_sit =
       of_claim m n defined (not (is_no_value T)) f.body (claim m n defined (selected_labelled f) f.body (not (is_no_value T))) (not (is_no_value T)) true
-      (fresh b T) scene (subst (λ sc. Faultless (faults_in defined sc [] f.body)) same faults) (subst (λ sc. Fits sc f.body) same fits.body)
-      (subst (λ sc. Wanted m n (not (is_no_value T)) (type_without_float sc f.body)) same wanted) low_b (omega arith) (end_sit m n T (fresh b T) (suc b))
+      (fresh_register b T) scene (subst (λ sc. Faultless (faults_in defined sc [] f.body)) same faults) (subst (λ sc. Fits sc f.body) same fits.body)
+      (subst (λ sc. Wanted m n (not (is_no_value T)) (type_without_float sc f.body)) same wanted) low_b (omega arith) (end_sit m n T (fresh_register b T) (suc b))
 
   placed : Placed m [] body_code
   placed =
-      placed_in (ending_moves (seats 0 select.first params) params body_code)
+      placed_in (ending_moves (seats 0 select.first_after_colours params) params body_code)
       (record {
         ending = all;
-        caught = (ending_moves (seats 0 select.first params) params body_code).tries ∙
-            (ending_select env [] (not (is_no_value T)) true (fresh b T) (suc (suc b)) f.body (returns (fresh b T) (suc b) (result_of T))).tries ∙ end_tries T
-            (fresh b T) (suc b);
+        caught = (ending_moves (seats 0 select.first_after_colours params) params body_code).tries ∙
+            (ending_select env [] (not (is_no_value T)) true (fresh_register b T) (suc (suc b)) f.body (return_code (fresh_register b T) (suc b) (result_of T))).tries ∙ end_tries T
+            (fresh_register b T) (suc b);
       })
 
   no_slot : (s : ℕ) → None ≡ Some s → s < 0
@@ -305,8 +305,8 @@ module _ (defined : List ℕ → Option DefinedSymbol) (f : FunctionTree) (fits 
   through_told (through {p = Passed} o y) = past_params 0 f.params no_slot (subst
       (λ v. Told Passed v (Evaluates (with_slots 0 f.params []) (length f.params) f.body ∷ [])) (holds_apart params 0 None o) (go m n body_sit placed Passed y))
 
-  pub entry_told : {k : ℕ} (p : Phase) → (p ≡ Passed → Among n (selected f).params → ⊥) → Ahead m n k p (selected f).code → Told p None (walk_tasks f)
-  entry_told p np y = through_told (moves_through (seats 0 select.first params) params body_code (seats_length 0 select.first params) np y)
+  pub entry_told : {k : ℕ} (p : Phase) → (p ≡ Passed → AmongRegisters n (selected f).params → ⊥) → Ahead m n k p (selected f).code → Told p None (walk_tasks f)
+  entry_told p np y = through_told (moves_through (seats 0 select.first_after_colours params) params body_code (seats_length 0 select.first_after_colours params) np y)
 
 live_in : (f : FunctionTree) → ((b p u : ℕ) → IsLiveIn f b p u → ⊥) → LiveEarly (walk_tasks f) → ⊥
 live_in f never (live_early before es fs s b p u w x y) = never b p u
@@ -326,7 +326,7 @@ selected_no_addr defined f fits faultless tells never =
 
 -- ---- what is live at the entry
 
-free_addresses : (n : ℕ) (rs : List Reg) → (Among n rs → ⊥) → Addresses n rs
+free_addresses : (n : ℕ) (rs : List Reg) → (AmongRegisters n rs → ⊥) → Addresses n rs
 free_addresses n [] free = tt
 free_addresses n (r ∷ rs) free = (λ e. absurd (free (first e)), free_addresses n rs (λ i. free (later i)))
 
@@ -335,13 +335,13 @@ read_ahead : {m : Mach} {n : ℕ} {code : List Instr} → Live m n code → (k :
 read_ahead (read a) = (0, ends a)
 read_ahead {n = n} (on {i = i} free l live) =
     let x = read_ahead live in
-    let kept : Among n i.results → ⊥ = λ a. free (results_among _ i.results a) in
+    let kept : AmongRegisters n i.results → ⊥ = λ a. free (results_among _ i.results a) in
     (suc x.0, steps (free_addresses n i.results kept) (stays kept) l x.1)
 read_ahead (aside z live) = let x = read_ahead live in (suc x.0, strays the_same z x.1)
 
 -- Only parameters are live at the entry: whatever else is read has been written before, on every walk.
 pub selected_starts : (defined : List ℕ → Option DefinedSymbol) (f : FunctionTree) → FunctionFits f → Faultless (function_faults defined f) →
-    (n : ℕ) → Live (selected f) n (selected f).code → Among n (selected f).params
+    (n : ℕ) → Live (selected f) n (selected f).code → AmongRegisters n (selected f).params
 selected_starts defined f fits faultless n live =
     ⊎_elim (λ a. a) (λ free. absurd (none_passed (entry_told defined f fits faultless n Passed (λ e i. free i) (read_ahead live).1)))
     (among_or_not n (selected f).params)

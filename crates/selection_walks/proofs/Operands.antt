@@ -15,11 +15,11 @@ use Rattle.cmm_types.specs.declared.role.Role.{Role}
 use Rattle.cmm_types.specs.declared.role.Role.TheVariants as role
 use Rattle.walk_tables.specs.Walks.{Binds, Task, Does, Evaluates, Slotted, names, behind_raise, behind_exit, operand, tasks_of}
 use Rattle.walk_tables.specs.Walks as walk
-use Rattle.mach_ir.specs.Walks.{Among, first, later}
+use Rattle.mach_ir.specs.Walks.{AmongRegisters, first, later}
 use Rattle.mach_ir.specs.declared.mach.Instr.{Instr}
 use Rattle.mach_ir.specs.declared.mach.Mach.{Mach}
 use Rattle.mach_ir.specs.declared.reg.Reg.{Reg}
-use Rattle.selection_rules.specs.Select.{Named, Label, scopes, fresh, regs_of, select, Code}
+use Rattle.selection_rules.specs.Select.{NamedRegister, Label, scopes, fresh_register, regs_of, select, Code}
 use Rattle.cmm_tree.specs.Measures.{count_of}
 use Rattle.selection_laws.specs.Fits.{Fits}
 use Rattle.selection_walks.proofs.Phases.{Told, skipped, quietly, Kept, kept_same, kept_then, apart_binds}
@@ -117,7 +117,7 @@ pub record Stood (v : Option ℕ) (slot count : ℕ) : Type 0 where
   pub is : v ≡ Some (slot + index)
 
 -- the registers of a row are in its slots
-pub row_stands : {n : ℕ} (env : List Named) (es : Expressions) (b slot : ℕ) (w : Option ℕ) → Low n w b slot → Among n (regs_of env b es) →
+pub row_stands : {n : ℕ} (env : List NamedRegister) (es : Expressions) (b slot : ℕ) (w : Option ℕ) → Low n w b slot → AmongRegisters n (regs_of env b es) →
     Stood (all_held n b slot es w) slot (count_of es)
 row_stands env NoMore b slot w low a = elim a [ ]
 row_stands {n} env (More e rest) b slot w low (first q) =
@@ -180,18 +180,18 @@ module _ (m : Mach) (n : ℕ) where
 
   -- ---- operands
 
-  pub record Scene (w : Option ℕ) (b slot : ℕ) (env : List Named) (scope : List Slotted) (labels : List Label) (vis : List Visible) : Type 0 where
+  pub record Scene (w : Option ℕ) (b slot : ℕ) (env : List NamedRegister) (scope : List Slotted) (labels : List Label) (vis : List Visible) : Type 0 where
     pub low : Low n w b slot
     pub paired : Paired n w slot env scope
     pub seen : Seen labels vis
 
-  pub at_more : {w : Option ℕ} {b slot c free : ℕ} {env : List Named} {scope : List Slotted} {labels : List Label} {vis : List Visible} → b ≤ c → slot ≤ free →
+  pub at_more : {w : Option ℕ} {b slot c free : ℕ} {env : List NamedRegister} {scope : List Slotted} {labels : List Label} {vis : List Visible} → b ≤ c → slot ≤ free →
       Scene w b slot env scope labels vis → Scene w c free env scope labels vis
   at_more lb ls x = record { low = low_more lb ls x.low; paired = paired_more ls kept_same (λ s e. inl e) x.paired; seen = x.seen }
 
   -- what a row has bound so far
   pub at_row : {w : Option ℕ} {b slot c free count : ℕ} {f : Option ℕ →
-      Option ℕ} {env : List Named} {scope : List Slotted} {labels : List Label} {vis : List Visible} → Row n b slot count f → b + count ≤ c →
+      Option ℕ} {env : List NamedRegister} {scope : List Slotted} {labels : List Label} {vis : List Visible} → Row n b slot count f → b + count ≤ c →
       slot + count ≤ free → Scene w b slot env scope labels vis → Scene (f w) c free env scope labels vis
   at_row {w} {b} {slot} {c} {free} {count} {f} r lb ls x =
       record {
@@ -201,7 +201,7 @@ module _ (m : Mach) (n : ℕ) where
         seen = x.seen;
       }
 
-  pub at_hold : {w : Option ℕ} {b slot : ℕ} {env : List Named} {scope : List Slotted} {labels : List Label} {vis : List Visible} →
+  pub at_hold : {w : Option ℕ} {b slot : ℕ} {env : List NamedRegister} {scope : List Slotted} {labels : List Label} {vis : List Visible} →
       Scene w b slot env scope labels vis → Scene (hold n b slot w) (suc b) (suc slot) env scope labels vis
   at_hold {w} {b} {slot} x = at_row (row_hold (row_none n (suc b) (suc slot))) (omega arith) (omega arith) x
 
@@ -209,13 +209,13 @@ module _ (m : Mach) (n : ℕ) where
     -- what is proved of each expression
     abbrev pub Claim : Bool → Expression → Type 0
     Claim want e =
-        (k : ℕ) (ts : List ℕ) (w : Option ℕ) (b slot : ℕ) (env : List Named) (scope : List Slotted) (labels : List Label) (vis : List Visible)
+        (k : ℕ) (ts : List ℕ) (w : Option ℕ) (b slot : ℕ) (env : List NamedRegister) (scope : List Slotted) (labels : List Label) (vis : List Visible)
         (next : List Instr) (tasks : List Task) (valued tail : Bool) (d : Reg) → Scene w b slot env scope labels vis →
         Faultless (faults_in defined (scopes env) vis e) → Fits (scopes env) e → Wanted m n want (type_without_float (scopes env) e) → ApartFrom m n d w →
         d.number < b → Sit m n (out m n want d) k w ts labels next tasks →
         Sit m n [] k w ts labels (select env labels valued tail d b e next) (Evaluates scope slot e ∷ tasks)
 
-    pub of_claim : {k : ℕ} {ts : List ℕ} {w : Option ℕ} {b slot : ℕ} {env : List Named} {scope : List Slotted} {labels : List Label} {vis : List Visible}
+    pub of_claim : {k : ℕ} {ts : List ℕ} {w : Option ℕ} {b slot : ℕ} {env : List NamedRegister} {scope : List Slotted} {labels : List Label} {vis : List Visible}
         {next : List Instr} {tasks : List Task} (want : Bool) (e : Expression) → Claim want e → (valued tail : Bool) (d : Reg) →
         Scene w b slot env scope labels vis →
         Faultless (faults_in defined (scopes env) vis e) → Fits (scopes env) e → Wanted m n want (type_without_float (scopes env) e) → ApartFrom m n d w →
@@ -224,23 +224,23 @@ module _ (m : Mach) (n : ℕ) where
     of_claim want e claim valued tail d at ff fits value apart below y = claim _ _ _ _ _ _ _ _ _ _ _ valued tail d at ff fits value apart below y
 
     -- an operand, the code of which is numbered from `i` on, and its value bound to a slot
-    pub operand_step : {k : ℕ} {ts : List ℕ} {w v : Option ℕ} {i free : ℕ} {env : List Named} {scope : List Slotted} {labels : List Label} {vis : List Visible}
+    pub operand_step : {k : ℕ} {ts : List ℕ} {w v : Option ℕ} {i free : ℕ} {env : List NamedRegister} {scope : List Slotted} {labels : List Label} {vis : List Visible}
         (e : Expression) → Claim true e → (x slot : ℕ) → x < i → Scene w i free env scope labels vis →
         Faultless (faults_in defined (scopes env) vis e) → Fits (scopes env) e → (type_of (scopes env) e ≡ ty.NoValue → ⊥) → (n ≡ x → w ≡ None) →
         ((s : ℕ) → w ≡ Some s → slot ≡ s → ⊥) → ((n ≡ x → ⊥) → v ≡ w) → (n ≡ x → v ≡ Some slot) →
-        Step k ts labels w v (select env labels false false (fresh x (type_of (scopes env) e)) i e) (operand scope free slot e)
+        Step k ts labels w v (select env labels false false (fresh_register x (type_of (scopes env) e)) i e) (operand scope free slot e)
     operand_step {k} {ts} {w} {v} {i} {free} {env} {scope} {labels} {vis} e claim x slot xi at ff fits value apart vacant others same =
         record {
           keeps = λ s q. ⊎_elim (λ z. none_some s (sym (apart z) ∙ q)) (λ f. others f ∙ q) (same_or n x);
-          run = λ next tasks o y. of_claim true e claim false false (fresh x (type_of (scopes env) e)) at ff fits
+          run = λ next tasks o y. of_claim true e claim false false (fresh_register x (type_of (scopes env) e)) at ff fits
               (has_one defined (scopes env) vis e ff value) apart xi
-              (binding m n (fresh x (type_of (scopes env) e)) (type_of (names scope) e) slot (place_of e) kind vacant others same o y);
+              (binding m n (fresh_register x (type_of (scopes env) e)) (type_of (names scope) e) slot (place_of e) kind vacant others same o y);
           raising = λ tasks. refl;
           exiting = λ label tasks. refl;
         }
       where
-        kind : (fresh x (type_of (scopes env) e)).comp ≡ Rattle.selection_rules.specs.Select.comp_of (type_of (names scope) e)
-        kind = ap (λ sc. Rattle.selection_rules.specs.Select.comp_of (type_of sc e)) (sym (paired_names at.paired))
+        kind : (fresh_register x (type_of (scopes env) e)).comp ≡ Rattle.selection_rules.specs.Select.comp_of_type (type_of (names scope) e)
+        kind = ap (λ sc. Rattle.selection_rules.specs.Select.comp_of_type (type_of sc e)) (sym (paired_names at.paired))
 
     -- an operand without code
     pub uncoded : {k : ℕ} {ts : List ℕ} {labels : List Label} {w : Option ℕ} (scope : List Slotted) (free slot : ℕ) (e : Expression) →
@@ -257,10 +257,10 @@ module _ (m : Mach) (n : ℕ) where
 
     -- one operand of a row, over what the others hold
     pub row_operand : {k : ℕ} {ts : List ℕ} {w : Option ℕ} {b slot i free count : ℕ} {f : Option ℕ →
-        Option ℕ} {env : List Named} {scope : List Slotted} {labels : List Label} {vis : List Visible} (e : Expression) → Claim true e →
+        Option ℕ} {env : List NamedRegister} {scope : List Slotted} {labels : List Label} {vis : List Visible} (e : Expression) → Claim true e →
         Row n (suc b) (suc slot) count f → suc b + count ≤ i → suc slot + count ≤ free → Scene w b slot env scope labels vis →
         Faultless (faults_in defined (scopes env) vis e) → Fits (scopes env) e → (type_of (scopes env) e ≡ ty.NoValue → ⊥) →
-        Step k ts labels (f w) (f (hold n b slot w)) (select env labels false false (fresh b (type_of (scopes env) e)) i e) (operand scope free slot e)
+        Step k ts labels (f w) (f (hold n b slot w)) (select env labels false false (fresh_register b (type_of (scopes env) e)) i e) (operand scope free slot e)
     row_operand {w = w} {b = b} {slot = slot} {f = f} e claim r lb ls at ff fits value =
         operand_step e claim b slot (omega (arith, lb)) (at_row r lb ls (at_more (omega arith) (omega arith) at)) ff fits value
         (λ q. none_of (f w)
@@ -272,7 +272,7 @@ module _ (m : Mach) (n : ℕ) where
         (λ q. r.kept (hold n b slot w) (hold_next at.low) slot (hold_same n b slot w q))
 
     pub row_uncoded : {k : ℕ} {ts : List ℕ} {w : Option ℕ} {b slot count : ℕ} {f : Option ℕ →
-        Option ℕ} {env : List Named} {labels : List Label} {vis : List Visible} (scope : List Slotted) (free : ℕ) (e : Expression) →
+        Option ℕ} {env : List NamedRegister} {labels : List Label} {vis : List Visible} (scope : List Slotted) (free : ℕ) (e : Expression) →
         Row n (suc b) (suc slot) count f → Scene w b slot env scope labels vis → tasks_of scope free e ≡ [] →
         Step k ts labels (f w) (f w) (λ next. next) (operand scope free slot e)
     row_uncoded {w = w} {slot = slot} scope free e r at none =

@@ -6,12 +6,12 @@ use Rattle.std.proofs.lemmas.Bool.{true≢false}
 use Rattle.bs_words.specs.declared.types.Comp.TheVariants as comp
 use Rattle.mach_ir.specs.Acts.{Target, On}
 use Rattle.mach_ir.specs.Meaning.{passes_frame, code_at, from_handler, tries_at}
-use Rattle.mach_ir.specs.Walks.{Among, first, later, OneOf, targets, may_raise, Leads, goes, Raises, raises}
+use Rattle.mach_ir.specs.Walks.{AmongRegisters, first, later, OneOf, targets, may_raise, WalkStep, goes, Raises, raises}
 use Rattle.mach_ir.specs.declared.mach.Instr.{Instr}
 use Rattle.mach_ir.specs.declared.mach.Mach.{Mach}
 use Rattle.mach_ir.specs.declared.reg.Reg.{Reg}
 use Rattle.mach_laws.proofs.Walking.{only_on}
-use Rattle.walk_tables.specs.Walks.{Event, Binds, Uses, Passes, Task, Does, Next, Walk}
+use Rattle.walk_tables.specs.Walks.{Event, Binds, Uses, Passes, Task, Does, NextTasks, Walk}
 use Rattle.walk_tables.specs.Walks as walk
 use Rattle.walk_tables.specs.AddrLive.{Unbound}
 
@@ -40,9 +40,9 @@ off_less Passed f o = λ v. o (f v)
 
 pub data Turns (n : ℕ) (i : Instr) : Phase → Phase → Type 0 where
   not_yet : Turns n i Early Early
-  stays : {p : Phase} → (Among n i.results → ⊥) → Turns n i p p
-  writes : Among n i.results → Turns n i Early Bound
-  crosses : passes_frame i.op ≡ true → (Among n i.results → ⊥) → Turns n i Bound Passed
+  stays : {p : Phase} → (AmongRegisters n i.results → ⊥) → Turns n i p p
+  writes : AmongRegisters n i.results → Turns n i Early Bound
+  crosses : passes_frame i.op ≡ true → (AmongRegisters n i.results → ⊥) → Turns n i Bound Passed
 
 -- a raise edge passes no write
 pub data Flies (i : Instr) : Phase → Phase → Type 0 where
@@ -59,19 +59,19 @@ abbrev pub Addresses : ℕ → List Reg → Type 0
 Addresses n [] = Unit {0}
 Addresses n (r ∷ rs) = (r.number ≡ n → r.comp ≡ comp.Addr) × Addresses n rs
 
-pub address_written : {n : ℕ} {rs : List Reg} → Addresses n rs → Among n rs → Written n rs
+pub address_written : {n : ℕ} {rs : List Reg} → Addresses n rs → AmongRegisters n rs → Written n rs
 address_written a (first e) = here e (a.0 e)
 address_written a (later i) = there (address_written a.1 i)
 
-pub written_among : {n : ℕ} {rs : List Reg} → Written n rs → Among n rs
+pub written_among : {n : ℕ} {rs : List Reg} → Written n rs → AmongRegisters n rs
 written_among (here e a) = first e
 written_among (there w) = later (written_among w)
 
 -- In this phase at this code, some walk of at most so many steps goes on through the phases, and reads the register in
 -- the last.
 pub data Ahead (m : Mach) (n : ℕ) : ℕ → Phase → List Instr → Type 0 where
-  ends : {k : ℕ} {i : Instr} {next : List Instr} → Among n i.args → Ahead m n k Passed (i ∷ next)
-  steps : {k : ℕ} {p q : Phase} {i : Instr} {next to : List Instr} → Addresses n i.results → Turns n i p q → Leads m i next to → Ahead m n k q to →
+  ends : {k : ℕ} {i : Instr} {next : List Instr} → AmongRegisters n i.args → Ahead m n k Passed (i ∷ next)
+  steps : {k : ℕ} {p q : Phase} {i : Instr} {next to : List Instr} → Addresses n i.results → Turns n i p q → WalkStep m i next to → Ahead m n k q to →
       Ahead m n (suc k) p (i ∷ next)
   strays : {k : ℕ} {p q : Phase} {i : Instr} {next to : List Instr} → Flies i p q → Raises m i next to → Ahead m n k q to → Ahead m n (suc k) p (i ∷ next)
 
@@ -82,18 +82,18 @@ more_steps (strays f r x) = strays f r (more_steps x)
 
 -- what an instruction does that goes on alone
 pub data Past (m : Mach) (n k : ℕ) (i : Instr) (next : List Instr) : Phase → Type 0 where
-  read_here : Among n i.args → Past m n k i next Passed
-  kept_on : {p : Phase} → Addresses n i.results → Off p (Among n i.results) → Ahead m n k p next → Past m n k i next p
+  read_here : AmongRegisters n i.args → Past m n k i next Passed
+  kept_on : {p : Phase} → Addresses n i.results → Off p (AmongRegisters n i.results) → Ahead m n k p next → Past m n k i next p
   wrote_it : Written n i.results → Ahead m n k Bound next → Past m n k i next Early
 
 -- what one does that goes on, may raise and may be a frame point
 pub data Onward (m : Mach) (n k : ℕ) (i : Instr) (next : List Instr) : Phase → Type 0 where
   simply : {p : Phase} → Past m n k i next p → Onward m n k i next p
-  crossed : passes_frame i.op ≡ true → (Among n i.results → ⊥) → Ahead m n k Passed next → Onward m n k i next Bound
+  crossed : passes_frame i.op ≡ true → (AmongRegisters n i.results → ⊥) → Ahead m n k Passed next → Onward m n k i next Bound
   flew : {p q : Phase} {l : ℕ} {tries : List ℕ} → may_raise i.op ≡ true → tries_at (i ∷ next) ≡ l ∷ tries → Flies i p q →
       Ahead m n k q (from_handler l m.code) → Onward m n k i next p
 
-leads_on : {m : Mach} {i : Instr} {next to : List Instr} → targets i.op ≡ On ∷ [] → Leads m i next to → to ≡ next
+leads_on : {m : Mach} {i : Instr} {next to : List Instr} → targets i.op ≡ On ∷ [] → WalkStep m i next to → to ≡ next
 leads_on {m} {i} {next} ts (goes t o) = ap (code_at m.code next) (only_on t (subst (OneOf t) ts o))
 
 turned : {m : Mach} {n k : ℕ} {i : Instr} {next : List Instr} {p q : Phase} → Addresses n i.results → Turns n i p q → Ahead m n k q next → Onward m n k i next p
@@ -122,11 +122,11 @@ straight ts mr pf x = by mr pf (onward ts x)
 
 -- what one does that goes nowhere in the function, or to a handler of it
 pub data Leaving (m : Mach) (n k : ℕ) (i : Instr) (next : List Instr) : Phase → Type 0 where
-  read_last : Among n i.args → Leaving m n k i next Passed
+  read_last : AmongRegisters n i.args → Leaving m n k i next Passed
   flew_off : {p : Phase} {l : ℕ} {tries : List ℕ} → may_raise i.op ≡ true → tries_at (i ∷ next) ≡ l ∷ tries → Ahead m n k p (from_handler l m.code) →
       Leaving m n k i next p
 
-nowhere_to : {m : Mach} {i : Instr} {next to : List Instr} → targets i.op ≡ [] → Leads m i next to → ⊥
+nowhere_to : {m : Mach} {i : Instr} {next to : List Instr} → targets i.op ≡ [] → WalkStep m i next to → ⊥
 nowhere_to ts (goes t o) = none t (subst (OneOf t) ts o)
   where
     none : (t : Target) → OneOf t [] → ⊥
@@ -145,15 +145,15 @@ leaves ts pf (strays f r x) = leaves_flying pf f r (more_steps x)
 
 -- where a mark goes that writes nothing
 pub data Marked (m : Mach) (n : ℕ) (i : Instr) (next : List Instr) : ℕ → Phase → Type 0 where
-  read_there : {k : ℕ} → Among n i.args → Marked m n i next k Passed
+  read_there : {k : ℕ} → AmongRegisters n i.args → Marked m n i next k Passed
   moved_on : {k : ℕ} {p : Phase} (t : Target) → OneOf t (targets i.op) → Ahead m n k p (code_at m.code next t) → Marked m n i next (suc k) p
 
 turned_nothing : {n : ℕ} {i : Instr} {p q : Phase} → i.results ≡ [] → passes_frame i.op ≡ false → Turns n i p q → q ≡ p
 turned_nothing e pf not_yet = refl
 turned_nothing e pf (stays f) = refl
-turned_nothing {n} e pf (writes w) = absurd (none (subst (Among n) e w))
+turned_nothing {n} e pf (writes w) = absurd (none (subst (AmongRegisters n) e w))
   where
-    none : Among n [] → ⊥
+    none : AmongRegisters n [] → ⊥
     none a = elim a [ ]
 turned_nothing e pf (crosses q f) = absurd (true≢false (sym q ∙ pf))
 
@@ -200,7 +200,7 @@ pub data Told : Phase → Option ℕ → List Task → Type 0 where
   skipped : {p : Phase} {w : Option ℕ} {ev : Event} {tasks : List Task} → Apart p w ev → Told p w tasks → Told p w (Does ev ∷ tasks)
   held : {s at : ℕ} {w : Option ℕ} {tasks : List Task} → Told Bound (Some s) tasks → Told Early w (Does (Binds s true at) ∷ tasks)
   past : {at : ℕ} {w : Option ℕ} {tasks : List Task} → Told Passed w tasks → Told Bound w (Does (Passes at) ∷ tasks)
-  quietly : {p : Phase} {w : Option ℕ} {tasks left : List Task} → Next tasks [] left → Told p w left → Told p w tasks
+  quietly : {p : Phase} {w : Option ℕ} {tasks left : List Task} → NextTasks tasks [] left → Told p w left → Told p w tasks
 
 pub none_passed : {tasks : List Task} → Told Passed None tasks → ⊥
 none_passed (skipped a t) = none_passed t

@@ -9,14 +9,14 @@ use Rattle.bs_words.specs.declared.types.Ty.TheVariants as ty
 use Rattle.cmm_tree.specs.Tree.{LabelTree, Parameter}
 use Rattle.cmm_types.specs.Types.{Scoped, binding_of, type_bound_by, type_named, is_address}
 use Rattle.cmm_types.specs.Standing.{Visible}
-use Rattle.walk_tables.specs.Walks.{Binds, Task, Does, Slotted, slotted_as, slot_of, names, behind_raise, behind_exit, parameters_bound, takes}
+use Rattle.walk_tables.specs.Walks.{Binds, Task, Does, Slotted, slotted_as, slot_of, names, behind_raise, behind_exit, parameters_bound, operand_uses}
 use Rattle.walk_tables.specs.Walks as walk
 use Rattle.mach_ir.specs.Meaning.{after_label, from_handler}
-use Rattle.mach_ir.specs.Walks.{Among, first, later}
+use Rattle.mach_ir.specs.Walks.{AmongRegisters, first, later}
 use Rattle.mach_ir.specs.declared.mach.Instr.{Instr}
 use Rattle.mach_ir.specs.declared.mach.Mach.{Mach}
 use Rattle.mach_ir.specs.declared.reg.Reg.{Reg}
-use Rattle.selection_rules.specs.Select.{Named, Label, scopes, comp_of, reg_of, label_of, inner_dest, params_from}
+use Rattle.selection_rules.specs.Select.{NamedRegister, Label, scopes, comp_of_type, reg_of, visible_label, inner_dest, params_from}
 use Rattle.selection_rules.proofs.Parts.{Placed}
 use Rattle.selection_walks.proofs.Phases.{Phase, Early, Bound, Passed, Off, off, off_less, Written, here, there, Ahead, more_steps, Past, read_here, kept_on, wrote_it, Told, used, skipped, held, quietly, any_early, Kept, kept_then, grown, bound_none, written_among, apart_binds, apart_uses}
 use Rattle.std.proofs.lemmas.Option.{none-some, same_Some}
@@ -64,7 +64,7 @@ hold_low {n} {x} {s} {w} {b} {slot} lx ls l t e = ⊎_elim same (λ f. l t (sym 
 pub hold_kept : {n x : ℕ} (s : ℕ) {w : Option ℕ} → (n ≡ x → w ≡ None) → Kept w (hold n x s w)
 hold_kept {n} {x} s {w} f t e = ⊎_elim (λ q. none_some t (sym (f q) ∙ e)) (λ q. hold_other n x s w q ∙ e) (same_or n x)
 
-pub address_of : (t : Ty) → comp_of t ≡ comp.Addr → is_address t ≡ true
+pub address_of : (t : Ty) → comp_of_type t ≡ comp.Addr → is_address t ≡ true
 address_of ty.Addr e = refl
 address_of ty.Val e = cc
 address_of ty.Int e = cc
@@ -75,18 +75,18 @@ address_of ty.Never e = cc
 
 -- The names in scope, with their registers and their slots: the register that is followed is that of a name just where
 -- its slot is.
-pub data Paired (n : ℕ) (w : Option ℕ) (bound : ℕ) : List Named → List Slotted → Type 0 where
+pub data Paired (n : ℕ) (w : Option ℕ) (bound : ℕ) : List NamedRegister → List Slotted → Type 0 where
   none : Paired n w bound [] []
-  pair : {x : Named} {z : Slotted} {env : List Named} {scope : List Slotted} → z.scoped ≡ x.scoped → z.slot < bound → (x.reg.number ≡ n → w ≡ Some z.slot) →
-      (w ≡ Some z.slot → x.reg.number ≡ n) → x.reg.comp ≡ comp_of x.scoped.type →
+  pair : {x : NamedRegister} {z : Slotted} {env : List NamedRegister} {scope : List Slotted} → z.scoped ≡ x.scoped → z.slot < bound → (x.reg.number ≡ n → w ≡ Some z.slot) →
+      (w ≡ Some z.slot → x.reg.number ≡ n) → x.reg.comp ≡ comp_of_type x.scoped.type →
       Paired n w bound env scope → Paired n w bound (x ∷ env) (z ∷ scope)
 
-pub paired_names : {n : ℕ} {w : Option ℕ} {bound : ℕ} {env : List Named} {scope : List Slotted} → Paired n w bound env scope → names scope ≡ scopes env
+pub paired_names : {n : ℕ} {w : Option ℕ} {bound : ℕ} {env : List NamedRegister} {scope : List Slotted} → Paired n w bound env scope → names scope ≡ scopes env
 paired_names none = refl
 paired_names (pair {x = x} {env = env} {scope = scope} e l p q c r) = ap (λ y. y ∷ names scope) e ∙ ap (λ ys. x.scoped ∷ ys) (paired_names r)
 
 -- what else is bound is in other slots
-pub paired_more : {n : ℕ} {w v : Option ℕ} {bound free : ℕ} {env : List Named} {scope : List Slotted} → bound ≤ free → Kept w v →
+pub paired_more : {n : ℕ} {w v : Option ℕ} {bound free : ℕ} {env : List NamedRegister} {scope : List Slotted} → bound ≤ free → Kept w v →
     ((s : ℕ) → v ≡ Some s → (w ≡ Some s) ⊎ (bound ≤ s)) → Paired n w bound env scope → Paired n v free env scope
 paired_more le k f none = none
 paired_more {n} {w} {v} {bound} {free} le k f (pair {z = z} e l p q c r) =
@@ -95,10 +95,10 @@ paired_more {n} {w} {v} {bound} {free} le k f (pair {z = z} e l p q c r) =
 -- a name that is looked up
 pub data Looked (n : ℕ) (w : Option ℕ) (t : Ty) : Option Reg → Option ℕ → Option Scoped → Type 0 where
   nowhere : Looked n w t None None None
-  found : {r : Reg} {k : ℕ} {x : Scoped} → (r.number ≡ n → w ≡ Some k) → (w ≡ Some k → r.number ≡ n) → r.comp ≡ comp_of t →
+  found : {r : Reg} {k : ℕ} {x : Scoped} → (r.number ≡ n → w ≡ Some k) → (w ≡ Some k → r.number ≡ n) → r.comp ≡ comp_of_type t →
       Looked n w t (Some r) (Some k) (Some x)
 
-pub looked : {n : ℕ} {w : Option ℕ} {bound : ℕ} {env : List Named} {scope : List Slotted} (x : List ℕ) → Paired n w bound env scope →
+pub looked : {n : ℕ} {w : Option ℕ} {bound : ℕ} {env : List NamedRegister} {scope : List Slotted} (x : List ℕ) → Paired n w bound env scope →
     Looked n w (type_named (scopes env) x) (reg_of env x) (slot_of scope x) (binding_of (scopes env) x)
 looked x none = nowhere
 looked {n} {w} x (pair {x = y} {z = z} {env = env} {scope = scope} e l p q c r) =
@@ -145,7 +145,7 @@ module _ (m : Mach) (n : ℕ) where
   pub record Outs (k : ℕ) (w : Option ℕ) (ts : List ℕ) (labels : List Label) (handler : Option (List Task))
       (handlers : LabelTree → Option (List Task)) : Type 0 where
     pub raised : Raising k w ts handler
-    pub exits : (label : LabelTree) (t : Label) → label_of labels label ≡ Some t → Landing k w t (handlers label)
+    pub exits : (label : LabelTree) (t : Label) → visible_label labels label ≡ Some t → Landing k w t (handlers label)
 
   abbrev pub OutsOf : ℕ → Option ℕ → List ℕ → List Label → List Task → Type 0
   OutsOf k w ts labels tasks = Outs k w ts labels (behind_raise tasks) (λ label. behind_exit label tasks)
@@ -153,11 +153,11 @@ module _ (m : Mach) (n : ℕ) where
   -- What is ahead at the code is ahead before the tasks: from every phase, but for what should have been written into
   -- these registers, and where it has just been written into one of them.
   pub record Sit (D : List Reg) (k : ℕ) (w : Option ℕ) (ts : List ℕ) (labels : List Label) (next : List Instr) (tasks : List Task) : Type 0 where
-    pub cont : Placed m ts next → (p : Phase) → Off p (Among n D) → Ahead m n k p next → Told p w tasks
+    pub cont : Placed m ts next → (p : Phase) → Off p (AmongRegisters n D) → Ahead m n k p next → Told p w tasks
     pub given : Placed m ts next → Written n D → Ahead m n k Bound next → Told Early w tasks
     pub outs : OutsOf k w ts labels tasks
 
-  pub no_among : Among n [] → ⊥
+  pub no_among : AmongRegisters n [] → ⊥
   no_among a = elim a [ ]
 
   pub no_written : Written n [] → ⊥
@@ -241,7 +241,7 @@ module _ (m : Mach) (n : ℕ) where
 
   -- a task that comes first, and does nothing to the slot
   pub quiet_sit : {D : List Reg} {k : ℕ} {w : Option ℕ} {ts : List ℕ} {labels : List Label} {next : List Instr} {left tasks : List Task} →
-      walk.Next tasks [] left → OutsOf k w ts labels tasks → Sit D k w ts labels next left → Sit D k w ts labels next tasks
+      walk.NextTasks tasks [] left → OutsOf k w ts labels tasks → Sit D k w ts labels next left → Sit D k w ts labels next tasks
   quiet_sit y o x = record { cont = λ at p f z. quietly y (x.cont at p f z); given = λ at f z. quietly y (x.given at f z); outs = o }
 
   -- a sit without exceptions
@@ -263,16 +263,16 @@ module _ (m : Mach) (n : ℕ) where
       number (here e a) = sym e
       number (there z) = absurd (no_written z)
 
-  pub one_number : {d : Reg} → Among n (d ∷ []) → n ≡ d.number
+  pub one_number : {d : Reg} → AmongRegisters n (d ∷ []) → n ≡ d.number
   one_number (first e) = sym e
   one_number (later i) = absurd (no_among i)
 
   -- an instruction writes the destination, and goes on
   pub finish : {k : ℕ} {w v : Option ℕ} {ts : List ℕ} {labels : List Label} {i : Instr} {next : List Instr} {tasks more : List Task} {p : Phase} (want : Bool)
       (d : Reg) → Sit (out want d) k w ts labels next tasks → ApartFrom d w → i.results ≡ d ∷ [] → Placed m ts next →
-      (Among n i.args → Told Passed v more) → ((p : Phase) → Told p w tasks → Told p v more) → Past m n k i next p → Told p v more
+      (AmongRegisters n i.args → Told Passed v more) → ((p : Phase) → Told p w tasks → Told p v more) → Past m n k i next p → Told p v more
   finish want d x apart e at reads pre (read_here a) = reads a
-  finish true d x apart e at reads pre (kept_on {p = p} a o y) = pre p (x.cont at p (off_less p (λ z. subst (Among n) (sym e) z) o) y)
+  finish true d x apart e at reads pre (kept_on {p = p} a o y) = pre p (x.cont at p (off_less p (λ z. subst (AmongRegisters n) (sym e) z) o) y)
   finish false d x apart e at reads pre (kept_on {p = p} a o y) = pre p (go x at p y)
   finish true d x apart e at reads pre (wrote_it z y) = pre Early (x.given at (subst (Written n) e z) y)
   finish {w = w} false d x apart e at reads pre (wrote_it z y) =
@@ -297,7 +297,7 @@ module _ (m : Mach) (n : ℕ) where
 
   -- the value of an operand, or of a name, is bound
   pub binding : {k : ℕ} {ts : List ℕ} {labels : List Label} {w v : Option ℕ} {next : List Instr} {tasks : List Task} (x : Reg) (t : Ty) (slot at : ℕ) →
-      x.comp ≡ comp_of t → ((s : ℕ) → w ≡ Some s → slot ≡ s → ⊥) → ((n ≡ x.number → ⊥) → v ≡ w) → (n ≡ x.number → v ≡ Some slot) → OutsOf k w ts labels tasks →
+      x.comp ≡ comp_of_type t → ((s : ℕ) → w ≡ Some s → slot ≡ s → ⊥) → ((n ≡ x.number → ⊥) → v ≡ w) → (n ≡ x.number → v ≡ Some slot) → OutsOf k w ts labels tasks →
       Sit [] k v ts labels next tasks → Sit (x ∷ []) k w ts labels next (Does (Binds slot (is_address t) at) ∷ tasks)
   binding {k} {ts} {labels} {w} {v} {next} {tasks} x t slot at kind vacant others same outs y =
       record {
@@ -306,7 +306,7 @@ module _ (m : Mach) (n : ℕ) where
         outs = outs;
       }
     where
-      of_cont : (p : Phase) → Off p (Among n (x ∷ [])) → Told p v tasks → Told p w tasks
+      of_cont : (p : Phase) → Off p (AmongRegisters n (x ∷ [])) → Told p v tasks → Told p w tasks
       of_cont Early f z = any_early z
       of_cont Bound f z = subst (λ o. Told Bound o tasks) (others (λ e. f (first (sym e)))) z
       of_cont Passed f z = subst (λ o. Told Passed o tasks) (others (λ e. f (first (sym e)))) z
@@ -318,14 +318,14 @@ module _ (m : Mach) (n : ℕ) where
 
   -- ---- uses
 
-  pub through_takes : {w : Option ℕ} {tasks : List Task} (p : Phase) (at slot count : ℕ) → Told p w tasks → Told p w (takes at slot count ++ tasks)
+  pub through_takes : {w : Option ℕ} {tasks : List Task} (p : Phase) (at slot count : ℕ) → Told p w tasks → Told p w (operand_uses at slot count ++ tasks)
   through_takes p at slot zero x = x
   through_takes {w} p at slot (suc count) x = skipped (apart_uses p w slot at) (through_takes p at (suc slot) count x)
 
-  pub taken : {w : Option ℕ} (tasks : List Task) (at slot count i : ℕ) → i < count → w ≡ Some (slot + i) → Told Passed w (takes at slot count ++ tasks)
+  pub taken : {w : Option ℕ} (tasks : List Task) (at slot count i : ℕ) → i < count → w ≡ Some (slot + i) → Told Passed w (operand_uses at slot count ++ tasks)
   taken {w} tasks at slot zero i l e = absurd (omega (arith, l))
   taken {w} tasks at slot (suc count) zero l e = let q : slot ≡ slot + zero =
-      omega arith in subst (λ o. Told Passed o (takes at slot (suc count) ++ tasks)) (sym e)
-      (subst (λ s. Told Passed (Some s) (takes at slot (suc count) ++ tasks)) q used)
+      omega arith in subst (λ o. Told Passed o (operand_uses at slot (suc count) ++ tasks)) (sym e)
+      (subst (λ s. Told Passed (Some s) (operand_uses at slot (suc count) ++ tasks)) q used)
   taken {w} tasks at slot (suc count) (suc i) l e = let q : slot + suc i ≡ suc slot + i =
       omega arith in skipped (apart_uses Passed w slot at) (taken tasks at (suc slot) count i (omega (arith, l)) (e ∙ ap Some q))

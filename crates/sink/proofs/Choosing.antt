@@ -8,14 +8,14 @@ use Rattle.bs_words.specs.Contents.{contents}
 use Rattle.bs_words.proofs.Lists.{none_in, tail_same}
 use Rattle.dataflow.specs.Flow.{IsBare}
 use Rattle.dataflow.specs.Flow as flows
-use Rattle.dataflow.specs.Rows.{row}
+use Rattle.dataflow.specs.Rows.{set_in_row}
 use Rattle.dataflow.specs.declared.flow.Flow as flow
 use Rattle.dataflow.specs.declared.flow.Place as place
 use Rattle.mach_ir.specs.Acts.{On}
 use Rattle.mach_ir.specs.Formed.{WellFormed}
 use Rattle.mach_ir.specs.Graph.{IsLiveMap}
-use Rattle.mach_ir.specs.Meaning.{Everything, destroyed_by, written, code_at}
-use Rattle.mach_ir.specs.Walks.{Among, OneOf, targets, goes, Leads, Live, Writes, Stands, is_in_code}
+use Rattle.mach_ir.specs.Meaning.{Everything, destroyed_by, registers_written, code_at}
+use Rattle.mach_ir.specs.Walks.{AmongRegisters, OneOf, targets, goes, WalkStep, Live, Writes, StandsAsInstr, is_in_code}
 use Rattle.mach_ir.specs.Walks as walks
 use Rattle.mach_ir.specs.declared.graph.LiveMap.{LiveMap}
 use Rattle.mach_ir.specs.declared.op.Op.{Op}
@@ -24,15 +24,15 @@ use Rattle.mach_ir.specs.declared.mach.Instr.{Instr}
 use Rattle.mach_ir.specs.declared.mach.Mach.{Mach}
 use Rattle.mach_ir.specs.declared.mach.MachOp.{MachOp}
 use Rattle.mach_ir.specs.declared.mach.MachOp.TheVariants as mach
-use Rattle.mach_laws.specs.Graph.{place_of, numbers, next_places, raise_places, IsFlowOf}
+use Rattle.mach_laws.specs.Graph.{code_index, numbers_of_registers, next_places, raise_places, IsFlowOf}
 use Rattle.mach_laws.proofs.Places.{ending_next, stands_of, ending_of, is_unset}
 use Rattle.mach_laws.proofs.Walking.{place_is, among_numbers, in_numbers, place_back, place_within, ending_place}
 use Rattle.spill_rules.specs.Chosen.{LivesOver, lives}
 use Rattle.sink_rules.specs.Chosen.{IsSunkAt}
 use Rattle.sink_rules.specs.Walks.{Fresh, Stale}
-use Rattle.sink.specs.Chosen.{is_call, some_call, has_call, move_at, all_moves, IsMove, AreMoves}
+use Rattle.sink.specs.Chosen.{is_call, some_call, has_call, move_at, all_moves, IsSinkingMove, AreMoves}
 use Rattle.sink.specs.Mixed.{noted_code}
-use Rattle.sink.specs.Graphs.{held, IsOver, IsFreshNode}
+use Rattle.sink.specs.Graphs.{destroys_colours, IsOver, IsFreshNode}
 use Rattle.sink.specs.Registers.{entered_code}
 use Rattle.sink.specs.Sights.{noted_places}
 use Rattle.sink.specs.Tables.{IsSolved}
@@ -49,7 +49,7 @@ use Rattle.sink.proofs.Moving.{Moved, moved, moves_at, in_moves, moves_in, moves
 use Rattle.sink.proofs.Nodes.{at_last}
 use Rattle.sink.proofs.Seeing.{Sees, unseen, once, often, same_sees, InPlaces, all_seen, length_places}
 use Rattle.liveness.proofs.Steps.{destroys_on, live_small}
-use Rattle.mach_ir.specs.Places.{is_open}
+use Rattle.mach_ir.specs.Places.{is_unset_location}
 use Rattle.bs_words.proofs.Truths.{not_both}
 
 -- ---- sights
@@ -71,9 +71,9 @@ call_is : (f : MachOp) → is_call f ≡ true → (g : Op) × (f ≡ mach.Op g)
 call_is (mach.Op g) e = (g, refl)
 call_is (mach.Mark g) e = absurd (not_both false e refl)
 
-is_a_call : (f : MachOp) (g : Op) → f ≡ mach.Op g → held f ≡ true → is_call f ≡ true
-is_a_call (mach.Op g) h e held = held
-is_a_call (mach.Mark g) h e held = absurd (bad e)
+is_a_call : (f : MachOp) (g : Op) → f ≡ mach.Op g → destroys_colours f ≡ true → is_call f ≡ true
+is_a_call (mach.Op g) h e destroys_colours = destroys_colours
+is_a_call (mach.Mark g) h e destroys_colours = absurd (bad e)
   where
     bad : mach.Mark g ≡ mach.Op h → ⊥
     bad e = cc
@@ -103,7 +103,7 @@ module _ (m : Mach) (formed : WellFormed m) (live : LiveMap) (exact : IsLiveMap 
     next : List Instr
     is_at : drop q m.code ≡ instr ∷ next
     here : q < length m.code
-    is_held : held instr.op ≡ true
+    is_held : destroys_colours instr.op ≡ true
     over : LivesOver m n instr next next
     fresh : Fresh m n (instr ∷ next)
 
@@ -114,7 +114,7 @@ module _ (m : Mach) (formed : WellFormed m) (live : LiveMap) (exact : IsLiveMap 
   plain q i e = omega (arith, e)
 
   seen_at : (n q : ℕ) → Where (length m.code) q → Contains (slice_index_or (map (λ x. contents x.writes) (contents f.places)) q []) n →
-      has (row s.fresh.rows.items q) n ≡ true → IsSeen n q
+      has (set_in_row s.fresh.rows.items q) n ≡ true → IsSeen n q
   seen_at n q (inner lt) c h =
       let a = at m E N next_of aside_of f is.nodes q lt in
       let i = a.instr in
@@ -122,8 +122,8 @@ module _ (m : Mach) (formed : WellFormed m) (live : LiveMap) (exact : IsLiveMap 
       let ending = ending_place m q a.is in
       let x = ((a.is_node).writes n).0 (subst (λ xs. Contains xs n) (a.part (λ x. contents x.writes)) c) in
       let w : Writes m i n → ⊥ = λ z. (x.1).other (in_numbers z) in
-      let leads : Leads m i next next = goes On (held_on i.op x.0) in
-      let after : Live m n next = subst (Live m n) (place_is m (ending_next ending)) ((exact.exact (place_of m next) n).0 (x.1).live) in
+      let leads : WalkStep m i next next = goes On (held_on i.op x.0) in
+      let after : Live m n next = subst (Live m n) (place_is m (ending_next ending)) ((exact.exact (code_index m next) n).0 (x.1).live) in
       record {
         instr = i;
         next = next;
@@ -151,10 +151,10 @@ module _ (m : Mach) (formed : WellFormed m) (live : LiveMap) (exact : IsLiveMap 
 
   -- what lives over an instruction is live before it, and after
   record Lives (n : ℕ) (i : Instr) (next to : List Instr) : Type 0 where
-    stands : Stands i next m.code
+    stands : StandsAsInstr i next m.code
     destroys : destroyed_by i.op ≡ Everything
     unwritten : Writes m i n → ⊥
-    is_held : held i.op ≡ true
+    is_held : destroys_colours i.op ≡ true
     before : Live m n (i ∷ next)
     after : Live m n next
     whole : LivesOver m n i next next
@@ -175,24 +175,24 @@ module _ (m : Mach) (formed : WellFormed m) (live : LiveMap) (exact : IsLiveMap 
       }
 
   from_seen : {n : ℕ} {i : Instr} {next to : List Instr} → LivesOver m n i next to → Fresh m n (i ∷ next) →
-      InPlaces s.fresh.rows.items 0 (contents f.places) n (place_of m (i ∷ next))
+      InPlaces s.fresh.rows.items 0 (contents f.places) n (code_index m (i ∷ next))
   from_seen {n} {i} {next} o fr =
       let l = lives_of o in
       let ending = ending_of l.stands in
       let x = of m E N next_of aside_of f is.nodes ending in
-      let made : IsOver rows (place_of m next) i.op (numbers (written m i)) n = (
+      let made : IsOver rows (code_index m next) i.op (numbers_of_registers (registers_written m i)) n = (
         l.is_held,
         record {
-          live = (exact.exact (place_of m next) n).1 (subst (Live m n) (sym (place_is m (ending_next ending))) l.after);
-          other = λ c. l.unwritten (among_numbers n (written m i) c);
+          live = (exact.exact (code_index m next) n).1 (subst (Live m n) (sym (place_is m (ending_next ending))) l.after);
+          other = λ c. l.unwritten (among_numbers n (registers_written m i) c);
         },
       ) in
       record {
-        index = place_of m (i ∷ next);
-        is = same (place_of m (i ∷ next));
+        index = code_index m (i ∷ next);
+        is = same (code_index m (i ∷ next));
         killed = subst (λ q. Contains (slice_index_or (map (λ x. contents x.writes) (contents f.places)) q []) n) x.number_is
             (subst (λ xs. Contains xs n) (sym (x.part (λ x. contents x.writes))) (((x.is_node).writes n).1 made));
-        fresh = ((is.fresh).exact (place_of m (i ∷ next)) n (place_within m (i ∷ next))
+        fresh = ((is.fresh).exact (code_index m (i ∷ next)) n (place_within m (i ∷ next))
             (subst (Live m n) (sym (place_is m ending)) l.before)).1 (subst (Fresh m n) (sym (place_is m ending)) fr);
       }
     where
@@ -245,13 +245,13 @@ module _ (m : Mach) (formed : WellFormed m) (live : LiveMap) (exact : IsLiveMap 
   MixedReads n = IsMixedIn s.fresh.rows.items s.stale.rows.items 0 m.code n
 
   -- a read is at its place, where the register is live
-  live_read : {n : ℕ} {i : Instr} {next : List Instr} (p : ℕ) → drop p m.code ≡ i ∷ next → Among n i.args → Live m n (drop p m.code)
+  live_read : {n : ℕ} {i : Instr} {next : List Instr} (p : ℕ) → drop p m.code ≡ i ∷ next → AmongRegisters n i.args → Live m n (drop p m.code)
   live_read p e a = subst (Live m _) (sym e) (walks.read a)
 
-  mixed_read : (n : ℕ) (j : Instr) (others : List Instr) → Stands j others m.code → Among n j.args → Fresh m n (j ∷ others) →
+  mixed_read : (n : ℕ) (j : Instr) (others : List Instr) → StandsAsInstr j others m.code → AmongRegisters n j.args → Fresh m n (j ∷ others) →
       Stale m n (j ∷ others) → MixedReads n
   mixed_read n j others st a fr old =
-      let p = place_of m (j ∷ others) in
+      let p = code_index m (j ∷ others) in
       let e = place_is m (ending_of st) in
       let v = live_read p e a in
       record {
@@ -260,9 +260,9 @@ module _ (m : Mach) (formed : WellFormed m) (live : LiveMap) (exact : IsLiveMap 
         next = others;
         is = e;
         reads = a;
-        fresh_there = ap (λ q. has (row s.fresh.rows.items q) n) (sym (same p))
+        fresh_there = ap (λ q. has (set_in_row s.fresh.rows.items q) n) (sym (same p))
             ∙ ((is.fresh).exact p n (place_within m (j ∷ others)) v).1 (subst (Fresh m n) (sym e) fr);
-        stale_there = ap (λ q. has (row s.stale.rows.items q) n) (sym (same p))
+        stale_there = ap (λ q. has (set_in_row s.stale.rows.items q) n) (sym (same p))
             ∙ ((is.stale).exact p n (place_within m (j ∷ others)) v).1 (subst (Stale m n) (sym e) old);
       }
     where
@@ -270,7 +270,7 @@ module _ (m : Mach) (formed : WellFormed m) (live : LiveMap) (exact : IsLiveMap 
       same q = omega arith
 
   read_mixed : (n : ℕ) → MixedReads n →
-      (j : Instr) × (others : List Instr) × Stands j others m.code × Among n j.args × Fresh m n (j ∷ others) × Stale m n (j ∷ others)
+      (j : Instr) × (others : List Instr) × StandsAsInstr j others m.code × AmongRegisters n j.args × Fresh m n (j ∷ others) × Stale m n (j ∷ others)
   read_mixed n x =
       let p = x.index in
       let v = live_read p x.is x.reads in
@@ -279,8 +279,8 @@ module _ (m : Mach) (formed : WellFormed m) (live : LiveMap) (exact : IsLiveMap 
         x.next,
         stands_of (ending_place m p x.is),
         x.reads,
-        subst (Fresh m n) x.is (((is.fresh).exact p n le v).0 (ap (λ q. has (row s.fresh.rows.items q) n) (same p) ∙ x.fresh_there)),
-        subst (Stale m n) x.is (((is.stale).exact p n le v).0 (ap (λ q. has (row s.stale.rows.items q) n) (same p) ∙ x.stale_there)),
+        subst (Fresh m n) x.is (((is.fresh).exact p n le v).0 (ap (λ q. has (set_in_row s.fresh.rows.items q) n) (same p) ∙ x.fresh_there)),
+        subst (Stale m n) x.is (((is.stale).exact p n le v).0 (ap (λ q. has (set_in_row s.stale.rows.items q) n) (same p) ∙ x.stale_there)),
       )
     where
       same : (q : ℕ) → q ≡ 0 + q
@@ -301,7 +301,7 @@ module _ (m : Mach) (formed : WellFormed m) (live : LiveMap) (exact : IsLiveMap 
       subst (λ l. k < l)
       (length_places s.fresh.rows.items 0 (contents f.places) (replicate s.graph.bound Unseen) ∙ length_unseen s.graph.bound ∙ is.bound_is) lt
 
-  is_move : (move : Move) → Contains moves move → IsMove m move
+  is_move : (move : Move) → Contains moves move → IsSinkingMove m move
   is_move move c =
       let k = in_moves m.code s.stale.rows.items mixed registers table move c in
       let x = moved m.code s.stale.rows.items mixed (slice_index_or registers k.0 None) (slice_index_or table k.0 Unseen) move k.2 in
@@ -312,7 +312,7 @@ module _ (m : Mach) (formed : WellFormed m) (live : LiveMap) (exact : IsLiveMap 
       (subst (λ n. IsSeen n x.call) (sym entered.1) t.0) (λ q h. t.1 q (subst (λ n. IsSeen n q) entered.1 h))
     where
       made : (move : Move) {o : Option Reg} {sight : Sight} (x : Moved m.code s.stale.rows.items mixed o sight move) → walks.InCode move.reg m.code →
-          move.reg.number < bound → IsSeen move.reg.number x.call → ((q : ℕ) → IsSeen move.reg.number q → q ≡ x.call) → IsMove m move
+          move.reg.number < bound → IsSeen move.reg.number x.call → ((q : ℕ) → IsSeen move.reg.number q → q ≡ x.call) → IsSinkingMove m move
       made move x code small h only =
           let i = h.instr in
           let next = h.next in
@@ -349,12 +349,12 @@ module _ (m : Mach) (formed : WellFormed m) (live : LiveMap) (exact : IsLiveMap 
               over = h.over;
               unsaved = h.fresh;
               surely = λ st.
-                  not_both (has (row s.stale.rows.items p) n)
+                  not_both (has (set_in_row s.stale.rows.items p) n)
                   (((is.stale).exact p n (within p h.here) (subst (Live m n) (sym h.is_at) l.before)).1 (subst (Stale m n) (sym h.is_at) st))
                   x.surely;
               only = λ j others after o fr.
-                  let y = to_seen n (place_of m (j ∷ others)) (from_seen o fr) in
-                  let same = only (place_of m (j ∷ others)) y in
+                  let y = to_seen n (code_index m (j ∷ others)) (from_seen o fr) in
+                  let same = only (code_index m (j ∷ others)) y in
                   tail_same
                   (sym (place_is m (ending_of (lives_of o).stands)) ∙ ap (λ q. drop q m.code) same ∙ h.is_at);
               late = λ j others st a fr old.
@@ -365,13 +365,13 @@ module _ (m : Mach) (formed : WellFormed m) (live : LiveMap) (exact : IsLiveMap 
 
   -- ---- and every one
 
-  is_all : (old : flow.Flow) → IsFlowOf m old → flows.WellFormed old → old.bound ≡ bound → (i : Instr) (next : List Instr) (r : Reg) →
-      IsSunkAt m i next r → Contains moves (record { reg = r; place = place_of m (i ∷ next) })
+  is_all : (old : flow.Flow) → IsFlowOf m old → flows.IsFlowFormed old → old.bound ≡ bound → (i : Instr) (next : List Instr) (r : Reg) →
+      IsSunkAt m i next r → Contains moves (record { reg = r; place = code_index m (i ∷ next) })
   is_all old flow_is old_formed same i next r a =
       let n = r.number in
       let call = a.call in
       let after = a.after in
-      let p = place_of m (call ∷ after) in
+      let p = code_index m (call ∷ after) in
       let l = lives_of a.over in
       let ending = ending_of l.stands in
       let small : n < bound = subst (λ b. n < b) same (live_small m old flow_is old_formed l.before ending) in
@@ -388,29 +388,29 @@ module _ (m : Mach) (formed : WellFormed m) (live : LiveMap) (exact : IsLiveMap 
       ∙ place_same h.instr h.next call after (a.only h.instr h.next h.next h.over h.fresh)) in
       let calls : some_call (slice_get m.code p) ≡ true =
       ap some_call (get_there m.code p call after (place_is m ending)) ∙ is_a_call call.op (a.run).operation (a.run).is_call l.is_held in
-      let surely : has (row s.stale.rows.items p) n ≡ false =
+      let surely : has (set_in_row s.stale.rows.items p) n ≡ false =
       ⊎_elim
       (λ t.
       absurd
       (a.surely
       (subst (Stale m n) (place_is m ending)
       (((is.stale).exact p n (place_within m (call ∷ after)) (subst (Live m n) (sym (place_is m ending)) l.before)).0 t))))
-      (λ t. t) (cases_Bool (has (row s.stale.rows.items p) n)) in
+      (λ t. t) (cases_Bool (has (set_in_row s.stale.rows.items p) n)) in
       let unmixed : has mixed n ≡ false =
       ⊎_elim
       (λ t.
       let x = read_mixed n (is_mixed_in s.fresh.rows.items s.stale.rows.items m.code bound n t) in
       absurd (a.late x.0 x.1 x.2 x.3 x.4 x.5))
       (λ t. t) (cases_Bool (has mixed n)) in
-      moves_in m.code s.stale.rows.items mixed registers table n (record { reg = r; place = place_of m (i ∷ next) })
+      moves_in m.code s.stale.rows.items mixed registers table n (record { reg = r; place = code_index m (i ∷ next) })
       (subst (λ k. n < k) (sym (length_table m unique bound)) small) in_table
       (ap (λ o. move_at m.code s.stale.rows.items mixed o (slice_index_or table n Unseen)) (e.3 ∙ ap Some same_reg)
       ∙ ap (move_at m.code s.stale.rows.items mixed (Some r)) sight
-      ∙ moves_at m.code s.stale.rows.items mixed r p (place_of m (i ∷ next)) (ap is_open a.open_place) calls surely unmixed
+      ∙ moves_at m.code s.stale.rows.items mixed r p (code_index m (i ∷ next)) (ap is_unset_location a.open_place) calls surely unmixed
       (run_starts m n (ending_of a.stands) a.run))
     where
       place_same : (j : Instr) (others : List Instr) (call : Instr) (after : List Instr) → others ≡ after →
-          place_of m (j ∷ others) ≡ place_of m (call ∷ after)
+          code_index m (j ∷ others) ≡ code_index m (call ∷ after)
       place_same j others call after e = ap (λ xs. length m.code - suc (length xs)) e
 
   pub lengths : (rs : List (Option Reg)) (ss : List Sight) → rs ≡ registers → ss ≡ table → length rs ≡ length ss
@@ -418,7 +418,7 @@ module _ (m : Mach) (formed : WellFormed m) (live : LiveMap) (exact : IsLiveMap 
       ap length e ∙ length_table m unique bound ∙ sym is.bound_is ∙ sym (length_unseen s.graph.bound)
       ∙ sym (length_places s.fresh.rows.items 0 (contents f.places) (replicate s.graph.bound Unseen)) ∙ sym (ap length h)
 
-  pub are_moves : (old : flow.Flow) → IsFlowOf m old → flows.WellFormed old → old.bound ≡ bound → (found : List Move) →
+  pub are_moves : (old : flow.Flow) → IsFlowOf m old → flows.IsFlowFormed old → old.bound ≡ bound → (found : List Move) →
       found ≡ moves → AreMoves m found
   are_moves old flow_is old_formed same found e =
       subst (AreMoves m) (sym e)
@@ -434,7 +434,7 @@ module _ (m : Mach) (formed : WellFormed m) (live : LiveMap) (exact : IsLiveMap 
 
 -- ---- with no call
 
-no_call : (code : List Instr) → has_call code ≡ false → {i : Instr} {next : List Instr} → Stands i next code → is_call i.op ≡ false
+no_call : (code : List Instr) → has_call code ≡ false → {i : Instr} {next : List Instr} → StandsAsInstr i next code → is_call i.op ≡ false
 no_call (i ∷ is) e walks.here = left (is_call i.op) (has_call is) e
   where
     left : (a b : Bool) → a || b ≡ false → a ≡ false
@@ -458,4 +458,4 @@ none_moved m code found same e none =
   where
     bad : {n : ℕ} {i : Instr} {next to : List Instr} {g : Op} → LivesOver m n i next to → i.op ≡ mach.Op g → ⊥
     bad {i = i} {g = g} (lives st d w (goes t o) v) h =
-        not_both (is_call i.op) (is_a_call i.op g h (held_of i.op t d o)) (no_call code e (subst (Stands i _) (sym same) st))
+        not_both (is_call i.op) (is_a_call i.op g h (held_of i.op t d o)) (no_call code e (subst (StandsAsInstr i _) (sym same) st))

@@ -2,8 +2,8 @@
 use Rattle.std.proofs.Common.{◌≡◌, ℕ, ◌+◌, ◌-◌, ◌≤◌, Bool, List, [], ◌∷◌, ◌++◌, length, sym, ap, ◌∙◌, append_assoc, arith}
 use Rattle.std.proofs.lemmas.List.{append-nil, length-append}
 use Rattle.mach_ir.specs.declared.mach.Instr.{Instr}
-use Rattle.sink.specs.Runs.{begins_at}
-use Rattle.sink.specs.Moves.{instr_at, code_at}
+use Rattle.sink.specs.Runs.{straight_run_begins}
+use Rattle.sink.specs.Moves.{instr_after_moves, sunk_code}
 use Rattle.sink.specs.declared.chosen.Move.{Move}
 use Rattle.sink.proofs.Running.{begins_within}
 
@@ -11,29 +11,29 @@ use Rattle.sink.proofs.Running.{begins_within}
 pub record Copying (t : List Move) (code items made : List Instr) : Type 0 where
   pub done : List Instr
   pub whole : items ++ done ≡ code
-  pub made_so : made ≡ code_at t code done
+  pub made_so : made ≡ sunk_code t code done
 
 pub copying_begun : (t : List Move) (code items made : List Instr) → items ≡ code → made ≡ [] → Copying t code items made
 copying_begun t code items made e h = record { done = []; whole = append-nil items ∙ e; made_so = h }
 
 pub copying_more : (t : List Move) (code items rest : List Instr) (i : Instr) (begins : Bool) (place : ℕ) (made new : List Instr) →
-    items ≡ rest ++ i ∷ [] → place ≡ length rest → begins ≡ begins_at rest place → Copying t code items made →
-    new ≡ instr_at t begins place i ++ made → Copying t code rest new
+    items ≡ rest ++ i ∷ [] → place ≡ length rest → begins ≡ straight_run_begins rest place → Copying t code items made →
+    new ≡ instr_after_moves t begins place i ++ made → Copying t code rest new
 copying_more t code items rest i begins place made new popped at first c e =
     record {
       done = i ∷ c.done;
       whole = whole;
-      made_so = e ∙ ap (λ xs. instr_at t begins place i ++ xs) c.made_so
-          ∙ ap (λ b. instr_at t b place i ++ code_at t code c.done) begins_so
-          ∙ ap (λ p. instr_at t (begins_at code p) p i ++ code_at t code c.done) (at ∙ place_is);
+      made_so = e ∙ ap (λ xs. instr_after_moves t begins place i ++ xs) c.made_so
+          ∙ ap (λ b. instr_after_moves t b place i ++ sunk_code t code c.done) begins_so
+          ∙ ap (λ p. instr_after_moves t (straight_run_begins code p) p i ++ sunk_code t code c.done) (at ∙ place_is);
     }
   where
     whole : rest ++ i ∷ c.done ≡ code
     whole = sym (append_assoc rest (i ∷ []) c.done) ∙ ap (λ xs. xs ++ c.done) (sym popped) ∙ c.whole
 
-    begins_so : begins ≡ begins_at code place
+    begins_so : begins ≡ straight_run_begins code place
     begins_so =
-        first ∙ sym (begins_within rest (i ∷ c.done) place (same_le place (length rest) at)) ∙ ap (λ xs. begins_at xs place) whole
+        first ∙ sym (begins_within rest (i ∷ c.done) place (same_le place (length rest) at)) ∙ ap (λ xs. straight_run_begins xs place) whole
       where
         same_le : (a b : ℕ) → a ≡ b → a ≤ b
         same_le a b e = omega (arith, e)
@@ -48,6 +48,6 @@ copying_more t code items rest i begins place made new popped at first c e =
     place_is = let a = all in let b = some in omega (arith, a, b)
 
 pub copying_done : (t : List Move) (code items made all : List Instr) → Copying t code items made → items ≡ [] → all ≡ made →
-    all ≡ code_at t code code
+    all ≡ sunk_code t code code
 copying_done t code items made all c none e =
-    e ∙ c.made_so ∙ ap (code_at t code) (ap (λ xs. xs ++ c.done) (sym none) ∙ c.whole)
+    e ∙ c.made_so ∙ ap (sunk_code t code) (ap (λ xs. xs ++ c.done) (sym none) ∙ c.whole)

@@ -4,14 +4,14 @@ use Rattle.std.proofs.lemmas.List.Elements.{Contains-append_left, Contains-appen
 use Rattle.std.proofs.lemmas.Bool.{cases_Bool, lt-ltb, ltb-true}
 use Rattle.std.specs.List.{Contains}
 use Rattle.std.specs.Prelude.{Option, nat_lt, slice_index_or, slice_set}
-use Rattle.mach_ir.specs.Walks.{Among, first, later, Live, read, on, aside, InCode, in_args, further}
+use Rattle.mach_ir.specs.Walks.{AmongRegisters, first, later, Live, read, on, aside, InCode, in_args, further}
 use Rattle.mach_ir.specs.declared.reg.Reg.{Reg}
 use Rattle.mach_ir.specs.declared.mach.Instr.{Instr}
 use Rattle.mach_ir.specs.declared.mach.Mach.{Mach}
 use Rattle.mach_laws.specs.Expand.{Ending, all, more}
 use Rattle.mach_laws.proofs.Walking.{ending_leads, ending_raises}
 use Rattle.bs_words.proofs.Lists.{none_in, first_in, later_in, in_cons}
-use Rattle.sink.specs.Registers.{entered, entered_code}
+use Rattle.sink.specs.Registers.{registers_entered, entered_code}
 use Rattle.sink.proofs.Seeing.{length_set, at_set, off_set, same_or}
 
 abbrev at : List (Option Reg) → ℕ → Option Reg
@@ -27,7 +27,7 @@ length_one r t = by (nat_lt r.number (length t))
     by true = length_set t r.number (Some r)
     by false = refl
 
-pub length_entered : (rs : List Reg) (t : List (Option Reg)) → length (entered rs t) ≡ length t
+pub length_entered : (rs : List Reg) (t : List (Option Reg)) → length (registers_entered rs t) ≡ length t
 length_entered [] t = refl
 length_entered (r ∷ rs) t = length_entered rs (one r t) ∙ length_one r t
 
@@ -63,26 +63,26 @@ module _ (Q : Reg → Type 0) (unique : (r q : Reg) → Q r → Q q → r.number
       ⊎_elim (λ same. sound n q (sym same ∙ e))
       (λ x. let s = some_same r q (sym x.1 ∙ e) in (subst Q s known, ap (λ (r : Reg). r.number) (sym s) ∙ sym x.0)) (one_at r t n)
 
-  sound_all : (rs : List Reg) (t : List (Option Reg)) → ((r : Reg) → Contains rs r → Q r) → IsSound t → IsSound (entered rs t)
+  sound_all : (rs : List Reg) (t : List (Option Reg)) → ((r : Reg) → Contains rs r → Q r) → IsSound t → IsSound (registers_entered rs t)
   sound_all [] t known sound = sound
   sound_all (r ∷ rs) t known sound =
       sound_all rs (one r t) (λ q c. known q (later_in r q rs c)) (sound_one r t (known r (first_in r rs)) sound)
 
   -- what is at its number stays
   stays : (rs : List Reg) (t : List (Option Reg)) (r : Reg) → ((r : Reg) → Contains rs r → Q r) → Q r → at t r.number ≡ Some r →
-      at (entered rs t) r.number ≡ Some r
+      at (registers_entered rs t) r.number ≡ Some r
   stays [] t r known mine e = e
   stays (x ∷ rs) t r known mine e =
       stays rs (one x t) r (λ q c. known q (later_in x q rs c)) mine
       (⊎_elim (λ same. same ∙ e) (λ y. y.1 ∙ ap Some (sym (unique r x mine (known x (first_in x rs)) y.0))) (one_at x t r.number))
 
   stands : (rs : List Reg) (t : List (Option Reg)) (r : Reg) → ((r : Reg) → Contains rs r → Q r) → Contains rs r → r.number < length t →
-      at (entered rs t) r.number ≡ Some r
+      at (registers_entered rs t) r.number ≡ Some r
   stands [] t r known c lt = absurd (none_in r c)
   stands (x ∷ rs) t r known c lt =
       ⊎_elim
       (λ e.
-      subst (λ r. at (entered rs (one x t)) r.number ≡ Some r) e
+      subst (λ r. at (registers_entered rs (one x t)) r.number ≡ Some r) e
       (stays rs (one x t) x (λ q c. known q (later_in x q rs c)) (known x (first_in x rs))
       (one_here x t (subst (λ (r : Reg). r.number < length t) (sym e) lt))))
       (λ d. stands rs (one x t) r (λ q c. known q (later_in x q rs c)) d (subst (λ l. r.number < l) (sym (length_one x t)) lt))
@@ -94,13 +94,13 @@ abbrev reads : List Instr → List Reg
 reads [] = []
 reads (i ∷ is) = i.args ++ reads is
 
-entered_both : (xs ys : List Reg) (t : List (Option Reg)) → entered (xs ++ ys) t ≡ entered ys (entered xs t)
+entered_both : (xs ys : List Reg) (t : List (Option Reg)) → registers_entered (xs ++ ys) t ≡ registers_entered ys (registers_entered xs t)
 entered_both [] ys t = refl
 entered_both (x ∷ xs) ys t = entered_both xs ys (one x t)
 
-entered_reads : (code : List Instr) (t : List (Option Reg)) → entered_code code t ≡ entered (reads code) t
+entered_reads : (code : List Instr) (t : List (Option Reg)) → entered_code code t ≡ registers_entered (reads code) t
 entered_reads [] t = refl
-entered_reads (i ∷ is) t = entered_reads is (entered i.args t) ∙ sym (entered_both i.args (reads is) t)
+entered_reads (i ∷ is) t = entered_reads is (registers_entered i.args t) ∙ sym (entered_both i.args (reads is) t)
 
 reads_in : (code : List Instr) (r : Reg) → Contains (reads code) r → InCode r code
 reads_in [] r c = absurd (none_in r c)
@@ -110,7 +110,7 @@ in_reads : {i : Instr} {next code : List Instr} (r : Reg) → Ending (i ∷ next
 in_reads {i} {next} r all c = Contains-append_left i.args (reads next) r c
 in_reads r (more {i = j} {code = code} e) c = Contains-append_right j.args (reads code) r (in_reads r e c)
 
-one_of : (n : ℕ) (rs : List Reg) → Among n rs → (r : Reg) × Contains rs r × (r.number ≡ n)
+one_of : (n : ℕ) (rs : List Reg) → AmongRegisters n rs → (r : Reg) × Contains rs r × (r.number ≡ n)
 one_of n (r ∷ rs) (first e) = (r, first_in r rs, e)
 one_of n (r ∷ rs) (later a) = let x = one_of n rs a in (x.0, later_in r x.0 rs x.1, x.2)
 one_of n [] a = elim a [ ]
@@ -151,6 +151,6 @@ module _ (m : Mach) where
           reads_in m.code x.0 x.1,
           x.2,
           ap (λ t. at t n) (entered_reads m.code (replicate size None))
-              ∙ ap (at (entered (reads m.code) (replicate size None))) (sym x.2)
+              ∙ ap (at (registers_entered (reads m.code) (replicate size None))) (sym x.2)
               ∙ stands (λ r. InCode r m.code) unique (reads m.code) (replicate size None) x.0 (reads_in m.code) x.1 small,
         )

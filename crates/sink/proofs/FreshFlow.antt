@@ -9,14 +9,14 @@ use Rattle.dataflow.specs.Reach.{ComesIn, ComesTo, IsReaching}
 use Rattle.dataflow.specs.declared.flow.Flow as flow
 use Rattle.dataflow.specs.declared.flow.Place as place
 use Rattle.mach_ir.specs.Graph.{IsLiveMap}
-use Rattle.mach_ir.specs.Meaning.{written as written_by}
-use Rattle.mach_ir.specs.Walks.{Leads, Live, Writes}
+use Rattle.mach_ir.specs.Meaning.{registers_written as written_by}
+use Rattle.mach_ir.specs.Walks.{WalkStep, Live, Writes}
 use Rattle.mach_ir.specs.Walks as walks
 use Rattle.mach_ir.specs.declared.graph.LiveMap.{LiveMap}
 use Rattle.mach_ir.specs.declared.mach.Instr.{Instr}
 use Rattle.mach_ir.specs.declared.mach.Mach.{Mach}
 use Rattle.mach_laws.specs.Expand.{Ending}
-use Rattle.mach_laws.specs.Graph.{place_of, numbers, next_places, raise_places, IsFlowOf}
+use Rattle.mach_laws.specs.Graph.{code_index, numbers_of_registers, next_places, raise_places, IsFlowOf}
 use Rattle.mach_laws.proofs.Places.{ending_next, stands_of, ending_of}
 use Rattle.mach_laws.proofs.Walking.{place_is, among_numbers, in_numbers, ending_place, ending_leads, ending_raises}
 use Rattle.sink_rules.specs.Walks.{Fresh, written, on, aside}
@@ -66,7 +66,7 @@ module _ (m : Mach) (live : LiveMap) (exact : IsLiveMap m live) where
 
     module _ (k n p : ℕ) (known : Known n k) (v : Live m n (drop p m.code)) where
       -- what is live after the place and comes over it, is not what lives over a call
-      kept : (o : ℕ) → o < length m.code → (a : The o) → Leads m a.instr a.next (drop p m.code) → (Contains (g.writes o) n → ⊥) →
+      kept : (o : ℕ) → o < length m.code → (a : The o) → WalkStep m a.instr a.next (drop p m.code) → (Contains (g.writes o) n → ⊥) →
           ComesIn g n k o → Fresh m n (drop p m.code)
       kept o lt a leads out h =
           let i = a.instr in
@@ -82,12 +82,12 @@ module _ (m : Mach) (live : LiveMap) (exact : IsLiveMap m live) where
           (((a.is_node).writes n).1 (
             is_held m d leads,
             record {
-              live = (exact.exact (place_of m next) n).1
+              live = (exact.exact (code_index m next) n).1
                   (subst (Live m n) (sym (place_is m (ending_next (ending_place m o a.is)))) after);
               other = w;
             },
           )))) leads)
-          (decide_in n (numbers (written_by m i)))
+          (decide_in n (numbers_of_registers (written_by m i)))
 
       by_next : (o : ℕ) → Contains (g.next o) p → Contains (g.reads o) n ⊎ ((Contains (g.writes o) n → ⊥) × ComesIn g n k o) →
           Where (length m.code) o → Fresh m n (drop p m.code)
@@ -142,7 +142,7 @@ module _ (m : Mach) (live : LiveMap) (exact : IsLiveMap m live) where
 
     -- ---- the graph is one
 
-    module _ (old : flow.Flow) (is : IsFlowOf m old) (formed : flows.WellFormed old) (bound : f.bound ≡ old.bound) where
+    module _ (old : flow.Flow) (is : IsFlowOf m old) (formed : flows.IsFlowFormed old) (bound : f.bound ≡ old.bound) where
       small : (p : ℕ) (except : List ℕ) (n : ℕ) → LivesAt rows p except n → n < f.bound
       small = reaching.small m E N next_of aside_of f nodes old is formed bound live exact
 
@@ -157,7 +157,7 @@ module _ (m : Mach) (live : LiveMap) (exact : IsLiveMap m live) where
             aside = reaching.aside_fits m E N next_of aside_of f nodes old is formed bound k a;
             reads = reaching.written_fit m E N next_of aside_of f nodes old is formed bound k a (contents (a.node).reads) n.reads;
             writes = each (λ r. r < f.bound) (contents (a.node).writes)
-                (λ r c. small (place_of m a.next) (numbers (written_by m a.instr)) r ((n.writes r).0 c).1);
+                (λ r c. small (code_index m a.next) (numbers_of_registers (written_by m a.instr)) r ((n.writes r).0 c).1);
           }
 
       fits_end : Fits last.node
@@ -170,5 +170,5 @@ module _ (m : Mach) (live : LiveMap) (exact : IsLiveMap m live) where
             writes = subst (All (λ r. r < f.bound)) (sym n.writes) (All-nil (λ r. r < f.bound));
           }
 
-      pub fresh_formed : flows.WellFormed f
+      pub fresh_formed : flows.IsFlowFormed f
       fresh_formed = reaching.flow_formed m E N next_of aside_of f nodes old is formed bound fits_instr fits_end

@@ -8,15 +8,15 @@ use Rattle.bs_words.proofs.Lists.{none_in}
 use Rattle.dataflow.specs.Flow.{graph}
 use Rattle.dataflow.specs.declared.flow.Flow as flow
 use Rattle.dataflow.specs.declared.flow.Place as place
-use Rattle.mach_ir.specs.Walks.{targets, goes, Leads, Raises}
+use Rattle.mach_ir.specs.Walks.{targets, goes, WalkStep, Raises}
 use Rattle.mach_ir.specs.Meaning.{code_at}
 use Rattle.mach_ir.specs.declared.mach.Instr.{Instr}
 use Rattle.mach_ir.specs.declared.mach.Mach.{Mach}
 use Rattle.mach_laws.specs.Expand.{Ending}
-use Rattle.mach_laws.specs.Graph.{place_of, next_places, raise_places}
+use Rattle.mach_laws.specs.Graph.{code_index, next_places, raise_places}
 use Rattle.mach_laws.proofs.Places.{ending_short}
 use Rattle.mach_laws.proofs.Walking.{ending_at, place_is, place_at, target_of, place_back, ending_place}
-use Rattle.sink.specs.Graphs.{AreNodes}
+use Rattle.sink.specs.Graphs.{AreCodeNodes}
 use Rattle.sink.proofs.Nodes.{At, at_place, past}
 use Rattle.liveness.proofs.Steps.{steps_to, Raised, raised_of, raises_to}
 
@@ -34,7 +34,7 @@ where_is end o =
 module _ (m : Mach) (E : place.Place → Type 0) (N : Instr → List Instr → place.Place → Type 0)
     (next_of : (i : Instr) (next : List Instr) (x : place.Place) → N i next x → contents x.next ≡ next_places m (i ∷ next))
     (aside_of : (i : Instr) (next : List Instr) (x : place.Place) → N i next x → contents x.aside ≡ raise_places m (i ∷ next))
-    (f : flow.Flow) (nodes : AreNodes E N m.code (contents f.places)) where
+    (f : flow.Flow) (nodes : AreCodeNodes E N m.code (contents f.places)) where
   pub at : (p : ℕ) → p < length m.code → At E N m.code (contents f.places) p
   at p lt = at_place E N nodes p lt
 
@@ -42,14 +42,14 @@ module _ (m : Mach) (E : place.Place → Type 0) (N : Instr → List Instr → p
       Contains (slice_index_or (map part (contents f.places)) o []) q → ⊥
   none_past part o q lt c = none_in q (subst (λ xs. Contains xs q) (past E N nodes o lt part) c)
 
-  pub lead : (o q : ℕ) (a : At E N m.code (contents f.places) o) → Contains ((graph f).next o) q → Leads m a.instr a.next (drop q m.code)
+  pub lead : (o q : ℕ) (a : At E N m.code (contents f.places) o) → Contains ((graph f).next o) q → WalkStep m a.instr a.next (drop q m.code)
   lead o q a c =
       let i = a.instr in
       let next = a.next in
       let t = target_of m next (targets i.op) q
       (subst (λ xs. Contains xs q) (a.part (λ x. contents x.next) ∙ next_of i next a.node a.is_node) c) in
       let to : drop q m.code ≡ code_at m.code next t.0 = place_at m (ending_at t.0 (ending_place m o a.is)) t.2 in
-      subst (Leads m i next) (sym to) (goes t.0 t.1)
+      subst (WalkStep m i next) (sym to) (goes t.0 t.1)
 
   pub rise : (o q : ℕ) (a : At E N m.code (contents f.places) o) → Contains ((graph f).aside o) q → Raises m a.instr a.next (drop q m.code)
   rise o q a c =
@@ -71,7 +71,7 @@ module _ (m : Mach) (E : place.Place → Type 0) (N : Instr → List Instr → p
   -- the place of an instruction
   pub record Of (i : Instr) (next : List Instr) : Type 0 where
     pub number : ℕ
-    pub number_is : number ≡ place_of m (i ∷ next)
+    pub number_is : number ≡ code_index m (i ∷ next)
     pub small : number < length m.code
     pub node : place.Place
     pub is_node : N i next node
@@ -82,7 +82,7 @@ module _ (m : Mach) (E : place.Place → Type 0) (N : Instr → List Instr → p
   of {i} {next} e = by (at o small) (sym (at o small).is ∙ place_is m e)
     where
       o : ℕ
-      o = place_of m (i ∷ next)
+      o = code_index m (i ∷ next)
 
       inside : (a b : ℕ) → suc b ≤ a → a - suc b < a
       inside a b le = omega (arith, le)
@@ -104,7 +104,7 @@ module _ (m : Mach) (E : place.Place → Type 0) (N : Instr → List Instr → p
             is = a.is ∙ same;
           }
 
-  pub goes_to : {i : Instr} {next to : List Instr} (p : ℕ) (x : Of i next) → Leads m i next to → p ≤ length m.code → drop p m.code ≡ to →
+  pub goes_to : {i : Instr} {next to : List Instr} (p : ℕ) (x : Of i next) → WalkStep m i next to → p ≤ length m.code → drop p m.code ≡ to →
       Contains ((graph f).next x.number) p
   goes_to {i} {next} {to} p x l le h =
       subst (λ xs. Contains xs p) (sym (x.part (λ x. contents x.next) ∙ next_of i next x.node x.is_node))

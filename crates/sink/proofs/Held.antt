@@ -8,7 +8,7 @@ use Rattle.mach_ir.specs.declared.mach.MachOp.{MachOp}
 use Rattle.mach_ir.specs.declared.mach.MachOp.TheVariants as mach
 use Rattle.mach_ir.specs.declared.op.Calling.TheVariants as calling
 use Rattle.mach_ir.specs.declared.op.Op.TheVariants as op
-use Rattle.sink.specs.Graphs.{held}
+use Rattle.sink.specs.Graphs.{destroys_colours}
 
 no : false ≡ true → ⊥
 no e = cc
@@ -19,7 +19,7 @@ nothing e = cc
 temporaries : Temporaries ≡ Everything → ⊥
 temporaries e = cc
 
-pub held_destroys : (f : MachOp) → held f ≡ true → destroyed_by f ≡ Everything
+pub held_destroys : (f : MachOp) → destroys_colours f ≡ true → destroyed_by f ≡ Everything
 held_destroys (mach.Op (op.Pure f)) e = absurd (no e)
 held_destroys (mach.Op (op.Access f)) e = absurd (no e)
 held_destroys (mach.Op (op.Calling (calling.Call whom result))) e = refl
@@ -38,7 +38,7 @@ held_destroys (mach.Mark (mark.Leave l end)) e = absurd (no e)
 held_destroys (mach.Mark (mark.Handler l)) e = refl
 held_destroys (mach.Mark (mark.End l)) e = absurd (no e)
 
-pub held_on : (f : MachOp) → held f ≡ true → OneOf On (targets f)
+pub held_on : (f : MachOp) → destroys_colours f ≡ true → OneOf On (targets f)
 held_on (mach.Op (op.Pure f)) e = absurd (no e)
 held_on (mach.Op (op.Access f)) e = absurd (no e)
 held_on (mach.Op (op.Calling (calling.Call whom result))) e = this
@@ -57,7 +57,7 @@ held_on (mach.Mark (mark.Leave l end)) e = absurd (no e)
 held_on (mach.Mark (mark.Handler l)) e = this
 held_on (mach.Mark (mark.End l)) e = absurd (no e)
 
-pub held_of : (f : MachOp) (t : Target) → destroyed_by f ≡ Everything → OneOf t (targets f) → held f ≡ true
+pub held_of : (f : MachOp) (t : Target) → destroyed_by f ≡ Everything → OneOf t (targets f) → destroys_colours f ≡ true
 held_of (mach.Op (op.Pure f)) t e o = absurd (nothing e)
 held_of (mach.Op (op.Access f)) t e o = absurd (nothing e)
 held_of (mach.Op (op.Calling (calling.Call whom result))) t e o = refl

@@ -5,9 +5,9 @@ use Rattle.std.proofs.lemmas.Bool.{cases_lt, eq-eqb, eqb-true, cases_Bool}
 use Rattle.std.specs.List.{Contains}
 use Rattle.std.specs.Prelude.{nat_eq}
 use Rattle.bs_bits.specs.Set.{has, HasNoneFrom, IsNext}
-use Rattle.dataflow.specs.Rows.{row}
+use Rattle.dataflow.specs.Rows.{set_in_row}
 use Rattle.bs_words.proofs.Lists.{none_in, first_in, later_in, in_cons}
-use Rattle.sink.specs.Graphs.{held, LivesAt, AreLiving, AreOver}
+use Rattle.sink.specs.Graphs.{destroys_colours, LivesAt, AreLiving, AreOver}
 use Rattle.mach_ir.specs.declared.mach.MachOp.{MachOp}
 use Rattle.bs_words.proofs.Truths.{not_both}
 
@@ -43,7 +43,7 @@ module _ (rows : List (List Bool)) (p : ℕ) (except : List ℕ) where
   below : (a b n : ℕ) → a ≤ b → n < a → n < b
   below a b n le lt = omega (arith, le, lt)
 
-  pub found_end : (set : List Bool) (from bound : ℕ) (found : List ℕ) → set ≡ row rows p → from ≤ bound → HasNoneFrom set from → Found from found →
+  pub found_end : (set : List Bool) (from bound : ℕ) (found : List ℕ) → set ≡ set_in_row rows p → from ≤ bound → HasNoneFrom set from → Found from found →
       Found bound found
   found_end set from bound found e le none old = λ n. (
     λ c. let x = (old n).0 c in (below from bound n le x.0, x.1),
@@ -53,7 +53,7 @@ module _ (rows : List (List Bool)) (p : ℕ) (except : List ℕ) where
   )
 
   -- up to the next member
-  up_to : (set : List Bool) (from k n : ℕ) → set ≡ row rows p → IsNext set from k → n < k + 1 → LivesAt rows p except n → (n < from) ⊎ (k ≡ n)
+  up_to : (set : List Bool) (from k n : ℕ) → set ≡ set_in_row rows p → IsNext set from k → n < k + 1 → LivesAt rows p except n → (n < from) ⊎ (k ≡ n)
   up_to set from k n e next lt lives =
       ⊎_elim (λ h. inl h)
       (λ ge.
@@ -66,7 +66,7 @@ module _ (rows : List (List Bool)) (p : ℕ) (except : List ℕ) where
   last : (n k : ℕ) → k ≡ n → n < k + 1
   last n k e = omega (arith, e)
 
-  pub found_taken : (set : List Bool) (from k : ℕ) (found made : List ℕ) → set ≡ row rows p → IsNext set from k → (Contains except k → ⊥) →
+  pub found_taken : (set : List Bool) (from k : ℕ) (found made : List ℕ) → set ≡ set_in_row rows p → IsNext set from k → (Contains except k → ⊥) →
       Found from found → made ≡ found ++ k ∷ [] → Found (k + 1) made
   found_taken set from k found made e next other old same = λ n. (
     λ c.
@@ -81,7 +81,7 @@ module _ (rows : List (List Bool)) (p : ℕ) (except : List ℕ) where
         (λ s. Contains-append_right found (k ∷ []) n (subst (λ n. Contains (k ∷ []) n) s (first_in k []))) (up_to set from k n e next h.0 h.1)),
   )
 
-  pub found_passed : (set : List Bool) (from k : ℕ) (found : List ℕ) → set ≡ row rows p → IsNext set from k → Contains except k →
+  pub found_passed : (set : List Bool) (from k : ℕ) (found : List ℕ) → set ≡ set_in_row rows p → IsNext set from k → Contains except k →
       Found from found → Found (k + 1) found
   found_passed set from k found e next one old = λ n. (
     λ c. let x = (old n).0 c in (far from k n next.not_below x.0, x.1),
@@ -90,12 +90,12 @@ module _ (rows : List (List Bool)) (p : ℕ) (except : List ℕ) where
         (up_to set from k n e next h.0 h.1),
   )
 
-  pub found_all : (set : List Bool) (from : ℕ) (found : List ℕ) → set ≡ row rows p → length set ≤ from → Found from found →
+  pub found_all : (set : List Bool) (from : ℕ) (found : List ℕ) → set ≡ set_in_row rows p → length set ≤ from → Found from found →
       AreLiving rows p except found
   found_all set from found e le old = λ n. (
     λ c. ((old n).0 c).1,
     λ h. (old n).1 (below (length set) from n le (has_within set n (ap (λ s. has s n) e ∙ h.live)), h),
   )
 
-  pub over_held : (f : MachOp) (found : List ℕ) → held f ≡ true → AreLiving rows p except found → AreOver rows p f except found
+  pub over_held : (f : MachOp) (found : List ℕ) → destroys_colours f ≡ true → AreLiving rows p except found → AreOver rows p f except found
   over_held f found e old = λ n. (λ c. (e, (old n).0 c), λ h. (old n).1 h.1)

@@ -3,8 +3,8 @@ use Rattle.std.proofs.Common.{◌≡◌, ℕ, zero, suc, ◌+◌, ◌<◌, Bool,
 use Rattle.std.proofs.lemmas.Bool.{cases_Bool, lt-ltb, and_parts, and_from}
 use Rattle.std.specs.Prelude.{nat_lt, slice_set}
 use Rattle.bs_bits.specs.Set.{has}
-use Rattle.dataflow.specs.Rows.{row}
-use Rattle.mach_ir.specs.Walks.{Among, first, later}
+use Rattle.dataflow.specs.Rows.{set_in_row}
+use Rattle.mach_ir.specs.Walks.{AmongRegisters, first, later}
 use Rattle.mach_ir.specs.declared.reg.Reg.{Reg}
 use Rattle.mach_ir.specs.declared.mach.Instr.{Instr}
 use Rattle.sink.specs.Mixed.{is_mixed, noted_reads, noted_code}
@@ -58,7 +58,7 @@ module _ (fresh stale : List Bool) where
       ∙ at_set t r.number true false lt
 
   of_reads : (rs : List Reg) (t : List Bool) (n : ℕ) → has (noted_reads fresh stale rs t) n ≡ true →
-      (has t n ≡ true) ⊎ (Among n rs × (is_mixed fresh stale n ≡ true))
+      (has t n ≡ true) ⊎ (AmongRegisters n rs × (is_mixed fresh stale n ≡ true))
   of_reads [] t n h = inl h
   of_reads (r ∷ rs) t n h =
       ⊎_elim (λ k. ⊎_elim (λ old. inl old) (λ x. inr (first x.0, x.1)) (of_one r t n k)) (λ x. inr (later x.0, x.1)) (of_reads rs (one r t) n h)
@@ -70,7 +70,7 @@ module _ (fresh stale : List Bool) where
   kept_reads [] t n lt h = h
   kept_reads (r ∷ rs) t n lt h = kept_reads rs (one r t) n (small_one r t n lt) (kept_one r t n lt h)
 
-  in_reads : {n : ℕ} {rs : List Reg} → Among n rs → (t : List Bool) → n < length t → is_mixed fresh stale n ≡ true →
+  in_reads : {n : ℕ} {rs : List Reg} → AmongRegisters n rs → (t : List Bool) → n < length t → is_mixed fresh stale n ≡ true →
       has (noted_reads fresh stale rs t) n ≡ true
   in_reads {n} (first {r = r} {rs = rs} e) t lt h =
       kept_reads rs (one r t) n (small_one r t n lt)
@@ -85,9 +85,9 @@ module _ (fresh stale : List (List Bool)) where
     pub instr : Instr
     pub next : List Instr
     pub is : drop index code ≡ instr ∷ next
-    pub reads : Among n instr.args
-    pub fresh_there : has (row fresh (b + index)) n ≡ true
-    pub stale_there : has (row stale (b + index)) n ≡ true
+    pub reads : AmongRegisters n instr.args
+    pub fresh_there : has (set_in_row fresh (b + index)) n ≡ true
+    pub stale_there : has (set_in_row stale (b + index)) n ≡ true
 
   further : (b k : ℕ) → suc b + k ≡ b + suc k
   further b k = omega arith
@@ -99,20 +99,20 @@ module _ (fresh stale : List (List Bool)) where
       (has t n ≡ true) ⊎ IsMixedIn b code n
   of_code [] b t n h = inl h
   of_code (i ∷ is) b t n h =
-      ⊎_elim (λ k. ⊎_elim (λ old. inl old) (λ x. inr (here x.0 x.1)) (of_reads (row fresh b) (row stale b) i.args t n k)) (λ x. inr (there x))
-      (of_code is (suc b) (noted_reads (row fresh b) (row stale b) i.args t) n h)
+      ⊎_elim (λ k. ⊎_elim (λ old. inl old) (λ x. inr (here x.0 x.1)) (of_reads (set_in_row fresh b) (set_in_row stale b) i.args t n k)) (λ x. inr (there x))
+      (of_code is (suc b) (noted_reads (set_in_row fresh b) (set_in_row stale b) i.args t) n h)
     where
-      here : Among n i.args → is_mixed (row fresh b) (row stale b) n ≡ true → IsMixedIn b (i ∷ is) n
+      here : AmongRegisters n i.args → is_mixed (set_in_row fresh b) (set_in_row stale b) n ≡ true → IsMixedIn b (i ∷ is) n
       here a h =
-          let x = and_parts (has (row fresh b) n) (has (row stale b) n) h in
+          let x = and_parts (has (set_in_row fresh b) n) (has (set_in_row stale b) n) h in
           record {
             index = 0;
             instr = i;
             next = is;
             is = refl;
             reads = a;
-            fresh_there = ap (λ p. has (row fresh p) n) (none_more b) ∙ x.0;
-            stale_there = ap (λ p. has (row stale p) n) (none_more b) ∙ x.1;
+            fresh_there = ap (λ p. has (set_in_row fresh p) n) (none_more b) ∙ x.0;
+            stale_there = ap (λ p. has (set_in_row stale p) n) (none_more b) ∙ x.1;
           }
 
       there : IsMixedIn (suc b) is n → IsMixedIn b (i ∷ is) n
@@ -123,18 +123,18 @@ module _ (fresh stale : List (List Bool)) where
             next = x.next;
             is = x.is;
             reads = x.reads;
-            fresh_there = ap (λ p. has (row fresh p) n) (sym (further b x.index)) ∙ x.fresh_there;
-            stale_there = ap (λ p. has (row stale p) n) (sym (further b x.index)) ∙ x.stale_there;
+            fresh_there = ap (λ p. has (set_in_row fresh p) n) (sym (further b x.index)) ∙ x.fresh_there;
+            stale_there = ap (λ p. has (set_in_row stale p) n) (sym (further b x.index)) ∙ x.stale_there;
           }
 
-  small_reads : (b : ℕ) (rs : List Reg) (t : List Bool) (n : ℕ) → n < length t → n < length (noted_reads (row fresh b) (row stale b) rs t)
-  small_reads b rs t n lt = subst (λ l. n < l) (sym (length_reads (row fresh b) (row stale b) rs t)) lt
+  small_reads : (b : ℕ) (rs : List Reg) (t : List Bool) (n : ℕ) → n < length t → n < length (noted_reads (set_in_row fresh b) (set_in_row stale b) rs t)
+  small_reads b rs t n lt = subst (λ l. n < l) (sym (length_reads (set_in_row fresh b) (set_in_row stale b) rs t)) lt
 
   kept_code : (code : List Instr) (b : ℕ) (t : List Bool) (n : ℕ) → n < length t → has t n ≡ true → has (noted_code fresh stale b code t) n ≡ true
   kept_code [] b t n lt h = h
   kept_code (i ∷ is) b t n lt h =
-      kept_code is (suc b) (noted_reads (row fresh b) (row stale b) i.args t) n (small_reads b i.args t n lt)
-      (kept_reads (row fresh b) (row stale b) i.args t n lt h)
+      kept_code is (suc b) (noted_reads (set_in_row fresh b) (set_in_row stale b) i.args t) n (small_reads b i.args t n lt)
+      (kept_reads (set_in_row fresh b) (set_in_row stale b) i.args t n lt h)
 
   in_code : (code : List Instr) (b : ℕ) (t : List Bool) (n : ℕ) → n < length t → IsMixedIn b code n → has (noted_code fresh stale b code t) n ≡ true
   in_code code b t n lt x = by code b t lt x.index x.is x.fresh_there x.stale_there
@@ -149,17 +149,17 @@ module _ (fresh stale : List (List Bool)) where
       head j js e = cc
 
       by : (code : List Instr) (b : ℕ) (t : List Bool) → n < length t → (k : ℕ) → drop k code ≡ x.instr ∷ x.next →
-          has (row fresh (b + k)) n ≡ true → has (row stale (b + k)) n ≡ true → has (noted_code fresh stale b code t) n ≡ true
+          has (set_in_row fresh (b + k)) n ≡ true → has (set_in_row stale (b + k)) n ≡ true → has (noted_code fresh stale b code t) n ≡ true
       by [] b t lt zero e f s = absurd (bad e)
       by [] b t lt (suc k) e f s = absurd (bad e)
       by (j ∷ js) b t lt zero e f s =
-          kept_code js (suc b) (noted_reads (row fresh b) (row stale b) j.args t) n (small_reads b j.args t n lt)
-          (in_reads (row fresh b) (row stale b) (subst (λ (i : Instr). Among n i.args) (head j js e) x.reads) t lt
-          (and_from (has (row fresh b) n) (has (row stale b) n) (ap (λ p. has (row fresh p) n) (sym (none_more b)) ∙ f)
-          (ap (λ p. has (row stale p) n) (sym (none_more b)) ∙ s)))
+          kept_code js (suc b) (noted_reads (set_in_row fresh b) (set_in_row stale b) j.args t) n (small_reads b j.args t n lt)
+          (in_reads (set_in_row fresh b) (set_in_row stale b) (subst (λ (i : Instr). AmongRegisters n i.args) (head j js e) x.reads) t lt
+          (and_from (has (set_in_row fresh b) n) (has (set_in_row stale b) n) (ap (λ p. has (set_in_row fresh p) n) (sym (none_more b)) ∙ f)
+          (ap (λ p. has (set_in_row stale p) n) (sym (none_more b)) ∙ s)))
       by (j ∷ js) b t lt (suc k) e f s =
-          by js (suc b) (noted_reads (row fresh b) (row stale b) j.args t) (small_reads b j.args t n lt) k e
-          (ap (λ p. has (row fresh p) n) (further b k) ∙ f) (ap (λ p. has (row stale p) n) (further b k) ∙ s)
+          by js (suc b) (noted_reads (set_in_row fresh b) (set_in_row stale b) j.args t) (small_reads b j.args t n lt) k e
+          (ap (λ p. has (set_in_row fresh p) n) (further b k) ∙ f) (ap (λ p. has (set_in_row stale p) n) (further b k) ∙ s)
 
   empty : (size n : ℕ) → has (replicate size false) n ≡ true → ⊥
   empty zero n h = not_both false h refl

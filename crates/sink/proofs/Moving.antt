@@ -4,7 +4,7 @@ use Rattle.std.proofs.lemmas.Bool.{and_parts, not-true}
 use Rattle.std.specs.List.{All, AllPairs, Contains}
 use Rattle.std.specs.Prelude.{Option, option_to_list, slice_get, slice_index_or}
 use Rattle.bs_bits.specs.Set.{has}
-use Rattle.dataflow.specs.Rows.{row}
+use Rattle.dataflow.specs.Rows.{set_in_row}
 use Rattle.mach_ir.specs.declared.reg.Reg.{Reg}
 use Rattle.mach_ir.specs.declared.mach.Instr.{Instr}
 use Rattle.bs_words.proofs.Lists.{none_in, first_in, later_in, in_cons}
@@ -14,7 +14,7 @@ use Rattle.sink.specs.declared.chosen.Move.{Move}
 use Rattle.sink.specs.declared.sights.Sight.{Sight}
 use Rattle.sink.specs.declared.sights.Sight.TheVariants.{Unseen, Once, Often}
 use Rattle.liveness.proofs.Steps.{each}
-use Rattle.mach_ir.specs.Places.{is_open}
+use Rattle.mach_ir.specs.Places.{is_unset_location}
 
 -- ---- lists in order
 
@@ -46,9 +46,9 @@ pub record Moved (code : List Instr) (stale : List (List Bool)) (mixed : List Bo
   pub call : ℕ
   pub reg : o ≡ Some move.reg
   pub sight : s ≡ Once call
-  pub open_place : is_open move.reg.loc ≡ true
+  pub open_place : is_unset_location move.reg.loc ≡ true
   pub calls : some_call (slice_get code call) ≡ true
-  pub surely : has (row stale call) move.reg.number ≡ false
+  pub surely : has (set_in_row stale call) move.reg.number ≡ false
   pub unmixed : has mixed move.reg.number ≡ false
   pub begins : run_start code move.reg.number call ≡ Some move.place
 
@@ -77,9 +77,9 @@ module _ (code : List Instr) (stale : List (List Bool)) (mixed : List Bool) wher
           begun None s e = absurd (none_some move e)
           begun (Some q) s e =
               let same : record { reg = r; place = q } ≡ move = some_same (record { reg = r; place = q }) move e in
-              let x = and_parts (is_open r.loc) (some_call (slice_get code p) && (not (has (row stale p) r.number) && not (has mixed r.number))) t in
-              let y = and_parts (some_call (slice_get code p)) (not (has (row stale p) r.number) && not (has mixed r.number)) x.1 in
-              let z = and_parts (not (has (row stale p) r.number)) (not (has mixed r.number)) y.1 in
+              let x = and_parts (is_unset_location r.loc) (some_call (slice_get code p) && (not (has (set_in_row stale p) r.number) && not (has mixed r.number))) t in
+              let y = and_parts (some_call (slice_get code p)) (not (has (set_in_row stale p) r.number) && not (has mixed r.number)) x.1 in
+              let z = and_parts (not (has (set_in_row stale p) r.number)) (not (has mixed r.number)) y.1 in
               subst (Moved code stale mixed (Some r) (Once p)) same
               (record {
                 call = p;
@@ -87,7 +87,7 @@ module _ (code : List Instr) (stale : List (List Bool)) (mixed : List Bool) wher
                 sight = refl;
                 open_place = x.0;
                 calls = y.0;
-                surely = not-true (has (row stale p) r.number) z.0;
+                surely = not-true (has (set_in_row stale p) r.number) z.0;
                 unmixed = not-true (has mixed r.number) z.1;
                 begins = s;
               })
@@ -95,12 +95,12 @@ module _ (code : List Instr) (stale : List (List Bool)) (mixed : List Bool) wher
   sure_from : (a b c d : Bool) → a ≡ true → b ≡ true → c ≡ false → d ≡ false → a && (b && (not c && not d)) ≡ true
   sure_from a b c d e f g h = cc
 
-  pub moves_at : (r : Reg) (p q : ℕ) → is_open r.loc ≡ true → some_call (slice_get code p) ≡ true → has (row stale p) r.number ≡ false →
+  pub moves_at : (r : Reg) (p q : ℕ) → is_unset_location r.loc ≡ true → some_call (slice_get code p) ≡ true → has (set_in_row stale p) r.number ≡ false →
       has mixed r.number ≡ false → run_start code r.number p ≡ Some q →
       move_at code stale mixed (Some r) (Once p) ≡ Some (record { reg = r; place = q })
   moves_at r p q a b c d e =
       ap (λ x. cond x (move_before r (run_start code r.number p)) None)
-      (sure_from (is_open r.loc) (some_call (slice_get code p)) (has (row stale p) r.number) (has mixed r.number) a b c d)
+      (sure_from (is_unset_location r.loc) (some_call (slice_get code p)) (has (set_in_row stale p) r.number) (has mixed r.number) a b c d)
       ∙ ap (move_before r) e
 
   -- ---- all moves

@@ -4,19 +4,19 @@ use Rattle.std.proofs.lemmas.Bool.{cases_Bool, eq-eqb, eqb-true, or_cases, or_le
 use Rattle.std.specs.List.{AllPairs, Contains}
 use Rattle.std.specs.Prelude.{nat_eq}
 use Rattle.mach_ir.specs.Formed.{WellFormed}
-use Rattle.mach_ir.specs.Walks.{Stands, here, below, IsRegister}
+use Rattle.mach_ir.specs.Walks.{StandsAsInstr, here, below, IsRegister}
 use Rattle.mach_ir.specs.declared.reg.Reg.{Reg}
 use Rattle.mach_ir.specs.declared.mach.Instr.{Instr}
 use Rattle.mach_ir.specs.declared.mach.Mach.{Mach}
 use Rattle.mach_laws.specs.Expand.{expand}
-use Rattle.mach_laws.specs.Graph.{place_of}
+use Rattle.mach_laws.specs.Graph.{code_index}
 use Rattle.mach_laws.proofs.Walking.{place_is}
-use Rattle.sink_rules.specs.Chosen.{IsSunkAt, IsChosen, IsSunk}
-use Rattle.sink_rules.specs.Sunk.{Plan, to_itself, moves_of, sunk_instr}
+use Rattle.sink_rules.specs.Chosen.{IsSunkAt, IsSinkChoice, IsSunk}
+use Rattle.sink_rules.specs.Sunk.{SinkPlan, to_itself, planned_moves, sunk_instr}
 use Rattle.bs_words.proofs.Lists.{none_in, first_in, later_in, in_cons}
 use Rattle.sink.specs.Chosen.{AreMoves}
-use Rattle.sink.specs.Runs.{begins_at}
-use Rattle.sink.specs.Moves.{moves_before, instr_at, code_at}
+use Rattle.sink.specs.Runs.{straight_run_begins}
+use Rattle.sink.specs.Moves.{moves_before, instr_after_moves, sunk_code}
 use Rattle.sink.specs.declared.chosen.Move.{Move}
 use Rattle.sink.proofs.Moving.{pairs_none, pairs_more, pairs_first, pairs_rest}
 use Rattle.sink.proofs.Running.{begins_of, one_start}
@@ -87,33 +87,33 @@ rising_regs (x ∷ xs) all =
 -- ---- the code
 
 code_same : (f g : ℕ → Instr → List Instr) (code : List Instr) →
-    ((i : Instr) (next : List Instr) → Stands i next code → f (length next) i ≡ g (length next) i) → expand f code ≡ expand g code
+    ((i : Instr) (next : List Instr) → StandsAsInstr i next code → f (length next) i ≡ g (length next) i) → expand f code ≡ expand g code
 code_same f g [] h = refl
 code_same f g (i ∷ is) h =
     ap (λ xs. xs ++ expand f is) (h i is here) ∙ ap (λ xs. g (length is) i ++ xs) (code_same f g is (λ j next s. h j next (below s)))
 
-bare : (whole code : List Instr) → code ≡ code_at [] whole code
+bare : (whole code : List Instr) → code ≡ sunk_code [] whole code
 bare whole [] = refl
 bare whole (i ∷ is) =
-    ap (λ xs. i ∷ xs) (bare whole is) ∙ ap (λ xs. xs ++ code_at [] whole is) (one (begins_at whole (length whole - 1 - length is)))
+    ap (λ xs. i ∷ xs) (bare whole is) ∙ ap (λ xs. xs ++ sunk_code [] whole is) (one (straight_run_begins whole (length whole - 1 - length is)))
   where
     one : (b : Bool) → i ∷ [] ≡ cond b ([] ++ i ∷ []) (i ∷ [])
     one true = refl
     one false = refl
 
 module _ (m : Mach) (formed : WellFormed m) (moves : List Move) (are : AreMoves m moves) where
-  abbrev plan : Plan
+  abbrev plan : SinkPlan
   plan = record { registers = regs_of moves; moves = λ k n. moved_there moves n (length m.code - 1 - k) }
 
-  place_now : (i : Instr) (next : List Instr) → length m.code - 1 - length next ≡ place_of m (i ∷ next)
+  place_now : (i : Instr) (next : List Instr) → length m.code - 1 - length next ≡ code_index m (i ∷ next)
   place_now i next = minus (length m.code) (length next)
     where
       minus : (a b : ℕ) → a - 1 - b ≡ a - suc b
       minus a b = omega arith
 
   -- a place is that of one instruction
-  same_code : {i j : Instr} {next others : List Instr} → Stands i next m.code → Stands j others m.code →
-      place_of m (j ∷ others) ≡ place_of m (i ∷ next) → j ∷ others ≡ i ∷ next
+  same_code : {i j : Instr} {next others : List Instr} → StandsAsInstr i next m.code → StandsAsInstr j others m.code →
+      code_index m (j ∷ others) ≡ code_index m (i ∷ next) → j ∷ others ≡ i ∷ next
   same_code s t e = sym (place_is m (ending_of t)) ∙ ap (λ p. drop p m.code) e ∙ place_is m (ending_of s)
 
   head_is : {i j : Instr} {xs ys : List Instr} → i ∷ xs ≡ j ∷ ys → i ≡ j
@@ -126,7 +126,7 @@ module _ (m : Mach) (formed : WellFormed m) (moves : List Move) (are : AreMoves 
   registered r c = let x = reg_in moves r c in subst (IsRegister m) x.2 ((are.each x.0 x.1).sunk_at).register
 
   -- a move of the plan is there
-  sunk_there : (i : Instr) (next : List Instr) (r : Reg) → Stands i next m.code → IsRegister m r → There moves r.number (length m.code - 1 - length next) →
+  sunk_there : (i : Instr) (next : List Instr) (r : Reg) → StandsAsInstr i next m.code → IsRegister m r → There moves r.number (length m.code - 1 - length next) →
       IsSunkAt m i next r
   sunk_there i next r s known t =
       let x = are.each t.move t.among in
@@ -139,10 +139,10 @@ module _ (m : Mach) (formed : WellFormed m) (moves : List Move) (are : AreMoves 
 
   there_sunk : (i : Instr) (next : List Instr) (r : Reg) → IsSunkAt m i next r → plan.moves (length next) r.number ≡ true
   there_sunk i next r a =
-      of_there moves (record { reg = r; place = place_of m (i ∷ next) }) r.number (length m.code - 1 - length next) (are.all i next r a) refl
+      of_there moves (record { reg = r; place = code_index m (i ∷ next) }) r.number (length m.code - 1 - length next) (are.all i next r a) refl
       (sym (place_now i next))
 
-  is_chosen : IsChosen m plan
+  is_chosen : IsSinkChoice m plan
   is_chosen =
       record {
         registers = λ r. (
@@ -150,7 +150,7 @@ module _ (m : Mach) (formed : WellFormed m) (moves : List Move) (are : AreMoves 
               let x = reg_in moves r c in
               let y = are.each x.0 x.1 in
               record { instr = y.instr; next = y.next; sunk_at = subst (IsSunkAt m y.instr y.next) x.2 y.sunk_at },
-          λ h. in_regs moves (record { reg = r; place = place_of m (h.instr ∷ h.next) }) (are.all h.instr h.next r h.sunk_at),
+          λ h. in_regs moves (record { reg = r; place = code_index m (h.instr ∷ h.next) }) (are.all h.instr h.next r h.sunk_at),
         );
         rising = rising_regs moves are.rising;
         moves = λ i next r s c. (
@@ -161,7 +161,7 @@ module _ (m : Mach) (formed : WellFormed m) (moves : List Move) (are : AreMoves 
 
   -- ---- the code
 
-  module _ (i : Instr) (next : List Instr) (s : Stands i next m.code) where
+  module _ (i : Instr) (next : List Instr) (s : StandsAsInstr i next m.code) where
     abbrev p : ℕ
     p = length m.code - 1 - length next
 
@@ -174,22 +174,22 @@ module _ (m : Mach) (formed : WellFormed m) (moves : List Move) (are : AreMoves 
         let a = sunk_there i next x.reg s (y.sunk_at).register (there_of moves x.reg.number p e) in
         let b = y.sunk_at in
         let after : a.after ≡ b.after = b.only a.call a.after a.to a.over a.unsaved in
-        let same : place_of m (i ∷ next) ≡ place_of m (y.instr ∷ y.next) =
+        let same : code_index m (i ∷ next) ≡ code_index m (y.instr ∷ y.next) =
         one_start m x.reg.number (ending_of a.stands) (ending_of b.stands) a.run b.run after in
         eq-eqb x.place p (y.place ∙ sym same ∙ sym (place_now i next)))
 
-    moves_same : (xs : List Move) → ((x : Move) → Contains xs x → Contains moves x) → moves_before xs p ≡ moves_of plan (length next) (regs_of xs)
+    moves_same : (xs : List Move) → ((x : Move) → Contains xs x → Contains moves x) → moves_before xs p ≡ planned_moves plan (length next) (regs_of xs)
     moves_same [] known = refl
     moves_same (x ∷ xs) known =
         ap (λ b. cond b (to_itself x.reg ∷ moves_before xs p) (moves_before xs p)) (test_same x (known x (first_in x xs)))
         ∙ ap (λ ys. cond (plan.moves (length next) x.reg.number) (to_itself x.reg ∷ ys) ys)
         (moves_same xs (λ y c. known y (later_in x y xs c)))
 
-    none_same : begins_at m.code p ≡ false → (xs : List Move) → ((x : Move) → Contains xs x → Contains moves x) →
-        moves_of plan (length next) (regs_of xs) ≡ []
+    none_same : straight_run_begins m.code p ≡ false → (xs : List Move) → ((x : Move) → Contains xs x → Contains moves x) →
+        planned_moves plan (length next) (regs_of xs) ≡ []
     none_same e [] known = refl
     none_same e (x ∷ xs) known =
-        ap (λ b. cond b (to_itself x.reg ∷ moves_of plan (length next) (regs_of xs)) (moves_of plan (length next) (regs_of xs)))
+        ap (λ b. cond b (to_itself x.reg ∷ planned_moves plan (length next) (regs_of xs)) (planned_moves plan (length next) (regs_of xs)))
         (⊎_elim (λ h. absurd (never h)) (λ h. h) (cases_Bool (plan.moves (length next) x.reg.number)))
         ∙ none_same e xs (λ y c. known y (later_in x y xs c))
       where
@@ -197,28 +197,28 @@ module _ (m : Mach) (formed : WellFormed m) (moves : List Move) (are : AreMoves 
         never h =
             let y = are.each x (known x (first_in x xs)) in
             let a = sunk_there i next x.reg s (y.sunk_at).register (there_of moves x.reg.number p h) in
-            not_both (begins_at m.code p) (ap (begins_at m.code) (place_now i next) ∙ begins_of m x.reg.number (ending_of a.stands) a.run) e
+            not_both (straight_run_begins m.code p) (ap (straight_run_begins m.code) (place_now i next) ∙ begins_of m x.reg.number (ending_of a.stands) a.run) e
 
-    instr_same : instr_at moves (begins_at m.code p) p i ≡ sunk_instr plan (length next) i
+    instr_same : instr_after_moves moves (straight_run_begins m.code p) p i ≡ sunk_instr plan (length next) i
     instr_same =
         ⊎_elim
         (λ e.
         ap (λ b. cond b (moves_before moves p ++ i ∷ []) (i ∷ [])) e ∙ ap (λ xs. xs ++ i ∷ []) (moves_same moves (λ x c. c)))
         (λ e.
         ap (λ b. cond b (moves_before moves p ++ i ∷ []) (i ∷ [])) e ∙ ap (λ xs. xs ++ i ∷ []) (sym (none_same e moves (λ x c. c))))
-        (cases_Bool (begins_at m.code p))
+        (cases_Bool (straight_run_begins m.code p))
 
-  pub sunk_by : (code : List Instr) → code ≡ code_at moves m.code m.code → IsSunk m (record m { code = code })
+  pub sunk_by : (code : List Instr) → code ≡ sunk_code moves m.code m.code → IsSunk m (record m { code = code })
   sunk_by code e =
       record {
         plan = plan;
         chosen = is_chosen;
         is = ap (λ xs. record m { code = xs })
-            (e ∙ code_same (λ k i. instr_at moves (begins_at m.code (length m.code - 1 - k)) (length m.code - 1 - k) i) (sunk_instr plan) m.code instr_same);
+            (e ∙ code_same (λ k i. instr_after_moves moves (straight_run_begins m.code (length m.code - 1 - k)) (length m.code - 1 - k) i) (sunk_instr plan) m.code instr_same);
       }
 
   pub unsunk : moves ≡ [] → IsSunk m m
-  unsunk none = sunk_by m.code (bare m.code m.code ∙ ap (λ xs. code_at xs m.code m.code) (sym none))
+  unsunk none = sunk_by m.code (bare m.code m.code ∙ ap (λ xs. sunk_code xs m.code m.code) (sym none))
 
 pub none_of : {A : Type 0} (xs : List A) → length xs ≡ 0 → xs ≡ []
 none_of [] e = refl

@@ -7,12 +7,12 @@ use Rattle.bs_words.specs.Contents.{contents}
 use Rattle.dataflow.specs.Flow.{IsBare}
 use Rattle.dataflow.specs.declared.flow.Flow as flow
 use Rattle.dataflow.specs.declared.flow.Place as place
-use Rattle.mach_ir.specs.Meaning.{written}
+use Rattle.mach_ir.specs.Meaning.{registers_written}
 use Rattle.mach_ir.specs.declared.mach.Instr.{Instr}
 use Rattle.mach_ir.specs.declared.mach.Mach.{Mach}
-use Rattle.mach_laws.specs.Graph.{place_of, numbers, next_places, raise_places, numbers_written, IsFlowOf}
+use Rattle.mach_laws.specs.Graph.{code_index, numbers_of_registers, next_places, raise_places, numbers_written, IsFlowOf}
 use Rattle.liveness.proofs.Lists.{place_next}
-use Rattle.sink.specs.Graphs.{IsEntry, AreOver, IsStalePlace, IsStaleNode, AreStaleNodes, at_end, before, IsTurned, AreTurned, turned_end, turned_before}
+use Rattle.sink.specs.Graphs.{IsSinkEntry, AreOver, IsStalePlace, IsStaleNode, AreStaleNodes, at_end, before, IsTurned, AreTurned, turned_end, turned_before}
 
 -- what is left of a list
 pub record Rest (all items : List place.Place) : Type 0 where
@@ -76,7 +76,7 @@ module _ (m : Mach) (rows : List (List Bool)) (old : flow.Flow) (is : IsFlowOf m
       Rest (contents old.places) new
   rest_begun all new o same e = record { done = option_to_list o; whole = sym e ∙ same }
 
-  pub nodes_begun : (k : ℕ) (last : place.Place) (before_it nodes : List place.Place) → k ≡ length m.code → IsEntry m rows last → before_it ≡ [] →
+  pub nodes_begun : (k : ℕ) (last : place.Place) (before_it nodes : List place.Place) → k ≡ length m.code → IsSinkEntry m rows last → before_it ≡ [] →
       nodes ≡ last ∷ before_it → AreStaleNodes m rows (drop k m.code) nodes
   nodes_begun k last before_it nodes e entry none made =
       subst (λ rest. AreStaleNodes m rows rest nodes) (sym (none_left k e))
@@ -108,12 +108,12 @@ module _ (m : Mach) (rows : List (List Bool)) (old : flow.Flow) (is : IsFlowOf m
           sym (part_at part rest r.done x)
           ∙ ap (λ xs. slice_index_or (map part xs) (length rest) []) (shifted (contents old.places) items rest r.done x e r.whole)
 
-      after_is : length rest + 1 ≡ place_of m (drop (suc (length rest)) m.code)
+      after_is : length rest + 1 ≡ code_index m (drop (suc (length rest)) m.code)
       after_is =
           let a = place_next m (length rest) i (drop (suc (length rest)) m.code) here in
           omega (arith, a)
 
-      writes_is : contents x.writes ≡ numbers (written m i)
+      writes_is : contents x.writes ≡ numbers_of_registers (registers_written m i)
       writes_is = part_is (λ x. contents x.writes) ∙ is.writes (length rest) ∙ ap (numbers_written m) here
 
       one : IsStaleNode m rows i (drop (suc (length rest)) m.code) y
@@ -121,7 +121,7 @@ module _ (m : Mach) (rows : List (List Bool)) (old : flow.Flow) (is : IsFlowOf m
           record {
             next_is = h.next ∙ part_is (λ x. contents x.next) ∙ is.next (length rest) ∙ ap (next_places m) here;
             aside = h.aside ∙ part_is (λ x. contents x.aside) ∙ is.aside (length rest) ∙ ap (raise_places m) here;
-            reads = subst (λ k. AreOver rows k i.op (numbers (written m i)) (contents y.reads)) after_is
+            reads = subst (λ k. AreOver rows k i.op (numbers_of_registers (registers_written m i)) (contents y.reads)) after_is
                 (subst (λ ws. AreOver rows (length rest + 1) i.op ws (contents y.reads)) writes_is h.reads);
             writes = h.writes ∙ writes_is;
           }

@@ -11,15 +11,15 @@ use Rattle.dataflow.specs.Reach.{ComesIn, ComesTo}
 use Rattle.dataflow.specs.declared.flow.Flow as flow
 use Rattle.dataflow.specs.declared.flow.Place as place
 use Rattle.mach_ir.specs.Graph.{IsLiveMap}
-use Rattle.mach_ir.specs.Meaning.{Everything, destroyed_by, code_at, written}
-use Rattle.mach_ir.specs.Walks.{goes, Leads, Raises, Live}
+use Rattle.mach_ir.specs.Meaning.{Everything, destroyed_by, code_at, registers_written}
+use Rattle.mach_ir.specs.Walks.{goes, WalkStep, Raises, Live}
 use Rattle.mach_ir.specs.Walks as walks
 use Rattle.mach_ir.specs.declared.graph.LiveMap.{LiveMap}
 use Rattle.mach_ir.specs.declared.mach.Instr.{Instr}
 use Rattle.mach_ir.specs.declared.mach.Mach.{Mach}
-use Rattle.mach_laws.specs.Graph.{numbers, next_places, raise_places, numbers_written, IsFlowOf}
+use Rattle.mach_laws.specs.Graph.{numbers_of_registers, next_places, raise_places, numbers_written, IsFlowOf}
 use Rattle.mach_laws.proofs.Walking.{ending_drop}
-use Rattle.sink.specs.Graphs.{held, LivesAt, AreNodes}
+use Rattle.sink.specs.Graphs.{destroys_colours, LivesAt, AreCodeNodes}
 use Rattle.sink.proofs.Held.{held_of}
 use Rattle.sink.proofs.Graph.{Where, inner, final, beyond, where_is, at, none_past, rise, Of, goes_to, rises_to}
 use Rattle.sink.proofs.Nodes.{At, AtEnd, at_last, count}
@@ -28,16 +28,16 @@ use Rattle.liveness.proofs.Steps.{destroys_on, IsWithin, next_within, aside_with
 -- ---- what destroys every colour and goes on
 
 module _ (m : Mach) where
-  pub next_live : {i : Instr} {next to : List Instr} {n : ℕ} → destroyed_by i.op ≡ Everything → Leads m i next to → Live m n to → Live m n next
+  pub next_live : {i : Instr} {next to : List Instr} {n : ℕ} → destroyed_by i.op ≡ Everything → WalkStep m i next to → Live m n to → Live m n next
   next_live {i} {next} {n = n} d (goes t o) v = subst (λ t. Live m n (code_at m.code next t)) (destroys_on i.op t d o) v
 
-  pub is_held : {i : Instr} {next to : List Instr} → destroyed_by i.op ≡ Everything → Leads m i next to → held i.op ≡ true
+  pub is_held : {i : Instr} {next to : List Instr} → destroyed_by i.op ≡ Everything → WalkStep m i next to → destroys_colours i.op ≡ true
   is_held {i} d (goes t o) = held_of i.op t d o
 
 module _ (m : Mach) (E : place.Place → Type 0) (N : Instr → List Instr → place.Place → Type 0)
     (next_of : (i : Instr) (next : List Instr) (x : place.Place) → N i next x → contents x.next ≡ next_places m (i ∷ next))
     (aside_of : (i : Instr) (next : List Instr) (x : place.Place) → N i next x → contents x.aside ≡ raise_places m (i ∷ next))
-    (f : flow.Flow) (nodes : AreNodes E N m.code (contents f.places)) where
+    (f : flow.Flow) (nodes : AreCodeNodes E N m.code (contents f.places)) where
   abbrev pub g : Graph
   g = graph f
 
@@ -88,11 +88,11 @@ module _ (m : Mach) (E : place.Place → Type 0) (N : Instr → List Instr → p
   abbrev pub Place : Instr → List Instr → Type 0
   Place = Of m E N next_of aside_of f nodes
 
-  pub made_there : {i : Instr} {next to : List Instr} {n : ℕ} (p : ℕ) (x : Place i next) → Leads m i next to → p ≤ length m.code →
+  pub made_there : {i : Instr} {next to : List Instr} {n : ℕ} (p : ℕ) (x : Place i next) → WalkStep m i next to → p ≤ length m.code →
       drop p m.code ≡ to → Contains (g.reads x.number) n → ComesTo g p n
   made_there p x l le e r = (1, inl (x.number, goes_to m E N next_of aside_of f nodes p x l le e, inl r))
 
-  pub goes_over : {i : Instr} {next to : List Instr} {n : ℕ} (p : ℕ) (x : Place i next) → Leads m i next to → p ≤ length m.code →
+  pub goes_over : {i : Instr} {next to : List Instr} {n : ℕ} (p : ℕ) (x : Place i next) → WalkStep m i next to → p ≤ length m.code →
       drop p m.code ≡ to → (Contains (g.writes x.number) n → ⊥) → ComesTo g x.number n → ComesTo g p n
   goes_over p x l le e w b = (suc b.0, inl (x.number, goes_to m E N next_of aside_of f nodes p x l le e, inr (w, b.1)))
 
@@ -102,7 +102,7 @@ module _ (m : Mach) (E : place.Place → Type 0) (N : Instr → List Instr → p
 
   -- ---- the graph is one
 
-  module _ (old : flow.Flow) (is : IsFlowOf m old) (formed : flows.WellFormed old) (bound : f.bound ≡ old.bound) where
+  module _ (old : flow.Flow) (is : IsFlowOf m old) (formed : flows.IsFlowFormed old) (bound : f.bound ≡ old.bound) where
     same_count : length (contents old.places) ≡ length (contents f.places)
     same_count = is.places ∙ sym (count E N nodes)
 
@@ -118,7 +118,7 @@ module _ (m : Mach) (E : place.Place → Type 0) (N : Instr → List Instr → p
         (subst (IsWithin m old is formed) (ap (raise_places m) a.is ∙ sym (aside_of a.instr a.next a.node a.is_node))
         (aside_within m old is formed k))
 
-    pub written_fit : (k : ℕ) (a : The k) (ns : List ℕ) → ns ≡ numbers (written m a.instr) → All (λ r. r < f.bound) ns
+    pub written_fit : (k : ℕ) (a : The k) (ns : List ℕ) → ns ≡ numbers_of_registers (registers_written m a.instr) → All (λ r. r < f.bound) ns
     written_fit k a ns e =
         subst (λ b. All (λ r. r < b) ns) (sym bound)
         (subst (All (λ r. r < old.bound)) (ap (numbers_written m) a.is ∙ sym e) (writes_small m old is formed k))
@@ -129,7 +129,7 @@ module _ (m : Mach) (E : place.Place → Type 0) (N : Instr → List Instr → p
         subst (λ b. n < b) (sym bound) (live_small m old is formed ((exact.exact p n).0 h.live) (ending_drop p m.code))
 
     pub flow_formed : ((k : ℕ) (a : The k) → IsPlace (length (contents f.places)) f.bound a.node) →
-        IsPlace (length (contents f.places)) f.bound (last).node → flows.WellFormed f
+        IsPlace (length (contents f.places)) f.bound (last).node → flows.IsFlowFormed f
     flow_formed fits_instr fits_end = λ k d lt. by k d lt (where_is (length m.code) k)
       where
         Fits : place.Place → Type 0

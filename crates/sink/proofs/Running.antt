@@ -5,9 +5,9 @@ use Rattle.std.proofs.lemmas.List.{length-append}
 use Rattle.std.specs.List.{All}
 use Rattle.std.specs.Prelude.{Option, nat_eq, slice_get}
 use Rattle.std.proofs.lemmas.List.Elements.{All-cons, All-head, All-tail, All-nil}
-use Rattle.mach_ir.specs.Meaning.{killed, written}
+use Rattle.mach_ir.specs.Meaning.{killed, registers_written}
 use Rattle.mach_ir.specs.Placed.{is_straight, AreStraight}
-use Rattle.mach_ir.specs.Walks.{Among, first, later, Writes, Stands}
+use Rattle.mach_ir.specs.Walks.{AmongRegisters, first, later, Writes, StandsAsInstr}
 use Rattle.mach_ir.specs.declared.op.Op.TheVariants as op
 use Rattle.mach_ir.specs.declared.reg.Reg.{Reg}
 use Rattle.mach_ir.specs.declared.mach.Instr.{Instr}
@@ -15,10 +15,10 @@ use Rattle.mach_ir.specs.declared.mach.Mach.{Mach}
 use Rattle.mach_ir.specs.declared.mach.MachOp.{MachOp}
 use Rattle.mach_ir.specs.declared.mach.MachOp.TheVariants as mach
 use Rattle.mach_laws.specs.Expand.{Ending}
-use Rattle.mach_laws.specs.Graph.{place_of}
+use Rattle.mach_laws.specs.Graph.{code_index}
 use Rattle.mach_laws.proofs.Walking.{place_is, place_back, ending_place}
 use Rattle.sink_rules.specs.Chosen.{IsRunTo}
-use Rattle.sink.specs.Runs.{some_straight, begins_at, is_among, some_result, run_start}
+use Rattle.sink.specs.Runs.{some_straight, straight_run_begins, is_among_registers, some_result, run_start}
 use Rattle.mach_laws.proofs.Places.{stands_of, ending_of, ending_short}
 use Rattle.bs_words.proofs.Truths.{not_both}
 
@@ -65,11 +65,11 @@ get_within (x ∷ xs) ys zero lt = refl
 get_within (x ∷ xs) ys (suc p) lt = get_within xs ys p (omega (arith, lt))
 
 -- what is before a place shows whether a run begins there
-pub begins_within : (xs ys : List Instr) (p : ℕ) → p ≤ length xs → begins_at (xs ++ ys) p ≡ begins_at xs p
+pub begins_within : (xs ys : List Instr) (p : ℕ) → p ≤ length xs → straight_run_begins (xs ++ ys) p ≡ straight_run_begins xs p
 begins_within xs ys zero le = refl
 begins_within xs ys (suc p) le = ap (λ o. not (some_straight o)) (get_within xs ys p (omega (arith, le)))
 
-pub begins_inside : (code : List Instr) (p : ℕ) → begins_at code p ≡ false → 0 < p
+pub begins_inside : (code : List Instr) (p : ℕ) → straight_run_begins code p ≡ false → 0 < p
 begins_inside code zero e = absurd (not_both true refl e)
 begins_inside code (suc p) e = omega arith
 
@@ -77,16 +77,16 @@ begins_inside code (suc p) e = omega arith
 
 -- ---- what a straight instruction writes
 
-among_is : (n : ℕ) (rs : List Reg) → is_among n rs ≡ true → Among n rs
+among_is : (n : ℕ) (rs : List Reg) → is_among_registers n rs ≡ true → AmongRegisters n rs
 among_is n [] e = absurd (not_both false e refl)
 among_is n (r ∷ rs) e =
-    ⊎_elim (λ h. first (eqb-true r.number n h)) (λ h. later (among_is n rs h)) (or_cases (nat_eq r.number n) (is_among n rs) e)
+    ⊎_elim (λ h. first (eqb-true r.number n h)) (λ h. later (among_is n rs h)) (or_cases (nat_eq r.number n) (is_among_registers n rs) e)
 
-is_among_of : {n : ℕ} {rs : List Reg} → Among n rs → is_among n rs ≡ true
-is_among_of {n} (first {r = r} {rs = rs} e) = ap (λ b. b || is_among n rs) (eq-eqb r.number n e)
+is_among_of : {n : ℕ} {rs : List Reg} → AmongRegisters n rs → is_among_registers n rs ≡ true
+is_among_of {n} (first {r = r} {rs = rs} e) = ap (λ b. b || is_among_registers n rs) (eq-eqb r.number n e)
 is_among_of {n} (later {r = r} {rs = rs} a) = by (nat_eq r.number n) (is_among_of a)
   where
-    by : (a : Bool) → is_among n rs ≡ true → a || is_among n rs ≡ true
+    by : (a : Bool) → is_among_registers n rs ≡ true → a || is_among_registers n rs ≡ true
     by true e = refl
     by false e = e
 
@@ -97,7 +97,7 @@ straight_writes m i (mach.Op (op.Calling f)) e s = absurd (not_both false s refl
 straight_writes m i (mach.Op (op.Leaving f)) e s = absurd (not_both false s refl)
 straight_writes m i (mach.Mark f) e s = absurd (not_both false s refl)
 
-written_is : (m : Mach) (i : Instr) → is_straight i.op ≡ true → written m i ≡ i.results
+written_is : (m : Mach) (i : Instr) → is_straight i.op ≡ true → registers_written m i ≡ i.results
 written_is m i s = ap (λ ks. i.results ++ ks) (straight_writes m i i.op refl s) ∙ append-nil i.results
 
 -- ---- runs
@@ -121,14 +121,14 @@ module _ (m : Mach) (n : ℕ) where
     pub is : drop q code ≡ run ++ rest
     pub straight : AreStraight run
     pub unwritten : Unwritten run
-    pub begins : begins_at code q ≡ true
+    pub begins : straight_run_begins code q ≡ true
     pub within : q ≤ length code
 
   ran : (rest : List Instr) (q p : ℕ) (run : List Instr) → drop p code ≡ run ++ rest → AreStraight run → Unwritten run → p ≤ length code →
       run_start code n p ≡ Some q → Ran rest q
   ran rest q zero run e s u le h =
       subst (Ran rest) (some_same 0 q h) (record { run = run; is = e; straight = s; unwritten = u; begins = refl; within = le })
-  ran rest q (suc p) run e s u le h = by (λ run. ran rest q p run) (cases_Bool (begins_at code (suc p)))
+  ran rest q (suc p) run e s u le h = by (λ run. ran rest q p run) (cases_Bool (straight_run_begins code (suc p)))
     where
       Goes : Type 0
       Goes =
@@ -147,37 +147,37 @@ module _ (m : Mach) (n : ℕ) where
       next : Bool → Bool → Option ℕ
       next b w = cond b (Some (suc p)) (cond w None (run_start code n p))
 
-      opened : (b : Bool) → begins_at code (suc p) ≡ b → next b (is_among n i.results) ≡ Some q
+      opened : (b : Bool) → straight_run_begins code (suc p) ≡ b → next b (is_among_registers n i.results) ≡ Some q
       opened b g = ap (λ o. next b (some_result n o)) (sym get) ∙ ap (λ b. next b (some_result n (slice_get code p))) (sym g) ∙ h
 
-      by : Goes → (begins_at code (suc p) ≡ true) ⊎ (begins_at code (suc p) ≡ false) → Ran rest q
+      by : Goes → (straight_run_begins code (suc p) ≡ true) ⊎ (straight_run_begins code (suc p) ≡ false) → Ran rest q
       by go (inl g) =
           subst (Ran rest) (some_same (suc p) q (opened true g))
           (record { run = run; is = e; straight = s; unwritten = u; begins = g; within = le })
-      by go (inr g) = further (cases_Bool (is_among n i.results))
+      by go (inr g) = further (cases_Bool (is_among_registers n i.results))
         where
           straight : is_straight i.op ≡ true
           straight = not-false (is_straight i.op) (ap (λ o. not (some_straight o)) (sym get) ∙ g)
 
-          further : (is_among n i.results ≡ true) ⊎ (is_among n i.results ≡ false) → Ran rest q
+          further : (is_among_registers n i.results ≡ true) ⊎ (is_among_registers n i.results ≡ false) → Ran rest q
           further (inl w) = absurd (none_some q (ap (next false) (sym w) ∙ opened false g))
           further (inr w) =
               go (i ∷ run) (there.1 ∙ ap (λ xs. i ∷ xs) e)
               (All-cons (λ (i : Instr). is_straight i.op ≡ true) i run straight s)
               (All-cons (λ (j : Instr). Writes m j n → ⊥) i run
-              (λ a. not_both (is_among n i.results) (is_among_of (subst (Among n) (written_is m i straight) a)) w) u)
+              (λ a. not_both (is_among_registers n i.results) (is_among_of (subst (AmongRegisters n) (written_is m i straight) a)) w) u)
               (omega (arith, le)) (ap (next false) (sym w) ∙ opened false g)
 
   -- ---- where a run begins
 
-  pub begins_there : (q : ℕ) (from : List Instr) → drop q code ≡ from → q ≤ length code → begins_at code q ≡ true →
-      (j : Instr) → Stands j from code → is_straight j.op ≡ false
+  pub begins_there : (q : ℕ) (from : List Instr) → drop q code ≡ from → q ≤ length code → straight_run_begins code q ≡ true →
+      (j : Instr) → StandsAsInstr j from code → is_straight j.op ≡ false
   begins_there q from e le g j st =
       by q (place_back m q from le e)
       (place_back_of (ending_of st)) g
     where
       place_back_of : Ending (j ∷ from) code → (p : ℕ) × (drop p code ≡ j ∷ from) × (p ≡ length code - suc (length from)) × (suc (length from) ≤ length code)
-      place_back_of e = (place_of m (j ∷ from), place_is m e, refl, ending_short e)
+      place_back_of e = (code_index m (j ∷ from), place_is m e, refl, ending_short e)
 
       minus : (a b p q : ℕ) → a - b ≡ suc q → p ≡ a - suc b → p ≡ q
       minus a b p q e h = omega (arith, e, h)
@@ -185,9 +185,9 @@ module _ (m : Mach) (n : ℕ) where
       none : (a b : ℕ) → a - b ≡ 0 → suc b ≤ a → ⊥
       none a b e h = omega (arith, e, h)
 
-      by : (q : ℕ) → place_of m from ≡ q →
+      by : (q : ℕ) → code_index m from ≡ q →
           (p : ℕ) × (drop p code ≡ j ∷ from) × (p ≡ length code - suc (length from)) × (suc (length from) ≤ length code) →
-          begins_at code q ≡ true → is_straight j.op ≡ false
+          straight_run_begins code q ≡ true → is_straight j.op ≡ false
       by zero h x g = absurd (none (length code) (length from) h x.3)
       by (suc q) h x g =
           let same : x.0 ≡ q = minus (length code) (length from) x.0 q h x.2 in
@@ -195,7 +195,7 @@ module _ (m : Mach) (n : ℕ) where
           not-true (is_straight j.op) (ap (λ o. not (some_straight o)) (sym get) ∙ g)
 
   begins_back : (q : ℕ) (from : List Instr) → drop q code ≡ from → q ≤ length code →
-      ((j : Instr) → Stands j from code → is_straight j.op ≡ false) → begins_at code q ≡ true
+      ((j : Instr) → StandsAsInstr j from code → is_straight j.op ≡ false) → straight_run_begins code q ≡ true
   begins_back zero from e le h = refl
   begins_back (suc q) from e le h =
       let there = there_is code q (omega (arith, le)) in
@@ -225,41 +225,41 @@ module _ (m : Mach) (n : ℕ) where
       straight : is_straight i.op ≡ true
       straight = All-head (λ (i : Instr). is_straight i.op ≡ true) i run s
 
-      unwritten : is_among n i.results ≡ false
+      unwritten : is_among_registers n i.results ≡ false
       unwritten =
           ⊎_elim
           (λ w.
           absurd
-          (All-head (λ (j : Instr). Writes m j n → ⊥) i run u (subst (Among n) (sym (written_is m i straight)) (among_is n i.results w))))
-          (λ w. w) (cases_Bool (is_among n i.results))
+          (All-head (λ (j : Instr). Writes m j n → ⊥) i run u (subst (AmongRegisters n) (sym (written_is m i straight)) (among_is n i.results w))))
+          (λ w. w) (cases_Bool (is_among_registers n i.results))
 
       one : run_start code n (suc q) ≡ run_start code n q
       one =
           ap (λ o. cond (not (some_straight o)) (Some (suc q)) (cond (some_result n o) None (run_start code n q))) get
-          ∙ ap (λ b. cond (not b) (Some (suc q)) (cond (is_among n i.results) None (run_start code n q))) straight
+          ∙ ap (λ b. cond (not b) (Some (suc q)) (cond (is_among_registers n i.results) None (run_start code n q))) straight
           ∙ ap (λ b. cond b None (run_start code n q)) unwritten
 
-  at_begin : (q : ℕ) → begins_at code q ≡ true → run_start code n q ≡ Some q
+  at_begin : (q : ℕ) → straight_run_begins code q ≡ true → run_start code n q ≡ Some q
   at_begin zero e = refl
   at_begin (suc q) e = ap (λ b. cond b (Some (suc q)) (cond (some_result n (slice_get code q)) None (run_start code n q))) e
 
   -- ---- a run to a call
 
   pub begins_of : {from : List Instr} {call : Instr} {after : List Instr} → Ending from code → IsRunTo m n from call after →
-      begins_at code (place_of m from) ≡ true
-  begins_of {from} e r = begins_back (place_of m from) from (place_is m e) (within from) r.begins
+      straight_run_begins code (code_index m from) ≡ true
+  begins_of {from} e r = begins_back (code_index m from) from (place_is m e) (within from) r.begins
     where
-      within : (rest : List Instr) → place_of m rest ≤ length code
+      within : (rest : List Instr) → code_index m rest ≤ length code
       within rest = by (length code) (length rest)
         where
           by : (a b : ℕ) → a - b ≤ a
           by a b = omega arith
 
   pub run_starts : {from : List Instr} {call : Instr} {after : List Instr} → Ending from code → IsRunTo m n from call after →
-      run_start code n (place_of m (call ∷ after)) ≡ Some (place_of m from)
+      run_start code n (code_index m (call ∷ after)) ≡ Some (code_index m from)
   run_starts {from} {call} {after} e r =
       ap (run_start code n) (place (length code) (length from) (length r.run) (suc (length after)) count (ending_short e))
-      ∙ passed r.run (call ∷ after) (place_of m from) (place_is m e ∙ r.is) r.straight r.unwritten ∙ at_begin (place_of m from) (begins_of e r)
+      ∙ passed r.run (call ∷ after) (code_index m from) (place_is m e ∙ r.is) r.straight r.unwritten ∙ at_begin (code_index m from) (begins_of e r)
     where
       count : length from ≡ length r.run + suc (length after)
       count = ap length r.is ∙ length-append r.run (call ∷ after)
@@ -269,9 +269,9 @@ module _ (m : Mach) (n : ℕ) where
 
   -- runs to one call begin at one place
   pub one_start : {from others : List Instr} {call other : Instr} {after onward : List Instr} → Ending from code → Ending others code →
-      IsRunTo m n from call after → IsRunTo m n others other onward → after ≡ onward → place_of m from ≡ place_of m others
+      IsRunTo m n from call after → IsRunTo m n others other onward → after ≡ onward → code_index m from ≡ code_index m others
   one_start {from} {others} e h r x same =
-      some_same (place_of m from) (place_of m others)
+      some_same (code_index m from) (code_index m others)
       (sym (run_starts e r) ∙ ap (λ (rest : List Instr). run_start code n (length code - suc (length rest))) same ∙ run_starts h x)
 
   pub run_to : (q p : ℕ) (call : Instr) (after : List Instr) → drop p code ≡ call ∷ after → p ≤ length code → run_start code n p ≡ Some q →

@@ -6,9 +6,9 @@ use Rattle.std.specs.Prelude.{nat_eq, slice_index_or, slice_set}
 use Rattle.bs_bits.specs.Set.{has}
 use Rattle.bs_words.specs.Contents.{contents}
 use Rattle.bs_words.proofs.Lists.{none_in, first_in, later_in, in_cons}
-use Rattle.dataflow.specs.Rows.{row}
+use Rattle.dataflow.specs.Rows.{set_in_row}
 use Rattle.dataflow.specs.declared.flow.Place as place
-use Rattle.sink.specs.Sights.{noted, noted_number, noted_numbers, noted_places}
+use Rattle.sink.specs.Sights.{sighted, noted_number, noted_numbers, noted_places}
 use Rattle.sink.specs.declared.sights.Sight.{Sight}
 use Rattle.sink.specs.declared.sights.Sight.TheVariants.{Unseen, Once, Often}
 use Rattle.bs_words.proofs.Truths.{not_both}
@@ -49,7 +49,7 @@ same_sees S T back on (unseen none) = unseen (λ q h. none q (back q h))
 same_sees S T back on (once p h only) = once p (on p h) (λ q t. only q (back q t))
 same_sees S T back on (often p q h k apart) = often p q (on p h) (on q k) apart
 
-noted_sees : (S T : ℕ → Type 0) (p : ℕ) {s : Sight} → ((q : ℕ) → T q → S q ⊎ (q ≡ p)) → ((q : ℕ) → S q → T q) → T p → Sees S s → Sees T (noted p s)
+noted_sees : (S T : ℕ → Type 0) (p : ℕ) {s : Sight} → ((q : ℕ) → T q → S q ⊎ (q ≡ p)) → ((q : ℕ) → S q → T q) → T p → Sees S s → Sees T (sighted p s)
 noted_sees S T p back on h (unseen none) = once p h (λ q t. ⊎_elim (λ s. absurd (none q s)) (λ e. e) (back q t))
 noted_sees S T p back on h (once r s only) =
     ⊎_elim
@@ -73,8 +73,8 @@ SeenNow S p ns fresh n q = S n q ⊎ ((q ≡ p) × Contains ns n × (has fresh n
 length_number : (fresh : List Bool) (p n : ℕ) (t : List Sight) → length (noted_number fresh p n t) ≡ length t
 length_number fresh p n t = by (has fresh n)
   where
-    by : (b : Bool) → length (cond b (slice_set t n (noted p (slice_index_or t n Unseen))) t) ≡ length t
-    by true = length_set t n (noted p (slice_index_or t n Unseen))
+    by : (b : Bool) → length (cond b (slice_set t n (sighted p (slice_index_or t n Unseen))) t) ≡ length t
+    by true = length_set t n (sighted p (slice_index_or t n Unseen))
     by false = refl
 
 length_numbers : (fresh : List Bool) (p : ℕ) (ns : List ℕ) (t : List Sight) → length (noted_numbers fresh p ns t) ≡ length t
@@ -90,7 +90,7 @@ number_seen S fresh p n t are k lt =
     small = subst (λ l. k < l) (length_number fresh p n t) lt
 
     value : Sight
-    value = noted p (slice_index_or t n Unseen)
+    value = sighted p (slice_index_or t n Unseen)
 
     T : ℕ → Type 0
     T = SeenNow S p (n ∷ []) fresh k
@@ -110,7 +110,7 @@ number_seen S fresh p n t are k lt =
     set e (inl same) =
         subst (λ (b : Bool). Sees T (slice_index_or (cond b (slice_set t n value) t) k Unseen)) (sym e)
         (subst (Sees T)
-        (ap (λ j. noted p (slice_index_or t j Unseen)) same
+        (ap (λ j. sighted p (slice_index_or t j Unseen)) same
         ∙ sym (at_set t n value Unseen (subst (λ j. j < length t) same small))
         ∙ ap (λ j. slice_index_or (slice_set t n value) j Unseen) (sym same))
         (noted_sees (S k) T p (λ q h. ⊎_elim (λ s. inl s) (λ x. inr x.0) h) (λ q s. inl s)
@@ -148,7 +148,7 @@ pub record InPlaces (rows : List (List Bool)) (b : ℕ) (xs : List place.Place) 
   pub index : ℕ
   pub is : q ≡ b + index
   pub killed : Contains (slice_index_or (map (λ x. contents x.writes) xs) index []) n
-  pub fresh : has (row rows q) n ≡ true
+  pub fresh : has (set_in_row rows q) n ≡ true
 
 abbrev SeenThere : (ℕ → ℕ → Type 0) → List (List Bool) → ℕ → List place.Place → ℕ → ℕ → Type 0
 SeenThere S rows b xs n q = S n q ⊎ InPlaces rows b xs n q
@@ -156,7 +156,7 @@ SeenThere S rows b xs n q = S n q ⊎ InPlaces rows b xs n q
 pub length_places : (rows : List (List Bool)) (b : ℕ) (xs : List place.Place) (t : List Sight) → length (noted_places rows b xs t) ≡ length t
 length_places rows b [] t = refl
 length_places rows b (x ∷ xs) t =
-    length_places rows (suc b) xs (noted_numbers (row rows b) b (contents x.writes) t) ∙ length_numbers (row rows b) b (contents x.writes) t
+    length_places rows (suc b) xs (noted_numbers (set_in_row rows b) b (contents x.writes) t) ∙ length_numbers (set_in_row rows b) b (contents x.writes) t
 
 places_seen : (S : ℕ → ℕ → Type 0) (rows : List (List Bool)) (b : ℕ) (xs : List place.Place) (t : List Sight) → AreSeen S t →
     AreSeen (SeenThere S rows b xs) (noted_places rows b xs t)
@@ -164,11 +164,11 @@ places_seen S rows b [] t are k lt =
     same_sees (S k) (SeenThere S rows b [] k) (λ q h. ⊎_elim (λ s. s) (λ x. absurd (none_in k x.killed)) h)
     (λ q s. inl s) (are k lt)
 places_seen S rows b (x ∷ xs) t are k lt =
-    same_sees (SeenThere (SeenNow S b (contents x.writes) (row rows b)) rows (suc b) xs k) (SeenThere S rows b (x ∷ xs) k)
+    same_sees (SeenThere (SeenNow S b (contents x.writes) (set_in_row rows b)) rows (suc b) xs k) (SeenThere S rows b (x ∷ xs) k)
     (λ q h. ⊎_elim (λ s. inl (inl s)) (λ y. back q y) h)
     (λ q h. ⊎_elim (λ s. ⊎_elim (λ s. inl s) (λ y. inr (here q y)) s) (λ y. inr (further q y)) h)
-    (places_seen (SeenNow S b (contents x.writes) (row rows b)) rows (suc b) xs (noted_numbers (row rows b) b (contents x.writes) t)
-    (numbers_seen S (row rows b) b (contents x.writes) t are) k lt)
+    (places_seen (SeenNow S b (contents x.writes) (set_in_row rows b)) rows (suc b) xs (noted_numbers (set_in_row rows b) b (contents x.writes) t)
+    (numbers_seen S (set_in_row rows b) b (contents x.writes) t are) k lt)
   where
     next_is : (q i : ℕ) → q ≡ suc b + i → q ≡ b + suc i
     next_is q i e = omega (arith, e)
@@ -182,24 +182,24 @@ places_seen S rows b (x ∷ xs) t are k lt =
     none_was : (q : ℕ) → q ≡ b + 0 → q ≡ b
     none_was q e = omega (arith, e)
 
-    here : (q : ℕ) → (q ≡ b) × Contains (contents x.writes) k × (has (row rows b) k ≡ true) → InPlaces rows b (x ∷ xs) k q
+    here : (q : ℕ) → (q ≡ b) × Contains (contents x.writes) k × (has (set_in_row rows b) k ≡ true) → InPlaces rows b (x ∷ xs) k q
     here q y =
         record {
           index = 0;
           is = none_more q y.0;
           killed = y.1;
-          fresh = subst (λ q. has (row rows q) k ≡ true) (sym y.0) y.2;
+          fresh = subst (λ q. has (set_in_row rows q) k ≡ true) (sym y.0) y.2;
         }
 
     further : (q : ℕ) → InPlaces rows (suc b) xs k q → InPlaces rows b (x ∷ xs) k q
     further q y = record { index = suc y.index; is = next_is q y.index y.is; killed = y.killed; fresh = y.fresh }
 
-    by : (q i : ℕ) → q ≡ b + i → Contains (slice_index_or (map (λ x. contents x.writes) (x ∷ xs)) i []) k → has (row rows q) k ≡ true →
-        SeenThere (SeenNow S b (contents x.writes) (row rows b)) rows (suc b) xs k q
-    by q zero e c h = inl (inr (none_was q e, c, subst (λ q. has (row rows q) k ≡ true) (none_was q e) h))
+    by : (q i : ℕ) → q ≡ b + i → Contains (slice_index_or (map (λ x. contents x.writes) (x ∷ xs)) i []) k → has (set_in_row rows q) k ≡ true →
+        SeenThere (SeenNow S b (contents x.writes) (set_in_row rows b)) rows (suc b) xs k q
+    by q zero e c h = inl (inr (none_was q e, c, subst (λ q. has (set_in_row rows q) k ≡ true) (none_was q e) h))
     by q (suc i) e c h = inr (record { index = i; is = was_next q i e; killed = c; fresh = h })
 
-    back : (q : ℕ) → InPlaces rows b (x ∷ xs) k q → SeenThere (SeenNow S b (contents x.writes) (row rows b)) rows (suc b) xs k q
+    back : (q : ℕ) → InPlaces rows b (x ∷ xs) k q → SeenThere (SeenNow S b (contents x.writes) (set_in_row rows b)) rows (suc b) xs k q
     back q y = by q y.index y.is y.killed y.fresh
 
 none_seen : (size : ℕ) → AreSeen (λ n q. ⊥) (replicate size Unseen)

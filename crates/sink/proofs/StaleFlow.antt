@@ -11,18 +11,18 @@ use Rattle.dataflow.specs.Reach.{ComesIn, ComesTo, IsReaching}
 use Rattle.dataflow.specs.declared.flow.Flow as flow
 use Rattle.dataflow.specs.declared.flow.Place as place
 use Rattle.mach_ir.specs.Graph.{IsLiveMap}
-use Rattle.mach_ir.specs.Meaning.{written}
-use Rattle.mach_ir.specs.Walks.{Among, Live, Writes}
+use Rattle.mach_ir.specs.Meaning.{registers_written}
+use Rattle.mach_ir.specs.Walks.{AmongRegisters, Live, Writes}
 use Rattle.mach_ir.specs.Walks as walks
 use Rattle.mach_ir.specs.declared.graph.LiveMap.{LiveMap}
 use Rattle.mach_ir.specs.declared.mach.Instr.{Instr}
 use Rattle.mach_ir.specs.declared.mach.Mach.{Mach}
 use Rattle.mach_laws.specs.Expand.{Ending, all}
-use Rattle.mach_laws.specs.Graph.{place_of, numbers, next_places, raise_places, IsFlowOf}
+use Rattle.mach_laws.specs.Graph.{code_index, numbers_of_registers, next_places, raise_places, IsFlowOf}
 use Rattle.mach_laws.proofs.Places.{ending_next, stands_of, ending_of}
 use Rattle.mach_laws.proofs.Walking.{place_is, among_numbers, in_numbers, place_back, ending_place, ending_leads, ending_raises}
 use Rattle.sink_rules.specs.Walks.{Stale, at_entry, over, on, aside}
-use Rattle.sink.specs.Graphs.{LivesAt, IsOver, IsEntry, IsStaleNode, AreStaleNodes}
+use Rattle.sink.specs.Graphs.{LivesAt, IsOver, IsSinkEntry, IsStaleNode, AreStaleNodes}
 use Rattle.sink.specs.Tables.{AreStale}
 use Rattle.sink.proofs.Held.{held_destroys}
 use Rattle.sink.proofs.Graph.{Where, inner, final, beyond, at, none_past, lead, of}
@@ -36,7 +36,7 @@ module _ (m : Mach) (live : LiveMap) (exact : IsLiveMap m live) where
   rows = live.before.rows.items
 
   abbrev E : place.Place → Type 0
-  E = IsEntry m rows
+  E = IsSinkEntry m rows
 
   abbrev N : Instr → List Instr → place.Place → Type 0
   N = IsStaleNode m rows
@@ -121,7 +121,7 @@ module _ (m : Mach) (live : LiveMap) (exact : IsLiveMap m live) where
     stale_ends (on h w l) = ending_leads l (stale_ends h)
     stale_ends (aside h r) = ending_raises r
 
-    begins : (n p : ℕ) → p ≤ length m.code → drop p m.code ≡ m.code → (Among n m.params → ⊥) → Live m n m.code → ComesTo g p n
+    begins : (n p : ℕ) → p ≤ length m.code → drop p m.code ≡ m.code → (AmongRegisters n m.params → ⊥) → Live m n m.code → ComesTo g p n
     begins n p le e a v =
         let zero_is : p ≡ 0 = by (place_back m p m.code le e) in
         let end = length m.code in (
@@ -139,7 +139,7 @@ module _ (m : Mach) (live : LiveMap) (exact : IsLiveMap m live) where
           ),
         )
       where
-        by : place_of m m.code ≡ p → p ≡ 0
+        by : code_index m m.code ≡ p → p ≡ 0
         by h = omega (arith, h)
 
     comes_to : {n : ℕ} {rest : List Instr} → Stale m n rest → Live m n rest → (p : ℕ) → p ≤ length m.code → drop p m.code ≡ rest → ComesTo g p n
@@ -148,11 +148,11 @@ module _ (m : Mach) (live : LiveMap) (exact : IsLiveMap m live) where
         let ending = ending_of s in
         let x = of m E N next_of aside_of f nodes ending in
         let after = next_live m d l v in
-        let made : IsOver rows (place_of m next) i.op (numbers (written m i)) n = (
+        let made : IsOver rows (code_index m next) i.op (numbers_of_registers (registers_written m i)) n = (
           is_held m d l,
           record {
-            live = (exact.exact (place_of m next) n).1 (subst (Live m n) (sym (place_is m (ending_next ending))) after);
-            other = λ c. w (among_numbers n (written m i) c);
+            live = (exact.exact (code_index m next) n).1 (subst (Live m n) (sym (place_is m (ending_next ending))) after);
+            other = λ c. w (among_numbers n (registers_written m i) c);
           },
         ) in
         reaching.made_there m E N next_of aside_of f nodes p x l le e
@@ -160,7 +160,7 @@ module _ (m : Mach) (live : LiveMap) (exact : IsLiveMap m live) where
     comes_to {n} (on {i = i} {next = next} h w l) v p le e =
         let x = of m E N next_of aside_of f nodes (stale_ends h) in
         reaching.goes_over m E N next_of aside_of f nodes p x l le e
-        (λ c. w (among_numbers n (written m i) (subst (λ xs. Contains xs n) (x.part (λ x. contents x.writes) ∙ (x.is_node).writes) c)))
+        (λ c. w (among_numbers n (registers_written m i) (subst (λ xs. Contains xs n) (x.part (λ x. contents x.writes) ∙ (x.is_node).writes) c)))
         (comes_to h (walks.on w l v) x.number (within x.number x.small) x.is)
     comes_to {n} (aside {i = i} {next = next} h r) v p le e =
         let x = of m E N next_of aside_of f nodes (stale_ends h) in
@@ -178,7 +178,7 @@ module _ (m : Mach) (live : LiveMap) (exact : IsLiveMap m live) where
 
     -- ---- the graph is one
 
-    module _ (old : flow.Flow) (is : IsFlowOf m old) (formed : flows.WellFormed old) (bound : f.bound ≡ old.bound) where
+    module _ (old : flow.Flow) (is : IsFlowOf m old) (formed : flows.IsFlowFormed old) (bound : f.bound ≡ old.bound) where
       small : (p : ℕ) (except : List ℕ) (n : ℕ) → LivesAt rows p except n → n < f.bound
       small = reaching.small m E N next_of aside_of f nodes old is formed bound live exact
 
@@ -192,7 +192,7 @@ module _ (m : Mach) (live : LiveMap) (exact : IsLiveMap m live) where
             next = reaching.next_fits m E N next_of aside_of f nodes old is formed bound k a;
             aside = reaching.aside_fits m E N next_of aside_of f nodes old is formed bound k a;
             reads = each (λ r. r < f.bound) (contents (a.node).reads)
-                (λ r c. small (place_of m a.next) (numbers (written m a.instr)) r ((n.reads r).0 c).1);
+                (λ r c. small (code_index m a.next) (numbers_of_registers (registers_written m a.instr)) r ((n.reads r).0 c).1);
             writes = reaching.written_fit m E N next_of aside_of f nodes old is formed bound k a (contents (a.node).writes) n.writes;
           }
 
@@ -204,9 +204,9 @@ module _ (m : Mach) (live : LiveMap) (exact : IsLiveMap m live) where
             next = subst (All (λ q. q < length (contents f.places))) (sym n.next)
                 (All-cons (λ q. q < length (contents f.places)) 0 [] (omega (arith, some)) (All-nil (λ q. q < length (contents f.places))));
             aside = subst (All (λ q. q < length (contents f.places))) (sym n.aside) (All-nil (λ q. q < length (contents f.places)));
-            reads = each (λ r. r < f.bound) (contents (last.node).reads) (λ r c. small 0 (numbers m.params) r ((n.reads r).0 c));
+            reads = each (λ r. r < f.bound) (contents (last.node).reads) (λ r c. small 0 (numbers_of_registers m.params) r ((n.reads r).0 c));
             writes = each (λ r. r < f.bound) (contents (last.node).writes) (λ r c. small 0 [] r ((n.writes r).0 c));
           }
 
-      pub stale_formed : flows.WellFormed f
+      pub stale_formed : flows.IsFlowFormed f
       stale_formed = reaching.flow_formed m E N next_of aside_of f nodes old is formed bound fits_instr fits_end

@@ -1,7 +1,7 @@
 -- The numbers that code reads where they are both fresh and stale.
 use Rattle.std.specs.Prelude.{ℕ, suc, Bool, true, cond, ◌&&◌, nat_lt, List, [], ◌∷◌, length, slice_set}
 use Rattle.bs_bits.specs.Set.{has}
-use Rattle.dataflow.specs.Rows.{row}
+use Rattle.dataflow.specs.Rows.{set_in_row}
 use Rattle.mach_ir.specs.declared.reg.Reg.{Reg}
 use Rattle.mach_ir.specs.declared.mach.Instr.{Instr}
 
@@ -21,4 +21,4 @@ abbrev pub noted_code : List (List Bool) → List (List Bool) → ℕ → List I
     List Bool
 noted_code fresh stale p [] set = set
 noted_code fresh stale p (i ∷ is) set =
-    noted_code fresh stale (suc p) is (noted_reads (row fresh p) (row stale p) i.args set)
+    noted_code fresh stale (suc p) is (noted_reads (set_in_row fresh p) (set_in_row stale p) i.args set)

@@ -4,11 +4,11 @@ use Rattle.mach_ir.specs.declared.reg.Reg.{Reg}
 use Rattle.mach_ir.specs.declared.mach.Instr.{Instr}
 
 -- each at its number, if the table has it
-abbrev pub entered : List Reg → List (Option Reg) → List (Option Reg)
-entered [] t = t
-entered (r ∷ rs) t =
-    entered rs (cond (nat_lt r.number (length t)) (slice_set t r.number (Some r)) t)
+abbrev pub registers_entered : List Reg → List (Option Reg) → List (Option Reg)
+registers_entered [] t = t
+registers_entered (r ∷ rs) t =
+    registers_entered rs (cond (nat_lt r.number (length t)) (slice_set t r.number (Some r)) t)
 
 abbrev pub entered_code : List Instr → List (Option Reg) → List (Option Reg)
 entered_code [] t = t
-entered_code (i ∷ is) t = entered_code is (entered i.args t)
+entered_code (i ∷ is) t = entered_code is (registers_entered i.args t)

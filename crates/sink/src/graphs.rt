@@ -3,7 +3,7 @@ ghost use Rattle.std.specs.Prelude.{◌≡◌, ◌↔◌, ◌<◌, suc, length, 
 ghost use Rattle.std.specs.List.{Contains};
 ghost use Rattle.bs_words.specs.Contents.{contents};
 ghost use Rattle.mach_laws.specs.Graph.{IsFlowOf};
-ghost use Rattle.sink.specs.Graphs.{held, AreLiving, AreOver, IsEntry, IsStalePlace, AreStaleNodes, AreTurned, IsTurned};
+ghost use Rattle.sink.specs.Graphs.{destroys_colours, AreLiving, AreOver, IsSinkEntry, IsStalePlace, AreStaleNodes, AreTurned, IsTurned};
 
 use bs_words::List;
 use dataflow::{Flow, Place, bare_place, one_place};
@@ -14,7 +14,7 @@ use std::alloc::{AllocError, Global};
 /// Whether a register may live over it and is to be in a slot then: a call that returns, or the entry
 /// of a handler.
 pub fn is_held(op: &MachOp) -> bool
-    ensures { result ≡ held op.now }
+    ensures { result ≡ destroys_colours op.now }
 {
     match op {
         MachOp::Op(Op::Calling(Calling::Call { .. })) => true,
@@ -126,7 +126,7 @@ fn stale_place(
 /// to the first place. Nothing else passes it.
 fn entry_place(alloc: Global, mach: &Mach, live: &LiveMap) -> Result<Place, AllocError>
     requires { 0 < length live.now.before.rows.items }
-    ensures { IfOk result (IsEntry mach.now live.now.before.rows.items) }
+    ensures { IfOk result (IsSinkEntry mach.now live.now.before.rows.items) }
 {
     let first = one_place(alloc, 0)?;
     let params = numbers_of(alloc, mach.params.as_slice())?;

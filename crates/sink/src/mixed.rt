@@ -1,7 +1,7 @@
 //! The registers that some read may find both written since the last call and not.
 ghost use Rattle.std.specs.Prelude.{◌≡◌, false, replicate, IfOk};
 ghost use Rattle.bs_bits.specs.Set.{has};
-ghost use Rattle.dataflow.specs.Rows.{row};
+ghost use Rattle.dataflow.specs.Rows.{set_in_row};
 ghost use Rattle.sink.specs.Mixed.{noted_reads, noted_code};
 
 use bs_bits::Bits;
@@ -18,8 +18,8 @@ pub fn is_in(set: &Bits, number: u32) -> bool
 
 /// Takes in those of the registers that are both fresh and stale at the place.
 fn note_reads(mixed: &mut Bits, fresh: &Rows, stale: &Rows, place: usize, regs: &[Reg])
-    ensures { mixed.new ≡ noted_reads (row fresh.now.rows.items place)
-        (row stale.now.rows.items place) regs.now mixed.old }
+    ensures { mixed.new ≡ noted_reads (set_in_row fresh.now.rows.items place)
+        (set_in_row stale.now.rows.items place) regs.now mixed.old }
 {
     for reg in regs {
         let number = reg.number;

@@ -1,7 +1,7 @@
 //! The function with its moves.
 ghost use Rattle.std.specs.Prelude.{◌≡◌, ◌++◌, IfOk};
 ghost use Rattle.sink_rules.specs.Sunk.{to_itself};
-ghost use Rattle.sink.specs.Moves.{moves_before, instr_at, code_at};
+ghost use Rattle.sink.specs.Moves.{moves_before, instr_after_moves, sunk_code};
 
 use crate::chosen::Move;
 use crate::runs::begins_at;
@@ -39,7 +39,7 @@ fn push_instr(
     instr: Instr,
     made: &mut Backward<Instr>,
 ) -> Result<(), AllocError>
-    ensures { IfOk result (λ _. made.new ≡ instr_at moves.now begins place instr ++ made.old) }
+    ensures { IfOk result (λ _. made.new ≡ instr_after_moves moves.now begins place instr ++ made.old) }
 {
     made.push(instr)?;
     if begins {
@@ -51,7 +51,7 @@ fn push_instr(
 
 /// The code with its moves. The only error is want of memory.
 pub fn move_code(alloc: Global, moves: &[Move], code: Seq<Instr>) -> Result<Seq<Instr>, AllocError>
-    ensures { IfOk result (λ made. made ≡ code_at moves.now code code) }
+    ensures { IfOk result (λ made. made ≡ sunk_code moves.now code code) }
 {
     let mut items = code.into_vec();
     let mut made = Backward::with_capacity(alloc, items.len())?;

@@ -1,13 +1,13 @@
 //! The registers that code reads, by their numbers.
 ghost use Rattle.std.specs.Prelude.{◌≡◌, None, replicate, IfOk};
-ghost use Rattle.sink.specs.Registers.{entered, entered_code};
+ghost use Rattle.sink.specs.Registers.{registers_entered, entered_code};
 
 use mach_ir::{Instr, Reg};
 use std::alloc::{AllocError, Global};
 
 /// Enters registers at their numbers, where the table has these.
 fn enter(table: &mut Vec<Option<Reg>>, regs: &[Reg])
-    ensures { table.new.items ≡ entered regs.now table.old.items }
+    ensures { table.new.items ≡ registers_entered regs.now table.old.items }
 {
     for reg in regs {
         let index = reg.number as usize;

@@ -1,7 +1,7 @@
 //! Straight runs: where one begins, and whether it writes a register.
 ghost use Rattle.std.specs.Prelude.{◌≡◌, ◌≤◌, length};
 ghost use Rattle.mach_ir.specs.Placed.{is_straight};
-ghost use Rattle.sink.specs.Runs.{begins_at, is_among, run_start};
+ghost use Rattle.sink.specs.Runs.{straight_run_begins, is_among_registers, run_start};
 
 use mach_ir::{Instr, MachOp, Op, Reg};
 
@@ -27,7 +27,7 @@ fn is_straight(op: &MachOp) -> bool
 
 /// Whether no straight instruction is right before the place.
 pub fn begins_at(code: &[Instr], place: usize) -> bool
-    ensures { result ≡ begins_at code.now place }
+    ensures { result ≡ straight_run_begins code.now place }
 {
     if place == 0 {
         return true;
@@ -40,7 +40,7 @@ pub fn begins_at(code: &[Instr], place: usize) -> bool
 
 /// Whether a register of this number is one of these.
 fn is_among(number: u32, regs: &[Reg]) -> bool
-    ensures { result ≡ is_among number regs.now }
+    ensures { result ≡ is_among_registers number regs.now }
 {
     for reg in regs {
         if reg.number == number {

@@ -2,9 +2,9 @@
 ghost use Rattle.std.specs.Prelude.{◌≡◌, ◌<◌, length, replicate, IfOk};
 ghost use Rattle.std.specs.List.{All};
 ghost use Rattle.bs_words.specs.Contents.{contents};
-ghost use Rattle.dataflow.specs.Flow.{WellFormed};
-ghost use Rattle.dataflow.specs.Rows.{row};
-ghost use Rattle.sink.specs.Sights.{noted, noted_numbers, noted_places};
+ghost use Rattle.dataflow.specs.Flow.{IsFlowFormed};
+ghost use Rattle.dataflow.specs.Rows.{set_in_row};
+ghost use Rattle.sink.specs.Sights.{sighted, noted_numbers, noted_places};
 
 use dataflow::{Flow, Rows};
 use std::alloc::{AllocError, Global};
@@ -22,7 +22,7 @@ pub enum Sight {
 
 /// The number was seen before this place too.
 fn noted(place: usize, sight: Sight) -> Sight
-    ensures { result ≡ noted place sight }
+    ensures { result ≡ sighted place sight }
 {
     match sight {
         Sight::Unseen => Sight::Once(place),
@@ -41,8 +41,8 @@ fn noted(place: usize, sight: Sight) -> Sight
 fn note(sights: &mut Vec<Sight>, fresh: &Rows, place: usize, numbers: &[u32])
     requires { All (λ n. n < length sights.old.items) numbers.now }
     ensures len { length sights.new.items ≡ length sights.old.items }
-    ensures noted { sights.new.items
-        ≡ noted_numbers (row fresh.now.rows.items place) place numbers.now sights.old.items }
+    ensures sighted { sights.new.items
+        ≡ noted_numbers (set_in_row fresh.now.rows.items place) place numbers.now sights.old.items }
 {
     for number in numbers {
         if fresh.contains(place, *number) {
@@ -56,7 +56,7 @@ fn note(sights: &mut Vec<Sight>, fresh: &Rows, place: usize, numbers: &[u32])
 /// For each number, before which places it is fresh and lives over the instruction: those that the graph
 /// of what is fresh kills there. The only error is want of memory.
 pub fn sights(alloc: Global, fresh: &Rows, flow: &Flow) -> Result<Vec<Sight>, AllocError>
-    requires { WellFormed flow.now }
+    requires { IsFlowFormed flow.now }
     ensures { IfOk result (λ made. made.items
         ≡ noted_places fresh.now.rows.items 0 (contents flow.now.places)
         (replicate flow.now.bound Sight.Unseen)) }

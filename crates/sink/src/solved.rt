@@ -1,6 +1,6 @@
 //! What is fresh and what is stale before each place.
 ghost use Rattle.std.specs.Prelude.{IfOk};
-ghost use Rattle.dataflow.specs.Flow.{WellFormed};
+ghost use Rattle.dataflow.specs.Flow.{IsFlowFormed};
 ghost use Rattle.mach_ir.specs.Graph.{IsLiveMap};
 ghost use Rattle.mach_laws.specs.Graph.{IsFlowOf};
 ghost use Rattle.sink.specs.Tables.{IsSolved};
@@ -25,7 +25,7 @@ pub struct Solved {
 /// The only error is want of memory.
 pub fn solve(alloc: Global, mach: &Mach, live: &LiveMap, flow: Flow) -> Result<Solved, AllocError>
     requires flow { IsFlowOf mach.now flow }
-    requires formed { WellFormed flow }
+    requires formed { IsFlowFormed flow }
     requires live { IsLiveMap mach.now live.now }
     ensures { IfOk result (IsSolved mach.now live.now flow.bound) }
 {

@@ -3,8 +3,8 @@ use Rattle.std.proofs.Common.{◌≡◌, ℕ, suc, ◌<◌, true, cond, ⊎_elim
 use Rattle.std.specs.List.{AllPairs, Contains}
 use Rattle.mach_ir.specs.Acts.{Target, has_descriptor}
 use Rattle.mach_ir.specs.Formed.{WellFormed, AreDistinct}
-use Rattle.mach_ir.specs.Meaning.{Nothing, Temporaries, Everything, destroyed, destroyed_by, passes_frame}
-use Rattle.mach_ir.specs.Walks.{OneOf, targets, goes, raises, Reached, at_entry, by_step, by_raise, Live, on, LiveAcross, across_step, Stands, here, below, NoAddrLive}
+use Rattle.mach_ir.specs.Meaning.{Nothing, Temporaries, Everything, destroyed_by_operation, destroyed_by, passes_frame}
+use Rattle.mach_ir.specs.Walks.{OneOf, targets, goes, raises, Reached, at_entry, by_step, by_raise, Live, on, LiveAcross, across_step, StandsAsInstr, here, below, NoAddrLive}
 use Rattle.mach_ir.specs.declared.op.Calling.TheVariants as calling
 use Rattle.mach_ir.specs.declared.op.Op.{Op}
 use Rattle.mach_ir.specs.declared.op.Op.TheVariants as op
@@ -18,8 +18,8 @@ use Rattle.mach_laws.proofs.Walking.{ending_at}
 use Rattle.spill_rules.specs.Chosen.{LivesOver, lives}
 use Rattle.spill_rules.proofs.Chosen.{same_answer}
 use Rattle.bs_words.proofs.Lists.{none_in, first_in, later_in, in_cons, tail_same}
-use Rattle.sink_rules.specs.Chosen.{IsRunTo, IsSunkAt, IsSunkSomewhere, IsChosen, IsSunk}
-use Rattle.sink_rules.specs.Sunk.{Plan, to_itself, moves_of, sunk_instr, IsPlan, IsKept}
+use Rattle.sink_rules.specs.Chosen.{IsRunTo, IsSunkAt, IsSunkSomewhere, IsSinkChoice, IsSunk}
+use Rattle.sink_rules.specs.Sunk.{SinkPlan, to_itself, planned_moves, sunk_instr, IsSinkPlan, IsSinkKept}
 use Rattle.sink_rules.proofs.Runs.{stale_at_call, reached_at_call, live_from_call, run_operation, begins_once}
 use Rattle.sink_rules.proofs.Whole.{sunk_kept}
 
@@ -32,7 +32,7 @@ not_temporaries : Temporaries ≡ Everything → ⊥
 not_temporaries e = cc
 
 -- what destroys everything and goes on is a frame point
-frame_of : (f : Op) → destroyed f ≡ Everything → (t : Target) → OneOf t (targets (mach.Op f)) → has_descriptor f ≡ true
+frame_of : (f : Op) → destroyed_by_operation f ≡ Everything → (t : Target) → OneOf t (targets (mach.Op f)) → has_descriptor f ≡ true
 frame_of (op.Calling (calling.Call whom result)) e t o = refl
 frame_of (op.Calling (calling.TailCall whom result)) e t o = elim o [ ]
 frame_of (op.Calling (calling.External row frame)) e t o = absurd (not_temporaries e)
@@ -63,15 +63,15 @@ module _ (m : Mach) where
       ap passes_frame e
       ∙ frame_of f (sym (ap destroyed_by e) ∙ d) t (subst (λ g. OneOf t (targets g)) e o)
 
-module _ (m : Mach) (plan : Plan) (calm : NoAddrLive m) (chosen : IsChosen m plan) where
-  sunk_at : (i : Instr) (next : List Instr) (r : Reg) → Stands i next m.code → Contains plan.registers r →
+module _ (m : Mach) (plan : SinkPlan) (calm : NoAddrLive m) (chosen : IsSinkChoice m plan) where
+  sunk_at : (i : Instr) (next : List Instr) (r : Reg) → StandsAsInstr i next m.code → Contains plan.registers r →
       plan.moves (length next) r.number ≡ true → IsSunkAt m i next r
   sunk_at i next r s c t = (chosen.moves i next r s c).0 t
 
   somewhere : (r : Reg) → Contains plan.registers r → IsSunkSomewhere m r
   somewhere r c = (chosen.registers r).0 c
 
-  pub chosen_plan : IsPlan m plan
+  pub chosen_plan : IsSinkPlan m plan
   chosen_plan =
       record {
         registers = λ r c. ((somewhere r c).sunk_at).register;
@@ -91,12 +91,12 @@ module _ (m : Mach) (plan : Plan) (calm : NoAddrLive m) (chosen : IsChosen m pla
             tail_same (begins_once m r.number (ending_of t) (ending_of s) one w.run);
       }
 
-pub a_plan : (m : Mach) (plan : Plan) → WellFormed m → NoAddrLive m → IsChosen m plan → IsPlan m plan
+pub a_plan : (m : Mach) (plan : SinkPlan) → WellFormed m → NoAddrLive m → IsSinkChoice m plan → IsSinkPlan m plan
 a_plan m plan formed calm chosen = chosen_plan m plan calm chosen
 
-pub kept : (m q : Mach) → WellFormed m → NoAddrLive m → (s : IsSunk m q) → IsKept m q s.plan
+pub kept : (m q : Mach) → WellFormed m → NoAddrLive m → (s : IsSunk m q) → IsSinkKept m q s.plan
 kept m q formed calm s =
-    subst (λ q. IsKept m q s.plan) (sym s.is) (sunk_kept m s.plan formed (chosen_plan m s.plan calm s.chosen))
+    subst (λ q. IsSinkKept m q s.plan) (sym s.is) (sunk_kept m s.plan formed (chosen_plan m s.plan calm s.chosen))
 
 -- ---- one list
 
@@ -148,23 +148,23 @@ same_list (x ∷ xs) (y ∷ ys) a b to back =
 
 -- ---- one code
 
-module _ (p q : Plan) where
+module _ (p q : SinkPlan) where
   abbrev MoveAlike : ℕ → List Reg → Type 0
   MoveAlike k rs = (r : Reg) → Contains rs r → p.moves k r.number ≡ q.moves k r.number
 
-  moves_same : (k : ℕ) (rs : List Reg) → MoveAlike k rs → moves_of p k rs ≡ moves_of q k rs
+  moves_same : (k : ℕ) (rs : List Reg) → MoveAlike k rs → planned_moves p k rs ≡ planned_moves q k rs
   moves_same k [] h = refl
   moves_same k (r ∷ rs) h =
-      ap (λ b. cond b (to_itself r ∷ moves_of p k rs) (moves_of p k rs)) (h r (first_in r rs))
+      ap (λ b. cond b (to_itself r ∷ planned_moves p k rs) (planned_moves p k rs)) (h r (first_in r rs))
       ∙ ap (λ xs. cond (q.moves k r.number) (to_itself r ∷ xs) xs) (moves_same k rs (λ z c. h z (later_in r z rs c)))
 
   code_same : p.registers ≡ q.registers → (code : List Instr) →
-      ((i : Instr) (next : List Instr) → Stands i next code → MoveAlike (length next) p.registers) →
+      ((i : Instr) (next : List Instr) → StandsAsInstr i next code → MoveAlike (length next) p.registers) →
       expand (sunk_instr p) code ≡ expand (sunk_instr q) code
   code_same same [] h = refl
   code_same same (i ∷ is) h =
       ap (λ xs. (xs ++ i ∷ []) ++ expand (sunk_instr p) is)
-      (moves_same (length is) p.registers (h i is here) ∙ ap (moves_of q (length is)) same)
+      (moves_same (length is) p.registers (h i is here) ∙ ap (planned_moves q (length is)) same)
       ∙ ap (λ xs. sunk_instr q (length is) i ++ xs) (code_same same is (λ j next s. h j next (below s)))
 
 -- One function is made of each.
@@ -177,10 +177,10 @@ one_sunk m q k s t =
     (b.moves i next r stands (to r c))))
     ∙ sym t.is
   where
-    a : IsChosen m s.plan
+    a : IsSinkChoice m s.plan
     a = s.chosen
 
-    b : IsChosen m t.plan
+    b : IsSinkChoice m t.plan
     b = t.chosen
 
     to : (r : Reg) → Contains (s.plan).registers r → Contains (t.plan).registers r

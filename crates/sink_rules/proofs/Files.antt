@@ -9,8 +9,8 @@ use Rattle.bs_words.specs.declared.types.Comp.TheVariants as comp
 use Rattle.bs_words.specs.declared.types.Loc.TheVariants as loc
 use Rattle.bs_words.proofs.Lists.{none_in, in_cons}
 use Rattle.mach_ir.specs.Formed.{WellFormed}
-use Rattle.mach_ir.specs.Meaning.{Held, File, put, is_addr, past_frame, unless_addr, Destroyed, Nothing, Temporaries, Everything, destroyed_by, is_destroyed, is_at_one_of, killed_among, killed_by, killed}
-use Rattle.mach_ir.specs.Walks.{Among, IsRegister, is_colour}
+use Rattle.mach_ir.specs.Meaning.{Held, File, assign_register, is_addr, past_frame, unless_addr, Destroyed, Nothing, Temporaries, Everything, destroyed_by, is_destroyed, is_at_one_of, killed_among, killed_by, killed}
+use Rattle.mach_ir.specs.Walks.{AmongRegisters, IsRegister, is_colour}
 use Rattle.mach_ir.specs.declared.reg.Reg.{Reg}
 use Rattle.mach_ir.specs.declared.mach.Instr.{Instr}
 use Rattle.mach_ir.specs.declared.mach.Mach.{Mach}
@@ -22,13 +22,13 @@ use Rattle.mach_laws.proofs.Files.{put_other}
 -- ---- a register that is put back
 
 -- a file in which a register is written with what it holds is that file
-pub put_back : (r : Reg) (h : Held) (a : File) → a r.number ≡ Some h → h.comp ≡ r.comp → put r h.value a ≡ a
+pub put_back : (r : Reg) (h : Held) (a : File) → a r.number ≡ Some h → h.comp ≡ r.comp → assign_register r h.value a ≡ a
 put_back r h a e c = fun_ext (λ n. by n (cases_Bool (nat_eq r.number n)))
   where
     as_put : a r.number ≡ Some (record { comp = r.comp; value = h.value })
     as_put = e ∙ ap (λ t. Some (record { comp = t; value = h.value })) c
 
-    by : (n : ℕ) → (nat_eq r.number n ≡ true) ⊎ (nat_eq r.number n ≡ false) → put r h.value a n ≡ a n
+    by : (n : ℕ) → (nat_eq r.number n ≡ true) ⊎ (nat_eq r.number n ≡ false) → assign_register r h.value a n ≡ a n
     by n (inl t) = let s = eqb-true r.number n t in put_here r h.value a n s ∙ sym as_put ∙ ap a s
     by n (inr t) = put_other r h.value a n (λ s. both_ways (nat_eq r.number n) t (eq-eqb r.number n s))
 
@@ -59,7 +59,7 @@ fixed_by cs Temporaries rs r c e = fixed_among cs Temporaries rs r c e
 fixed_by cs Everything rs r c e = fixed_among cs Everything rs r c e
 
 -- an open register is not destroyed
-pub open_kept : (m : Mach) → WellFormed m → (i : Instr) (r : Reg) → IsRegister m r → r.loc ≡ loc.Unset → Among r.number (killed m i) → ⊥
+pub open_kept : (m : Mach) → WellFormed m → (i : Instr) (r : Reg) → IsRegister m r → r.loc ≡ loc.Unset → AmongRegisters r.number (killed m i) → ⊥
 open_kept m formed i r one e a =
     let k = number_among (killed m i) a in
     let same : k.0 ≡ r = formed.numbers k.0 r (is_colour (killed_is_colour m i k.0 k.1)) one k.2 in

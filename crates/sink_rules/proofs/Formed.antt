@@ -4,12 +4,12 @@ use Rattle.std.proofs.lemmas.List.Elements.{All-contains}
 use Rattle.std.specs.List.{All, Contains}
 use Rattle.bs_words.specs.declared.types.Loc.TheVariants as loc
 use Rattle.mach_ir.specs.Forms as form
-use Rattle.mach_ir.specs.Formed.{IsFormed, formed_op, AreDistinct, WellFormed}
+use Rattle.mach_ir.specs.Formed.{IsFormedInstruction, formed_op, AreDistinct, WellFormed}
 use Rattle.mach_ir.specs.Keeps.{Keeps, NamesSymbol, NamesExternal, IsNamedIn}
 use Rattle.mach_ir.specs.Meaning.{tries_at, tries_past}
 use Rattle.mach_ir.specs.Placed.{is_straight, WellPlaced}
 use Rattle.mach_ir.specs.Seats.{AreSeated, anywhere, places_of, mach_operand_seats, mach_result_seats, Seated}
-use Rattle.mach_ir.specs.Walks.{IsRegister, Stands}
+use Rattle.mach_ir.specs.Walks.{IsRegister, StandsAsInstr}
 use Rattle.mach_ir.specs.declared.mach.MachOp.{MachOp}
 use Rattle.mach_ir.specs.declared.reg.Reg.{Reg}
 use Rattle.mach_ir.specs.declared.mach.Instr.{Instr}
@@ -18,12 +18,12 @@ use Rattle.spill_rules.proofs.Formed.{one_distinct}
 use Rattle.mach_laws.proofs.Places.{contains_of, stands_in}
 use Rattle.pass_rules.proofs.Formed.{all_in, ComesFrom, is_new, stood, KeepsPlaces}
 use Rattle.pass_rules.proofs.Formed as places
-use Rattle.sink_rules.specs.Sunk.{Plan, to_itself, IsPlan}
+use Rattle.sink_rules.specs.Sunk.{SinkPlan, to_itself, IsSinkPlan}
 use Rattle.sink_rules.proofs.Kept.{does_sunk}
 use Rattle.sink_rules.proofs.Live.{laid_label, laid_handler, MovedNumber, moved_number, joined_back, no_addr_back}
 use Rattle.sink_rules.proofs.Text as text
 
-module _ (m : Mach) (plan : Plan) (formed : WellFormed m) (is : IsPlan m plan) where
+module _ (m : Mach) (plan : SinkPlan) (formed : WellFormed m) (is : IsSinkPlan m plan) where
   abbrev q : Mach
   q = text.laid m plan is
 
@@ -33,7 +33,7 @@ module _ (m : Mach) (plan : Plan) (formed : WellFormed m) (is : IsPlan m plan) w
   abbrev Whence : Instr → List Instr → Type 0
   Whence = text.Whence m plan is
 
-  whence : {i : Instr} {zs : List Instr} → Stands i zs q.code → Whence i zs
+  whence : {i : Instr} {zs : List Instr} → StandsAsInstr i zs q.code → Whence i zs
   whence s = text.whence m plan is s
 
   was : (r : Reg) → IsRegister q r → IsRegister m r
@@ -84,7 +84,7 @@ module _ (m : Mach) (plan : Plan) (formed : WellFormed m) (is : IsPlan m plan) w
   pub still_formed : WellFormed q
   still_formed =
       places.still_formed m q.code formed keeps_places
-      (each_in IsFormed (λ r k. formed_op form.copies) (λ i c. All-contains IsFormed m.code i formed.instrs c))
+      (each_in IsFormedInstruction (λ r k. formed_op form.copies) (λ i c. All-contains IsFormedInstruction m.code i formed.instrs c))
       (each_in (λ (i : Instr). AreDistinct i.results) (λ r k. one_distinct r)
       (λ i c. All-contains (λ (i : Instr). AreDistinct i.results) m.code i formed.distinct c))
 

@@ -11,10 +11,10 @@ use Rattle.bs_words.specs.declared.values.Value.{Value}
 use Rattle.bs_words.proofs.Lists.{first_in, later_in, head_same, tail_same, none_there}
 use Rattle.mach_ir.specs.Acts.{Around, Target, On, At, Landing, AtLabel, AtHandler}
 use Rattle.mach_ir.specs.Formed.{WellFormed}
-use Rattle.mach_ir.specs.Runs.{Place, Continues, entered}
-use Rattle.mach_ir.specs.Meaning.{Held, File, put_if, put_all, clear, killed, written, with_held, values, past_frame, passes_frame, after_label, from_handler, at_handler, code_at, tries_at, tries_past, landing_code, wrote, on_values, step}
-use Rattle.mach_ir.specs.Walks.{Among, OneOf, targets, may_raise, goes, raises, Reached, at_entry, by_step, by_raise, Live, LiveAcross, IsRegister, is_in_code}
-use Rattle.mach_ir.specs.Keeps.{ValsWritten, OriginsAgree, wrote_unless, Does}
+use Rattle.mach_ir.specs.Runs.{ActivationSetting, Continues, entry_around}
+use Rattle.mach_ir.specs.Meaning.{Held, File, put_if, put_all, clear_registers, killed, registers_written, with_held, values, past_frame, passes_frame, after_label, from_handler, at_handler, code_at, tries_at, tries_past, landing_code, wrote, on_values, step}
+use Rattle.mach_ir.specs.Walks.{AmongRegisters, OneOf, targets, may_raise, goes, raises, Reached, at_entry, by_step, by_raise, Live, LiveAcross, IsRegister, is_in_code}
+use Rattle.mach_ir.specs.Keeps.{ValsWritten, OriginsAgree, wrote_unless, MachSimulation}
 use Rattle.mach_ir.specs.declared.reg.Reg.{Reg}
 use Rattle.mach_ir.specs.declared.mach.MachOp.{MachOp}
 use Rattle.mach_ir.specs.declared.mach.MachOp.TheVariants as mach
@@ -31,7 +31,7 @@ use Rattle.mach_laws.proofs.Among.{split_among, among_or_not}
 use Rattle.mach_laws.proofs.Raised.{IsSilent, label_silent, try_silent, told}
 use Rattle.places_rules.proofs.Files.{not_cleared, put_both}
 use Rattle.spill_rules.proofs.Holding.{FitsIn, put_fits, put_holds, clear_fits, frame_fits, fit_at_entry, agree_at_entry}
-use Rattle.sink_rules.specs.Sunk.{Plan, to_itself, moves_of, IsPlan}
+use Rattle.sink_rules.specs.Sunk.{SinkPlan, to_itself, planned_moves, IsSinkPlan}
 use Rattle.sink_rules.specs.Walks as walks
 use Rattle.sink_rules.specs.Walks.{Stale}
 use Rattle.sink_rules.proofs.Files.{put_back, open_kept, lost_nothing}
@@ -42,7 +42,7 @@ use Rattle.sink_rules.proofs.Text.{before, laid_instr, keeps_marks, of_one}
 some_none : {A : Type 0} {x : A} (o : Option A) → o ≡ Some x → o ≡ None → ⊥
 some_none o e h = none-some _ (sym h ∙ e)
 
-module _ (m : Mach) (plan : Plan) (formed : WellFormed m) (is : IsPlan m plan) where
+module _ (m : Mach) (plan : SinkPlan) (formed : WellFormed m) (is : IsSinkPlan m plan) where
   abbrev q : Mach
   q = text.laid m plan is
 
@@ -66,7 +66,7 @@ module _ (m : Mach) (plan : Plan) (formed : WellFormed m) (is : IsPlan m plan) w
             known.agree r k (was r i) (was k j) origin (there r l) (there k e) x z g h;
       }
     where
-      there : (r : Reg) → Live q r.number ys ⊎ Among r.number ws → Live m r.number rest ⊎ Among r.number ws
+      there : (r : Reg) → Live q r.number ys ⊎ AmongRegisters r.number ws → Live m r.number rest ⊎ AmongRegisters r.number ws
       there r l = ⊎_elim (λ v. inl (live_back m plan is v rest laid)) inr l
 
   -- ---- where it goes
@@ -83,7 +83,7 @@ module _ (m : Mach) (plan : Plan) (formed : WellFormed m) (is : IsPlan m plan) w
       (sym (ap (tries_past i.op) (text.laid_tries m plan is (text.laid_of m plan is next e))))
       (laid_at_handler (tries_at (i ∷ next)))
 
-  module _ (c : Place) where
+  module _ (c : ActivationSetting) where
     abbrev limit : ℕ
     limit = c.setting.end
 
@@ -117,7 +117,7 @@ module _ (m : Mach) (plan : Plan) (formed : WellFormed m) (is : IsPlan m plan) w
           agree = λ r k i j origin l e x u g h. known.agree r k i j origin (live r l) (live k e) x u g h;
         }
       where
-        live : (r : Reg) → Live m r.number rest ⊎ Among r.number [] → Live m r.number rest ⊎ Among r.number (wrote_unless y.raised ws)
+        live : (r : Reg) → Live m r.number rest ⊎ AmongRegisters r.number [] → Live m r.number rest ⊎ AmongRegisters r.number (wrote_unless y.raised ws)
         live r (inl v) = inl v
         live r (inr a) = elim a [ ]
 
@@ -159,44 +159,44 @@ module _ (m : Mach) (plan : Plan) (formed : WellFormed m) (is : IsPlan m plan) w
               (known.stale r (is.registers r k.among) (is.open_places r k.among)
               (is.no_addr i next r known.reached k.among k.told) e))
 
-      wrote_one : (o : Option Value) (r : Reg) (n : ℕ) → Among n (wrote_unless o (r ∷ [])) → r.number ≡ n
+      wrote_one : (o : Option Value) (r : Reg) (n : ℕ) → AmongRegisters n (wrote_unless o (r ∷ [])) → r.number ≡ n
       wrote_one None r n a = of_one a
       wrote_one (Some v) r n a = elim a [ ]
 
       agrees_moved : (i : Instr) (next ys : List Instr) (a : File) (y : Around) → Ending (i ∷ next) m.code → Known (i ∷ next) a →
-          (r : Reg) → text.IsMoved m plan is r next → Laid (i ∷ next) ys → Agrees q (written q (to_itself r)) (at ys a y)
+          (r : Reg) → text.IsMoved m plan is r next → Laid (i ∷ next) ys → Agrees q (registers_written q (to_itself r)) (at ys a y)
       agrees_moved i next ys a y ending known r k laid =
           record {
             agree = λ x z u w origin l e g h s t.
                 (known.agree y).agree x z (was x u) (was z w) origin (inl (live x l)) (inl (live z e)) g h s t;
           }
         where
-          live : (x : Reg) → Live q x.number ys ⊎ Among x.number (wrote_unless y.raised (r ∷ [])) → Live m x.number (i ∷ next)
+          live : (x : Reg) → Live q x.number ys ⊎ AmongRegisters x.number (wrote_unless y.raised (r ∷ [])) → Live m x.number (i ∷ next)
           live x (inl v) = live_back m plan is v (i ∷ next) laid
           live x (inr a) =
               subst (λ n. Live m n (i ∷ next)) (wrote_one y.raised r x.number a) (moved_live m plan is r ending k)
 
       passed_moves : (i : Instr) (next ys : List Instr) (a : File) (y : Around) → Ending (i ∷ next) m.code → Known (i ∷ next) a →
           Laid (i ∷ next) ys → (rs : List Reg) → ((r : Reg) → Contains rs r → Contains plan.registers r) →
-          Passes y (moves_of plan (length next) rs) ys a a
+          Passes y (planned_moves plan (length next) rs) ys a a
       passed_moves i next ys a y ending known laid [] there = general.passed
       passed_moves i next ys a y ending known laid (r ∷ rs) there =
           by (plan.moves (length next) r.number) refl
           (passed_moves i next ys a y ending known laid rs (λ k c. there k (later_in r k rs c)))
         where
-          by : (b : Bool) → plan.moves (length next) r.number ≡ b → Passes y (moves_of plan (length next) rs) ys a a →
-              Passes y (cond b (to_itself r ∷ moves_of plan (length next) rs) (moves_of plan (length next) rs)) ys a a
+          by : (b : Bool) → plan.moves (length next) r.number ≡ b → Passes y (planned_moves plan (length next) rs) ys a a →
+              Passes y (cond b (to_itself r ∷ planned_moves plan (length next) rs) (planned_moves plan (length next) rs)) ys a a
           by false t more = more
           by true t more =
               let k : text.IsMoved m plan is r next = record { among = there r (first_in r rs); told = t } in
               let h = moved_holds i next a ending known r k in
               let fit = known.fit r (is.registers r k.among) h.0 h.1 in
               general.passes
-              (move_step r (moves_of plan (length next) rs ++ ys) a y h.0 h.1
+              (move_step r (planned_moves plan (length next) rs ++ ys) a y h.0 h.1
               (subst (λ t. fits limit (type_of_comp t) (h.0).value ≡ true) fit.0 fit.1) fit.0)
-              (no_frame r (moves_of plan (length next) rs ++ ys) a y)
+              (no_frame r (planned_moves plan (length next) rs ++ ys) a y)
               (λ u.
-              agrees_moved i next (moves_of plan (length next) rs ++ ys) a y ending known r k
+              agrees_moved i next (planned_moves plan (length next) rs ++ ys) a y ending known r k
               (text.laid_moves m plan is i next ending rs (λ k c. there k (later_in r k rs c)) ys laid))
               more
 
@@ -221,9 +221,9 @@ module _ (m : Mach) (plan : Plan) (formed : WellFormed m) (is : IsPlan m plan) w
         one_number : (r : Reg) → IsRegister m r → (k : Reg) → Contains i.results k → k.number ≡ r.number → k ≡ r
         one_number r j k z e = formed.numbers k r (is_in_code (results_in (stands_of ending) z)) j e
 
-        fit_after : (vs : List Value) (d : File) → put_all limit i.results vs (clear (killed m i) a') ≡ Some d → IsFit d
+        fit_after : (vs : List Value) (d : File) → put_all limit i.results vs (clear_registers (killed m i) a') ≡ Some d → IsFit d
         fit_after vs d e r j =
-            put_fits limit i.results vs (clear (killed m i) a') d e r (one_number r j)
+            put_fits limit i.results vs (clear_registers (killed m i) a') d e r (one_number r j)
             (clear_fits limit (killed m i) a' r (fit_still r j))
 
         -- what holds nothing after a frame point held nothing before it
@@ -233,46 +233,46 @@ module _ (m : Mach) (plan : Plan) (formed : WellFormed m) (is : IsPlan m plan) w
             known.stale r j u apart
             (lost_nothing (passes_frame i.op) a r (λ h s. (known.fit r j h s).0) apart e)
 
-        stale_after : (vs : List Value) (d : File) → put_all limit i.results vs (clear (killed m i) a') ≡ Some d → (t : Target) →
+        stale_after : (vs : List Value) (d : File) → put_all limit i.results vs (clear_registers (killed m i) a') ≡ Some d → (t : Target) →
             OneOf t (targets i.op) → IsStale (code_at m.code next t) d
         stale_after vs d e t o r j u apart none =
-            ⊎_elim (λ z. let h = put_holds limit i.results vs (clear (killed m i) a') d e r.number z in absurd (some_none (d r.number) h.1 none))
+            ⊎_elim (λ z. let h = put_holds limit i.results vs (clear_registers (killed m i) a') d e r.number z in absurd (some_none (d r.number) h.1 none))
             (λ free.
-            let p = put_both limit i.results vs (clear (killed m i) a') a' d e in
-            let kept = λ (z : Among r.number (killed m i)). open_kept m formed i r j u z in
+            let p = put_both limit i.results vs (clear_registers (killed m i) a') a' d e in
+            let kept = λ (z : AmongRegisters r.number (killed m i)). open_kept m formed i r j u z in
             walks.on
             (stale_still r j u apart
             (sym (not_cleared (killed m i) a' r.number kept) ∙ sym (p.others r.number free) ∙ none))
             (λ w. ⊎_elim free kept (split_among r.number i.results (killed m i) w)) (goes t o))
             (among_or_not r.number i.results)
 
-        known_after : (vs : List Value) (d : File) → put_all limit i.results vs (clear (killed m i) a') ≡ Some d → (y : Around) (t : Target) →
-            OneOf t (targets i.op) → Agrees m (written m i) (at (code_at m.code next t) d y) → Known (code_at m.code next t) d
+        known_after : (vs : List Value) (d : File) → put_all limit i.results vs (clear_registers (killed m i) a') ≡ Some d → (y : Around) (t : Target) →
+            OneOf t (targets i.op) → Agrees m (registers_written m i) (at (code_at m.code next t) d y) → Known (code_at m.code next t) d
         known_after vs d e y t o agreed =
             record {
               reached = by_step known.reached (goes t o);
               fit = fit_after vs d e;
               stale = stale_after vs d e t o;
-              agree = agree_live (code_at m.code next t) (written m i) d y agreed;
+              agree = agree_live (code_at m.code next t) (registers_written m i) d y agreed;
             }
 
-        past_to : (vs : List Value) (d : File) → put_all limit i.results vs (clear (killed m i) a') ≡ Some d → (y : Around) (t : Target) →
+        past_to : (vs : List Value) (d : File) → put_all limit i.results vs (clear_registers (killed m i) a') ≡ Some d → (y : Around) (t : Target) →
             OneOf t (targets i.op) → general.Past c m q f (keeps_marks plan) refl Suit Round i i next [] y y d d t
         past_to vs d e y On o =
-            general.on (λ agreed. agrees_by next (expand f next) laid_next (wrote_unless y.raised (written m i)) d y agreed) general.passed
+            general.on (λ agreed. agrees_by next (expand f next) laid_next (wrote_unless y.raised (registers_written m i)) d y agreed) general.passed
             (λ agreed. (refl, holds_by next d (known_after vs d e y On o agreed)))
         past_to vs d e y (At l) o =
             general.elsewhere refl
             (λ agreed. (
               (refl, holds_by (after_label l m.code) d (known_after vs d e y (At l) o agreed)),
-              agrees_by (after_label l m.code) (after_label l q.code) (laid_label m plan is l) (wrote_unless y.raised (written m i)) d y
+              agrees_by (after_label l m.code) (after_label l q.code) (laid_label m plan is l) (wrote_unless y.raised (registers_written m i)) d y
                   agreed,
             ))
 
         -- ---- where it lands
 
         known_at_handler : may_raise i.op ≡ true → (y : Around) → (tries : List ℕ) → tries_at (i ∷ next) ≡ tries →
-            Agrees m (written m i) (at (at_handler m.code tries) a' y) → Holds (at_handler m.code tries) a' a'
+            Agrees m (registers_written m i) (at (at_handler m.code tries) a' y) → Holds (at_handler m.code tries) a' a'
         known_at_handler b y [] e agreed = record { same = refl; known = λ j ys h. absurd (none_there h) }
         known_at_handler b y (l ∷ tries) e agreed =
             holds_by (from_handler l m.code) a'
@@ -280,21 +280,21 @@ module _ (m : Mach) (plan : Plan) (formed : WellFormed m) (is : IsPlan m plan) w
               reached = by_raise known.reached (raises b e);
               fit = fit_still;
               stale = λ r j u apart none. walks.aside (stale_still r j u apart none) (raises b e);
-              agree = agree_live (from_handler l m.code) (written m i) a' y agreed;
+              agree = agree_live (from_handler l m.code) (registers_written m i) a' y agreed;
             })
 
         silent_known : IsSilent m i → (y : Around) (t : Target) → OneOf t (targets i.op) →
-            Agrees m (written m i) (at (code_at m.code next t) a' y) → Known (code_at m.code next t) a'
+            Agrees m (registers_written m i) (at (code_at m.code next t) a' y) → Known (code_at m.code next t) a'
         silent_known silent y t o agreed =
             record {
               reached = by_step known.reached (goes t o);
               fit = fit_still;
               stale = λ r j u apart none.
                   walks.on (stale_still r j u apart none) (λ w. silent r.number w) (goes t o);
-              agree = agree_live (code_at m.code next t) (written m i) a' y agreed;
+              agree = agree_live (code_at m.code next t) (registers_written m i) a' y agreed;
             }
 
-        landed : (to : Landing) → MayLand i.op to → (y : Around) → Agrees m (written m i) (at (landing_code m.code (i ∷ next) to) a' y) →
+        landed : (to : Landing) → MayLand i.op to → (y : Around) → Agrees m (registers_written m i) (at (landing_code m.code (i ∷ next) to) a' y) →
             Holds (landing_code m.code (i ∷ next) to) a' a'
         landed (AtLabel l) (lands_at_label o) y agreed =
             holds_by (after_label l m.code) a' (silent_known (label_silent m (form_of formed ending) l o) y (At l) o agreed)
@@ -305,7 +305,7 @@ module _ (m : Mach) (plan : Plan) (formed : WellFormed m) (is : IsPlan m plan) w
         lands y to may agreed = (
           (refl, landed to may y agreed),
           agrees_by (landing_code m.code (i ∷ next) to) (landing_code q.code (i ∷ expand f next) to)
-              (laid_landing i next to (ending_next ending)) (wrote_unless y.raised (written m i)) a' y agreed,
+              (laid_landing i next to (ending_next ending)) (wrote_unless y.raised (registers_written m i)) a' y agreed,
         )
 
         same_operation : level.SameOperation c m q f (keeps_marks plan) refl Suit Holds (IsSilent m i) i i next [] a' a'
@@ -318,7 +318,7 @@ module _ (m : Mach) (plan : Plan) (formed : WellFormed m) (is : IsPlan m plan) w
                 refl,
                 λ y agreed. (
                   (refl, holds_by next a' (silent_known (try_silent m (form_of formed ending) t) y On (try_on i.op t) agreed)),
-                  agrees_by next (expand f next) laid_next (wrote_unless y.raised (written m i)) a' y agreed,
+                  agrees_by next (expand f next) laid_next (wrote_unless y.raised (registers_written m i)) a' y agreed,
                 ),
               );
             }
@@ -390,8 +390,8 @@ module _ (m : Mach) (plan : Plan) (formed : WellFormed m) (is : IsPlan m plan) w
         })
 
   -- The function with its moves does what it did.
-  pub does_sunk : Does m q
+  pub does_sunk : MachSimulation m q
   does_sunk = λ c.
       level.begins_at c m q refl
       (λ arguments memory a t n e proper.
-      level.follows_from c m q f (keeps_marks plan) refl (Holds c) (serves c) a a (entered memory) (at_start c arguments a e) n t proper)
+      level.follows_from c m q f (keeps_marks plan) refl (Holds c) (serves c) a a (entry_around memory) (at_start c arguments a e) n t proper)

@@ -5,19 +5,19 @@ use Rattle.std.specs.List.{Contains}
 use Rattle.std.proofs.lemmas.Bool.{both_ways}
 use Rattle.bs_words.specs.declared.types.Comp.TheVariants as comp
 use Rattle.mach_ir.specs.Acts.{Target, On, At}
-use Rattle.mach_ir.specs.Meaning.{after_label, from_handler, code_at, passes_frame, tries_at, tries_past, written}
-use Rattle.mach_ir.specs.Walks.{Among, OneOf, targets, may_raise, goes, raises, Reached, at_entry, by_step, by_raise, Live, read, on, aside, LiveAfter, after_step, LiveAcross, across_step, across_raise, IsRegister, NoAddrLive, Meets, at_write, at_params, Joined, one_way, other_way}
+use Rattle.mach_ir.specs.Meaning.{after_label, from_handler, code_at, passes_frame, tries_at, tries_past, registers_written}
+use Rattle.mach_ir.specs.Walks.{AmongRegisters, OneOf, targets, may_raise, goes, raises, Reached, at_entry, by_step, by_raise, Live, read, on, aside, LiveAfter, after_step, LiveAcross, across_step, across_raise, IsRegister, NoAddrLive, Meets, at_write, at_params, Joined, one_way, other_way}
 use Rattle.mach_ir.specs.declared.reg.Reg.{Reg}
 use Rattle.mach_ir.specs.declared.mach.Instr.{Instr}
 use Rattle.mach_ir.specs.declared.mach.Mach.{Mach}
 use Rattle.mach_laws.specs.Expand.{expand, Ending}
 use Rattle.mach_laws.proofs.Places.{label_expand, handler_expand, ending_label, ending_from_handler, stands_of}
 use Rattle.mach_laws.proofs.Walking.{only_on}
-use Rattle.sink_rules.specs.Sunk.{Plan, IsPlan}
+use Rattle.sink_rules.specs.Sunk.{SinkPlan, IsSinkPlan}
 use Rattle.sink_rules.proofs.Text as text
 use Rattle.sink_rules.proofs.Text.{laid_instr, keeps_marks, of_one}
 
-module _ (m : Mach) (plan : Plan) (is : IsPlan m plan) where
+module _ (m : Mach) (plan : SinkPlan) (is : IsSinkPlan m plan) where
   abbrev q : Mach
   q = text.laid m plan is
 
@@ -47,7 +47,7 @@ module _ (m : Mach) (plan : Plan) (is : IsPlan m plan) where
   abbrev Onward : ℕ → List Instr → Type 0
   Onward n ys = (rest : List Instr) → Laid rest ys → Live m n rest
 
-  on_case : {n : ℕ} {rest ys : List Instr} {j : Instr} (t : Target) → Laid rest (j ∷ ys) → (Among n (written m j) → ⊥) →
+  on_case : {n : ℕ} {rest ys : List Instr} {j : Instr} (t : Target) → Laid rest (j ∷ ys) → (AmongRegisters n (registers_written m j) → ⊥) →
       OneOf t (targets j.op) → Onward n (code_at q.code ys t) → Live m n rest
   on_case {n} {ys = ys} t (text.moves {i = i} {next = next} r e k h) w o ih =
       subst (λ t. Onward n (code_at q.code ys t)) (only_on t o) ih (i ∷ next) h
@@ -60,7 +60,7 @@ module _ (m : Mach) (plan : Plan) (is : IsPlan m plan) where
   aside_case l tries (text.main {i = i} e h) b t ih =
       aside (raises b (sym (ap (tries_past i.op) (text.laid_tries m plan is h)) ∙ t)) (ih (from_handler l m.code) (laid_handler l))
 
-  read_case : {n : ℕ} {rest ys : List Instr} {j : Instr} → Laid rest (j ∷ ys) → Among n j.args → Live m n rest
+  read_case : {n : ℕ} {rest ys : List Instr} {j : Instr} → Laid rest (j ∷ ys) → AmongRegisters n j.args → Live m n rest
   read_case {n} (text.moves {i = i} {next = next} r e k h) a = subst (λ n. Live m n (i ∷ next)) (of_one a) (moved_live r e k)
   read_case (text.main e h) a = read a
 
@@ -102,7 +102,7 @@ module _ (m : Mach) (plan : Plan) (is : IsPlan m plan) where
     where
       by : text.Whence m plan is j zs → Meets m n k
       by (text.itself r t u e h) =
-          absurd (free (moved_number r u.among (of_one (subst (λ (j : Instr). Among n (written m j)) e w))))
+          absurd (free (moved_number r u.among (of_one (subst (λ (j : Instr). AmongRegisters n (registers_written m j)) e w))))
       by (text.left {next = next} t h) = at_write j next t w (after_back j next h v) apart
   meets_back free (at_params a v) = at_params a (live_back v m.code (text.whole_laid m plan is))
 

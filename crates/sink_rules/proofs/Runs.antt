@@ -5,7 +5,7 @@ use Rattle.std.proofs.lemmas.Bool.{both_ways}
 use Rattle.std.proofs.lemmas.List.Elements.{All-head, All-tail, All-contains}
 use Rattle.mach_ir.specs.Acts.{On}
 use Rattle.mach_ir.specs.Placed.{is_straight, AreStraight}
-use Rattle.mach_ir.specs.Walks.{OneOf, this, targets, goes, Reached, by_step, Writes, Leads, Live, on, Stands, here, below}
+use Rattle.mach_ir.specs.Walks.{OneOf, this, targets, goes, Reached, by_step, Writes, WalkStep, Live, on, StandsAsInstr, here, below}
 use Rattle.mach_ir.specs.declared.op.Op.{Op}
 use Rattle.mach_ir.specs.declared.op.Op.TheVariants as op
 use Rattle.mach_ir.specs.declared.mach.MachOp.{MachOp}
@@ -35,7 +35,7 @@ straight_op : (g : MachOp) → is_straight g ≡ true → (f : Op) × (g ≡ mac
 straight_op (mach.Op f) e = (f, refl)
 straight_op (mach.Mark f) e = absurd (both_ways false refl e)
 
-straight_leads : (m : Mach) (i : Instr) (next : List Instr) → is_straight i.op ≡ true → Leads m i next next
+straight_leads : (m : Mach) (i : Instr) (next : List Instr) → is_straight i.op ≡ true → WalkStep m i next next
 straight_leads m i next e = goes On (subst (OneOf On) (sym (straight_targets i.op e)) this)
 
 -- ---- along a run
@@ -46,7 +46,7 @@ module _ (m : Mach) (n : ℕ) where
 
   -- what goes on with each step that does not write the register holds after the run
   along : (P : List Instr → Type 0) →
-      ((i : Instr) (next : List Instr) → Unwritten i → Leads m i next next → P (i ∷ next) → P next) →
+      ((i : Instr) (next : List Instr) → Unwritten i → WalkStep m i next next → P (i ∷ next) → P next) →
       (run rest : List Instr) → AreStraight run → All Unwritten run → P (run ++ rest) → P rest
   along P goes_on [] rest st w p = p
   along P goes_on (i ∷ run) rest st w p =
@@ -55,7 +55,7 @@ module _ (m : Mach) (n : ℕ) where
 
   module _ {from : List Instr} {call : Instr} {after : List Instr} (r : IsRunTo m n from call after) where
     to_call : (P : List Instr → Type 0) →
-        ((i : Instr) (next : List Instr) → Unwritten i → Leads m i next next → P (i ∷ next) → P next) →
+        ((i : Instr) (next : List Instr) → Unwritten i → WalkStep m i next next → P (i ∷ next) → P next) →
         P from → P (call ∷ after)
     to_call P goes_on p = along P goes_on r.run (call ∷ after) r.straight r.unwritten (subst P r.is p)
 
@@ -86,18 +86,18 @@ one_ends all e = inr e
 one_ends (more d) all = inl (more d)
 one_ends (more d) (more e) = one_ends d e
 
-stands_further : {i : Instr} {next rest code : List Instr} → Ending rest code → Stands i next rest → Stands i next code
+stands_further : {i : Instr} {next rest code : List Instr} → Ending rest code → StandsAsInstr i next rest → StandsAsInstr i next code
 stands_further all s = s
 stands_further (more e) s = below (stands_further e s)
 
 -- an ending of a run and of what comes after, and shorter than that, begins the run or is after an instruction of it
 within : (run : List Instr) (call : Instr) (after rest : List Instr) → Ending rest (run ++ call ∷ after) → length after < length rest →
-    (rest ≡ run ++ call ∷ after) ⊎ ((i : Instr) × Stands i rest (run ++ call ∷ after) × Contains run i)
+    (rest ≡ run ++ call ∷ after) ⊎ ((i : Instr) × StandsAsInstr i rest (run ++ call ∷ after) × Contains run i)
 within [] call after rest all lt = inl refl
 within [] call after rest (more e) lt = let le = ending_short e in absurd (omega (arith, lt, le))
 within (j ∷ run) call after rest all lt = inl refl
 within (j ∷ run) call after rest (more e) lt =
-    ⊎_elim (λ h. inr (j, subst (λ xs. Stands j rest (j ∷ xs)) h here, first_in j run))
+    ⊎_elim (λ h. inr (j, subst (λ xs. StandsAsInstr j rest (j ∷ xs)) h here, first_in j run))
     (λ h. inr (h.0, below h.1, later_in j h.0 run h.2)) (within run call after rest e lt)
 
 module _ (m : Mach) (n : ℕ) where
@@ -114,7 +114,7 @@ module _ (m : Mach) (n : ℕ) where
       ⊎_elim (λ h. h ∙ sym s.is)
       (λ h.
       absurd
-      (both_ways (is_straight (h.0).op) (r.begins h.0 (stands_further there (subst (Stands h.0 a) (sym s.is) h.1))) (All-contains IsStraight s.run h.0 s.straight h.2)))
+      (both_ways (is_straight (h.0).op) (r.begins h.0 (stands_further there (subst (StandsAsInstr h.0 a) (sym s.is) h.1))) (All-contains IsStraight s.run h.0 s.straight h.2)))
       (within s.run y after a (subst (Ending a) s.is e) (past r))
 
   -- runs to what one code comes after begin at one place

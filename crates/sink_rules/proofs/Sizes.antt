@@ -11,7 +11,7 @@ use Rattle.std.specs.Prelude.{slice_index_or}
 use Rattle.std.proofs.lemmas.List.{length-map}
 use Rattle.mach_ir.specs.Formed.{AreDistinct}
 use Rattle.mach_ir.specs.Sizes.{operand_count, Size, HasSize, OpenAtMost}
-use Rattle.mach_ir.specs.Walks.{IsRegister, Stands, here, below}
+use Rattle.mach_ir.specs.Walks.{IsRegister, StandsAsInstr, here, below}
 use Rattle.mach_ir.specs.declared.reg.Reg.{Reg}
 use Rattle.mach_ir.specs.declared.mach.Instr.{Instr}
 use Rattle.mach_ir.specs.declared.mach.Mach.{Mach}
@@ -20,7 +20,7 @@ use Rattle.mach_laws.proofs.Places.{ending_next, stands_of}
 use Rattle.places_rules.proofs.Lists.{was}
 use Rattle.bs_words.proofs.Lists.{first_in, later_in}
 use Rattle.pass_rules.proofs.Words.{both_sum}
-use Rattle.sink_rules.specs.Sunk.{Plan, to_itself, moves_of, sunk_instr, sunk, IsPlan}
+use Rattle.sink_rules.specs.Sunk.{SinkPlan, to_itself, planned_moves, sunk_instr, sunk, IsSinkPlan}
 
 -- ---- registers and their numbers
 
@@ -65,11 +65,11 @@ registers_among rs numbers h known =
 
 -- ---- how many moves
 
-module _ (plan : Plan) where
+module _ (plan : SinkPlan) where
   -- how many moves are in the code, of these registers
   abbrev pub total : List Reg → List Instr → ℕ
   total rs [] = 0
-  total rs (i ∷ is) = length (moves_of plan (length is) rs) + total rs is
+  total rs (i ∷ is) = length (planned_moves plan (length is) rs) + total rs is
 
   -- of one register
   abbrev times : ℕ → List Instr → ℕ
@@ -85,8 +85,8 @@ module _ (plan : Plan) where
   total_more r rs (i ∷ is) = by (plan.moves (length is) r.number) (total_more r rs is)
     where
       by : (b : Bool) → total (r ∷ rs) is ≡ times r.number is + total rs is →
-          length (cond b (to_itself r ∷ moves_of plan (length is) rs) (moves_of plan (length is) rs)) + total (r ∷ rs) is
-          ≡ cond b 1 0 + times r.number is + (length (moves_of plan (length is) rs) + total rs is)
+          length (cond b (to_itself r ∷ planned_moves plan (length is) rs) (planned_moves plan (length is) rs)) + total (r ∷ rs) is
+          ≡ cond b 1 0 + times r.number is + (length (planned_moves plan (length is) rs) + total rs is)
       by true e = omega (arith, e)
       by false e = omega (arith, e)
 
@@ -100,19 +100,19 @@ module _ (plan : Plan) where
         spread : (d c : ℕ) → d + d * c ≡ d * suc c
         spread d c = omega arith
 
-    moves_sum : (k : ℕ) (rs : List Reg) → M (moves_of plan k rs) ≤ most * length (moves_of plan k rs)
+    moves_sum : (k : ℕ) (rs : List Reg) → M (planned_moves plan k rs) ≤ most * length (planned_moves plan k rs)
     moves_sum k [] = let e = none in subst (λ n. n ≤ most * 0) (sym e) (least (most * 0))
       where
         least : (n : ℕ) → 0 ≤ n
         least n = omega arith
     moves_sum k (r ∷ rs) = by (plan.moves k r.number) (moves_sum k rs)
       where
-        by : (b : Bool) → M (moves_of plan k rs) ≤ most * length (moves_of plan k rs) →
-            M (cond b (to_itself r ∷ moves_of plan k rs) (moves_of plan k rs))
-            ≤ most * length (cond b (to_itself r ∷ moves_of plan k rs) (moves_of plan k rs))
+        by : (b : Bool) → M (planned_moves plan k rs) ≤ most * length (planned_moves plan k rs) →
+            M (cond b (to_itself r ∷ planned_moves plan k rs) (planned_moves plan k rs))
+            ≤ most * length (cond b (to_itself r ∷ planned_moves plan k rs) (planned_moves plan k rs))
         by true h =
-            subst (λ n. n ≤ most * suc (length (moves_of plan k rs))) (sym (step (to_itself r) (moves_of plan k rs)))
-            (one_times (one (to_itself r)) (M (moves_of plan k rs)) (length (moves_of plan k rs)) most (each r) h)
+            subst (λ n. n ≤ most * suc (length (planned_moves plan k rs))) (sym (step (to_itself r) (planned_moves plan k rs)))
+            (one_times (one (to_itself r)) (M (planned_moves plan k rs)) (length (planned_moves plan k rs)) most (each r) h)
         by false h = h
 
     -- the code is no larger by more than so much for each move
@@ -126,7 +126,7 @@ module _ (plan : Plan) where
         (total plan.registers is) whole (moves_sum (length is) plan.registers) (sum_grows is) (step i is)
       where
         xs : List Instr
-        xs = moves_of plan (length is) plan.registers
+        xs = planned_moves plan (length is) plan.registers
 
         whole : M (expand (sunk_instr plan) (i ∷ is)) ≡ M xs + one i + M (expand (sunk_instr plan) is)
         whole =
@@ -141,19 +141,19 @@ module _ (plan : Plan) where
             spread : (k x y : ℕ) → k * x + k * y ≡ k * (x + y)
             spread k x y = omega arith
 
-module _ (m : Mach) (plan : Plan) (known_plan : IsPlan m plan) where
+module _ (m : Mach) (plan : SinkPlan) (known_plan : IsSinkPlan m plan) where
   -- ---- each register is moved once at the most
 
-  shorter : {j : Instr} {others code : List Instr} → Stands j others code → length others < length code
+  shorter : {j : Instr} {others code : List Instr} → StandsAsInstr j others code → length others < length code
   shorter here = omega arith
   shorter (below s) = let lt = shorter s in omega (arith, lt)
 
-  stands_later : {j : Instr} {others rest code : List Instr} → Ending rest code → Stands j others rest → Stands j others code
+  stands_later : {j : Instr} {others rest code : List Instr} → Ending rest code → StandsAsInstr j others rest → StandsAsInstr j others code
   stands_later all s = s
   stands_later (more e) s = below (stands_later e s)
 
   never : (n : ℕ) (code : List Instr) →
-      ((j : Instr) (others : List Instr) → Stands j others code → plan.moves (length others) n ≡ true → ⊥) → times plan n code ≡ 0
+      ((j : Instr) (others : List Instr) → StandsAsInstr j others code → plan.moves (length others) n ≡ true → ⊥) → times plan n code ≡ 0
   never n [] h = refl
   never n (i ∷ is) h = by (plan.moves (length is) n) refl (never n is (λ j others s. h j others (below s)))
     where
@@ -174,7 +174,7 @@ module _ (m : Mach) (plan : Plan) (known_plan : IsPlan m plan) where
           let le : length others ≡ length next = ap length same in absurd (omega (arith, lt, le))) in
           omega (arith, e)
         where
-          is_once : (j : Instr) (others : List Instr) → Stands j others next → plan.moves (length others) r.number ≡ true →
+          is_once : (j : Instr) (others : List Instr) → StandsAsInstr j others next → plan.moves (length others) r.number ≡ true →
               plan.moves (length next) r.number ≡ true → others ≡ next
           is_once j others s u t =
               known_plan.once i j next others r (stands_of ending) (stands_later (ending_next ending) s) c t u

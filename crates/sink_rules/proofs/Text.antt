@@ -2,9 +2,9 @@
 use Rattle.std.proofs.Common.{◌≡◌, ℕ, Bool, true, false, cond, List, [], ◌∷◌, ◌++◌, length, ◌⊎◌, inl, inr, refl, sym, ap, ◌∙◌, subst}
 use Rattle.std.specs.List.{Contains}
 use Rattle.std.proofs.lemmas.Bool.{both_ways}
-use Rattle.mach_ir.specs.Formed.{labels_in, HasPlace, place_here, place_below, HasHandler, handler_here, handler_below}
+use Rattle.mach_ir.specs.Formed.{labels_in, LabelOccursIn, place_here, place_below, HasHandler, handler_here, handler_below}
 use Rattle.mach_ir.specs.Meaning.{has_label, is_handler_of, tries_at, tries_past}
-use Rattle.mach_ir.specs.Walks.{Among, first, later, Stands, here, below, InCode, in_args, in_results, further, IsRegister, is_param, is_colour, is_in_code}
+use Rattle.mach_ir.specs.Walks.{AmongRegisters, first, later, StandsAsInstr, here, below, InCode, in_args, in_results, further, IsRegister, is_param, is_colour, is_in_code}
 use Rattle.mach_ir.specs.declared.op.Op.{Op}
 use Rattle.mach_ir.specs.declared.mach.Mark.{Mark}
 use Rattle.mach_ir.specs.declared.reg.Reg.{Reg}
@@ -16,47 +16,47 @@ use Rattle.mach_laws.specs.Expand.{expand, Ending, all, KeepsMarks, NoLabel, no_
 use Rattle.mach_laws.proofs.Places.{ending_next, stands_of, args_in, results_in}
 use Rattle.mach_laws.proofs.InPlace.{same_head}
 use Rattle.bs_words.proofs.Lists.{none_in, first_in, later_in, in_cons}
-use Rattle.sink_rules.specs.Sunk.{Plan, to_itself, moves_of, sunk_instr, sunk, IsPlan}
+use Rattle.sink_rules.specs.Sunk.{SinkPlan, to_itself, planned_moves, sunk_instr, sunk, IsSinkPlan}
 
-pub of_one : {r : Reg} {n : ℕ} → Among n (r ∷ []) → r.number ≡ n
+pub of_one : {r : Reg} {n : ℕ} → AmongRegisters n (r ∷ []) → r.number ≡ n
 of_one (first e) = e
 of_one (later a) = elim a [ ]
 
 -- ---- moves before operations alone
 
 -- what is before an operation
-abbrev pub before : Plan → ℕ → MachOp → List Instr
-before plan k (mach.Op f) = moves_of plan k plan.registers
+abbrev pub before : SinkPlan → ℕ → MachOp → List Instr
+before plan k (mach.Op f) = planned_moves plan k plan.registers
 before plan k (mach.Mark f) = []
 
-abbrev pub laid_instr : Plan → ℕ → Instr → List Instr
+abbrev pub laid_instr : SinkPlan → ℕ → Instr → List Instr
 laid_instr plan k i = before plan k i.op ++ i ∷ []
 
-module _ (plan : Plan) where
-  unlabelled : (l k : ℕ) (rs : List Reg) (ys : List Instr) → NoLabel l ys → NoLabel l (moves_of plan k rs ++ ys)
+module _ (plan : SinkPlan) where
+  unlabelled : (l k : ℕ) (rs : List Reg) (ys : List Instr) → NoLabel l ys → NoLabel l (planned_moves plan k rs ++ ys)
   unlabelled l k [] ys h = h
   unlabelled l k (r ∷ rs) ys h = by (plan.moves k r.number) (unlabelled l k rs ys h)
     where
-      by : (b : Bool) → NoLabel l (moves_of plan k rs ++ ys) →
-          NoLabel l (cond b (to_itself r ∷ moves_of plan k rs) (moves_of plan k rs) ++ ys)
+      by : (b : Bool) → NoLabel l (planned_moves plan k rs ++ ys) →
+          NoLabel l (cond b (to_itself r ∷ planned_moves plan k rs) (planned_moves plan k rs) ++ ys)
       by true h = not_labelled refl h
       by false h = h
 
-  unhandled : (l k : ℕ) (rs : List Reg) (ys : List Instr) → NoHandler l ys → NoHandler l (moves_of plan k rs ++ ys)
+  unhandled : (l k : ℕ) (rs : List Reg) (ys : List Instr) → NoHandler l ys → NoHandler l (planned_moves plan k rs ++ ys)
   unhandled l k [] ys h = h
   unhandled l k (r ∷ rs) ys h = by (plan.moves k r.number) (unhandled l k rs ys h)
     where
-      by : (b : Bool) → NoHandler l (moves_of plan k rs ++ ys) →
-          NoHandler l (cond b (to_itself r ∷ moves_of plan k rs) (moves_of plan k rs) ++ ys)
+      by : (b : Bool) → NoHandler l (planned_moves plan k rs ++ ys) →
+          NoHandler l (cond b (to_itself r ∷ planned_moves plan k rs) (planned_moves plan k rs) ++ ys)
       by true h = not_handled refl h
       by false h = h
 
-  unbound : (k : ℕ) (rs : List Reg) (ys : List Instr) → NoBound ys → NoBound (moves_of plan k rs ++ ys)
+  unbound : (k : ℕ) (rs : List Reg) (ys : List Instr) → NoBound ys → NoBound (planned_moves plan k rs ++ ys)
   unbound k [] ys h = h
   unbound k (r ∷ rs) ys h = by (plan.moves k r.number) (unbound k rs ys h)
     where
-      by : (b : Bool) → NoBound (moves_of plan k rs ++ ys) →
-          NoBound (cond b (to_itself r ∷ moves_of plan k rs) (moves_of plan k rs) ++ ys)
+      by : (b : Bool) → NoBound (planned_moves plan k rs ++ ys) →
+          NoBound (cond b (to_itself r ∷ planned_moves plan k rs) (planned_moves plan k rs) ++ ys)
       by true h = not_bound refl h
       by false h = h
 
@@ -93,16 +93,16 @@ module _ (plan : Plan) where
       }
 
   -- none of these is moved there
-  none_moved : (k : ℕ) (rs : List Reg) → ((r : Reg) → Contains rs r → plan.moves k r.number ≡ true → ⊥) → moves_of plan k rs ≡ []
+  none_moved : (k : ℕ) (rs : List Reg) → ((r : Reg) → Contains rs r → plan.moves k r.number ≡ true → ⊥) → planned_moves plan k rs ≡ []
   none_moved k [] h = refl
   none_moved k (r ∷ rs) h = by (plan.moves k r.number) refl (none_moved k rs (λ q c. h q (later_in r q rs c)))
     where
-      by : (b : Bool) → plan.moves k r.number ≡ b → moves_of plan k rs ≡ [] →
-          cond b (to_itself r ∷ moves_of plan k rs) (moves_of plan k rs) ≡ []
+      by : (b : Bool) → plan.moves k r.number ≡ b → planned_moves plan k rs ≡ [] →
+          cond b (to_itself r ∷ planned_moves plan k rs) (planned_moves plan k rs) ≡ []
       by true t e = absurd (h r (first_in r rs) t)
       by false t e = e
 
-module _ (m : Mach) (plan : Plan) (is : IsPlan m plan) where
+module _ (m : Mach) (plan : SinkPlan) (is : IsSinkPlan m plan) where
   -- the function with moves before operations alone
   abbrev pub laid : Mach
   laid = record m { code = expand (laid_instr plan) m.code }
@@ -110,7 +110,7 @@ module _ (m : Mach) (plan : Plan) (is : IsPlan m plan) where
   abbrev f : ℕ → Instr → List Instr
   f = laid_instr plan
 
-  same_instr : (i : Instr) (next : List Instr) → Stands i next m.code →
+  same_instr : (i : Instr) (next : List Instr) → StandsAsInstr i next m.code →
       sunk_instr plan (length next) i ≡ laid_instr plan (length next) i
   same_instr i next s = by i.op refl
     where
@@ -118,14 +118,14 @@ module _ (m : Mach) (plan : Plan) (is : IsPlan m plan) where
       no_mark f g e = cc
 
       by : (g : MachOp) → i.op ≡ g →
-          moves_of plan (length next) plan.registers ++ i ∷ [] ≡ before plan (length next) g ++ i ∷ []
+          planned_moves plan (length next) plan.registers ++ i ∷ [] ≡ before plan (length next) g ++ i ∷ []
       by (mach.Op f) e = refl
       by (mach.Mark g) e =
           ap (λ xs. xs ++ i ∷ [])
           (none_moved plan (length next) plan.registers
           (λ r c t. let h = is.operations i next r s c t in no_mark h.0 g (sym e ∙ h.1)))
 
-  same_code : (code : List Instr) → ((i : Instr) (next : List Instr) → Stands i next code → Stands i next m.code) →
+  same_code : (code : List Instr) → ((i : Instr) (next : List Instr) → StandsAsInstr i next code → StandsAsInstr i next m.code) →
       expand (sunk_instr plan) code ≡ expand (laid_instr plan) code
   same_code [] known = refl
   same_code (i ∷ is) known =
@@ -151,13 +151,13 @@ module _ (m : Mach) (plan : Plan) (is : IsPlan m plan) where
 
   pub laid_moves : (i : Instr) (next : List Instr) → Ending (i ∷ next) m.code → (rs : List Reg) →
       ((r : Reg) → Contains rs r → Contains plan.registers r) → (ys : List Instr) → Laid (i ∷ next) ys →
-      Laid (i ∷ next) (moves_of plan (length next) rs ++ ys)
+      Laid (i ∷ next) (planned_moves plan (length next) rs ++ ys)
   laid_moves i next ending [] known ys h = h
   laid_moves i next ending (r ∷ rs) known ys h =
       by (plan.moves (length next) r.number) refl (laid_moves i next ending rs (λ q c. known q (later_in r q rs c)) ys h)
     where
-      by : (b : Bool) → plan.moves (length next) r.number ≡ b → Laid (i ∷ next) (moves_of plan (length next) rs ++ ys) →
-          Laid (i ∷ next) (cond b (to_itself r ∷ moves_of plan (length next) rs) (moves_of plan (length next) rs) ++ ys)
+      by : (b : Bool) → plan.moves (length next) r.number ≡ b → Laid (i ∷ next) (planned_moves plan (length next) rs ++ ys) →
+          Laid (i ∷ next) (cond b (to_itself r ∷ planned_moves plan (length next) rs) (planned_moves plan (length next) rs) ++ ys)
       by true t h = moves r ending (record { among = known r (first_in r rs); told = t }) h
       by false t h = h
 
@@ -183,18 +183,18 @@ module _ (m : Mach) (plan : Plan) (is : IsPlan m plan) where
 
   -- a move, or an instruction of the first
   pub data Whence (j : Instr) (zs : List Instr) : Type 0 where
-    itself : {i : Instr} {next : List Instr} (r : Reg) → Stands i next m.code → IsMoved r next → j ≡ to_itself r →
+    itself : {i : Instr} {next : List Instr} (r : Reg) → StandsAsInstr i next m.code → IsMoved r next → j ≡ to_itself r →
         Laid (i ∷ next) zs → Whence j zs
-    left : {next : List Instr} → Stands j next m.code → Laid next zs → Whence j zs
+    left : {next : List Instr} → StandsAsInstr j next m.code → Laid next zs → Whence j zs
 
-  pub whence_in : {rest ys zs : List Instr} {j : Instr} → Laid rest ys → Stands j zs ys → Whence j zs
+  pub whence_in : {rest ys zs : List Instr} {j : Instr} → Laid rest ys → StandsAsInstr j zs ys → Whence j zs
   whence_in laid_end s = elim s [ ]
   whence_in (moves r e k h) here = itself r (stands_of e) k refl h
   whence_in (moves r e k h) (below s) = whence_in h s
   whence_in (main e h) here = left (stands_of e) h
   whence_in (main e h) (below s) = whence_in h s
 
-  pub whence : {j : Instr} {zs : List Instr} → Stands j zs (laid).code → Whence j zs
+  pub whence : {j : Instr} {zs : List Instr} → StandsAsInstr j zs (laid).code → Whence j zs
   whence s = whence_in whole_laid s
 
   pub laid_tries : {rest ys : List Instr} → Laid rest ys → tries_at ys ≡ tries_at rest
@@ -207,7 +207,7 @@ module _ (m : Mach) (plan : Plan) (is : IsPlan m plan) where
   laid_labels (moves r e k h) = laid_labels h
   laid_labels (main {i = i} {next = next} {ys = ys} e h) = same_head i ys next (laid_labels h)
 
-  pub place_there : {l : ℕ} {rest ys : List Instr} → Laid rest ys → HasPlace l rest → HasPlace l ys
+  pub place_there : {l : ℕ} {rest ys : List Instr} → Laid rest ys → LabelOccursIn l rest → LabelOccursIn l ys
   place_there laid_end p = elim p [ ]
   place_there (moves r e k h) p = place_below (place_there h p)
   place_there (main e h) (place_here t) = place_here t

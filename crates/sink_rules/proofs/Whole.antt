@@ -10,15 +10,15 @@ use Rattle.mach_ir.specs.declared.mach.Instr.{Instr}
 use Rattle.mach_ir.specs.declared.mach.Mach.{Mach}
 use Rattle.linear_rules.specs.Lowered.{same_spot}
 use Rattle.pass_rules.specs.Carried.{OffsetFits, TriesAtMost, EndsInReturn, at_return, further, IsCarried}
-use Rattle.pass_rules.specs.Measures.{copy_words, instr_words, code_words, one_if, code_points, exits, operands_with, other_operands}
+use Rattle.pass_rules.specs.Measures.{copy_words, instr_words, code_words, one_if_true, code_points, exit_count, operands_with, other_operands}
 use Rattle.pass_rules.proofs.Carried.{exit_one}
 use Rattle.pass_rules.proofs.Words.{at_most_copy}
-use Rattle.sink_rules.specs.Sunk.{Plan, to_itself, sunk, IsPlan, IsKept}
+use Rattle.sink_rules.specs.Sunk.{SinkPlan, to_itself, sunk, IsSinkPlan, IsSinkKept}
 use Rattle.sink_rules.proofs.Formed.{each_in, tries_so, main_tries, still_formed, still_placed, still_seated, still_keeps}
 use Rattle.sink_rules.proofs.Sizes.{sum_within, with_moves, sunk_size, few, few_open}
 use Rattle.sink_rules.proofs.Text as text
 
-module _ (m : Mach) (plan : Plan) (formed : WellFormed m) (is : IsPlan m plan) where
+module _ (m : Mach) (plan : SinkPlan) (formed : WellFormed m) (is : IsSinkPlan m plan) where
   abbrev q : Mach
   q = text.laid m plan is
 
@@ -58,9 +58,9 @@ module _ (m : Mach) (plan : Plan) (formed : WellFormed m) (is : IsPlan m plan) w
       record {
         words = grows code_words instr_words copy_words refl (λ i is. refl)
             (λ r. at_most_copy (same_spot (r ∷ []) (r ∷ [])));
-        points = stays code_points (λ (i : Instr). one_if (passes_frame i.op)) refl (λ i is. refl) (λ r. omega arith);
+        points = stays code_points (λ (i : Instr). one_if_true (passes_frame i.op)) refl (λ i is. refl) (λ r. omega arith);
         operands = stays other_operands (λ (i : Instr). operands_with i.op i.args i.results) refl (λ i is. refl) (λ r. omega arith);
-        exits = stays exits (λ (i : Instr). cond (is_exit i.op) 1 0) refl (λ (i : Instr) is. exit_one (is_exit i.op) (exits is))
+        exits = stays exit_count (λ (i : Instr). cond (is_exit i.op) 1 0) refl (λ (i : Instr) is. exit_one (is_exit i.op) (exit_count is))
             (λ r. omega arith);
         tries = λ most known i zs s. few_tries most known i zs (text.whence m plan is s);
         offsets = λ fit.
@@ -73,7 +73,7 @@ module _ (m : Mach) (plan : Plan) (formed : WellFormed m) (is : IsPlan m plan) w
   old : (r : Reg) → IsRegister (sunk plan m) r → IsRegister m r
   old = subst (λ (k : Mach). (r : Reg) → IsRegister k r → IsRegister m r) (sym (text.sunk_is_laid m plan is)) was
 
-  laid_kept : IsKept m q plan
+  laid_kept : IsSinkKept m q plan
   laid_kept =
       record {
         keeps = still_keeps m plan formed is;
@@ -90,5 +90,5 @@ module _ (m : Mach) (plan : Plan) (formed : WellFormed m) (is : IsPlan m plan) w
       }
 
   -- A function in which registers are moved to themselves by a plan is kept.
-  pub sunk_kept : IsKept m (sunk plan m) plan
-  sunk_kept = subst (λ (k : Mach). IsKept m k plan) (sym (text.sunk_is_laid m plan is)) laid_kept
+  pub sunk_kept : IsSinkKept m (sunk plan m) plan
+  sunk_kept = subst (λ (k : Mach). IsSinkKept m k plan) (sym (text.sunk_is_laid m plan is)) laid_kept

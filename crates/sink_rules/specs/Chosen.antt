@@ -3,14 +3,14 @@
 use Rattle.std.specs.Prelude.{◌≡◌, ◌↔◌, ◌<◌, ℕ, true, false, List, ◌∷◌, ◌++◌, length, All, AllPairs, Contains}
 use Rattle.bs_words.specs.declared.types.Loc.TheVariants as loc
 use Rattle.mach_ir.specs.Placed.{is_straight, AreStraight}
-use Rattle.mach_ir.specs.Walks.{Among, Writes, Stands, IsRegister}
+use Rattle.mach_ir.specs.Walks.{AmongRegisters, Writes, StandsAsInstr, IsRegister}
 use Rattle.mach_ir.specs.declared.op.Op.{Op}
 use Rattle.mach_ir.specs.declared.reg.Reg.{Reg}
 use Rattle.mach_ir.specs.declared.mach.Instr.{Instr}
 use Rattle.mach_ir.specs.declared.mach.Mach.{Mach}
 use Rattle.mach_ir.specs.declared.mach.MachOp.TheVariants as mach
 use Rattle.spill_rules.specs.Chosen.{LivesOver}
-use Rattle.sink_rules.specs.Sunk.{Plan, sunk}
+use Rattle.sink_rules.specs.Sunk.{SinkPlan, sunk}
 use Rattle.sink_rules.specs.Walks.{Fresh, Stale}
 
 -- A straight run starts with this code, does not write the register, and comes to an operation, no
@@ -21,7 +21,7 @@ pub record IsRunTo (m : Mach) (n : ℕ) (from : List Instr) (call : Instr) (afte
   pub is : from ≡ run ++ call ∷ after
   pub straight : AreStraight run
   pub unwritten : All (λ (j : Instr). Writes m j n → ⊥) run
-  pub begins : (j : Instr) → Stands j from m.code → is_straight j.op ≡ false
+  pub begins : (j : Instr) → StandsAsInstr j from m.code → is_straight j.op ≡ false
   -- an operation, and so no entry of a handler
   pub operation : Op
   pub is_call : call.op ≡ mach.Op operation
@@ -34,7 +34,7 @@ pub record IsRunTo (m : Mach) (n : ℕ) (from : List Instr) (call : Instr) (afte
 pub record IsSunkAt (m : Mach) (i : Instr) (next : List Instr) (r : Reg) : Type 0 where
   pub register : IsRegister m r
   pub open_place : r.loc ≡ loc.Unset
-  pub stands : Stands i next m.code
+  pub stands : StandsAsInstr i next m.code
   pub call : Instr
   pub after : List Instr
   pub run : IsRunTo m r.number (i ∷ next) call after
@@ -44,8 +44,8 @@ pub record IsSunkAt (m : Mach) (i : Instr) (next : List Instr) (r : Reg) : Type 
   pub surely : Stale m r.number (call ∷ after) → ⊥
   pub only : (j : Instr) (others onward : List Instr) → LivesOver m r.number j others onward →
       Fresh m r.number (j ∷ others) → others ≡ after
-  pub late : (j : Instr) (others : List Instr) → Stands j others m.code →
-      Among r.number j.args → Fresh m r.number (j ∷ others) →
+  pub late : (j : Instr) (others : List Instr) → StandsAsInstr j others m.code →
+      AmongRegisters r.number j.args → Fresh m r.number (j ∷ others) →
       Stale m r.number (j ∷ others) → ⊥
 
 -- some instruction of the function has this register moved before it
@@ -55,15 +55,15 @@ pub record IsSunkSomewhere (m : Mach) (r : Reg) : Type 0 where
   pub sunk_at : IsSunkAt m instr next r
 
 -- The plan that is chosen: these registers, by rising numbers, each before its run.
-pub record IsChosen (m : Mach) (plan : Plan) : Type 0 where
+pub record IsSinkChoice (m : Mach) (plan : SinkPlan) : Type 0 where
   pub registers : (r : Reg) → Contains plan.registers r ↔ IsSunkSomewhere m r
   pub rising : AllPairs (λ (r q : Reg). r.number < q.number) plan.registers
-  pub moves : (i : Instr) (next : List Instr) (r : Reg) → Stands i next m.code →
+  pub moves : (i : Instr) (next : List Instr) (r : Reg) → StandsAsInstr i next m.code →
       Contains plan.registers r →
       (plan.moves (length next) r.number ≡ true) ↔ IsSunkAt m i next r
 
 -- The second is the first with these moves.
 pub record IsSunk (m q : Mach) : Type 0 where
-  pub plan : Plan
-  pub chosen : IsChosen m plan
+  pub plan : SinkPlan
+  pub chosen : IsSinkChoice m plan
   pub is : q ≡ sunk plan m

@@ -7,7 +7,7 @@ use Rattle.mach_ir.specs.Keeps.{Keeps}
 use Rattle.mach_ir.specs.Placed.{WellPlaced}
 use Rattle.mach_ir.specs.Seats.{Seated}
 use Rattle.mach_ir.specs.Sizes.{Size, HasSize, OpenAtMost}
-use Rattle.mach_ir.specs.Walks.{Live, Reached, Stands, IsRegister}
+use Rattle.mach_ir.specs.Walks.{Live, Reached, StandsAsInstr, IsRegister}
 use Rattle.mach_ir.specs.declared.op.CopyKind.TheVariants as copy
 use Rattle.mach_ir.specs.declared.op.Op.{Op}
 use Rattle.mach_ir.specs.declared.op.Op.TheVariants as op
@@ -23,7 +23,7 @@ use Rattle.sink_rules.specs.Walks.{Stale}
 
 -- Which registers are moved to themselves, and before which instructions: by how many instructions
 -- come after, and by the register's number.
-pub record Plan : Type 0 where
+pub record SinkPlan : Type 0 where
   pub registers : List Reg
   pub moves : ℕ → ℕ → Bool
 
@@ -33,21 +33,21 @@ to_itself r =
     record { op = mach.Op (op.Pure (pure.Copy copy.Move)); args = r ∷ []; results = r ∷ [] }
 
 -- those of these registers that are moved before an instruction, in their order
-abbrev pub moves_of : Plan → ℕ → List Reg → List Instr
-moves_of plan k [] = []
-moves_of plan k (r ∷ rs) =
-    cond (plan.moves k r.number) (to_itself r ∷ moves_of plan k rs) (moves_of plan k rs)
+abbrev pub planned_moves : SinkPlan → ℕ → List Reg → List Instr
+planned_moves plan k [] = []
+planned_moves plan k (r ∷ rs) =
+    cond (plan.moves k r.number) (to_itself r ∷ planned_moves plan k rs) (planned_moves plan k rs)
 
 -- an instruction, which so many come after, and the moves before it
-abbrev pub sunk_instr : Plan → ℕ → Instr → List Instr
-sunk_instr plan k i = moves_of plan k plan.registers ++ i ∷ []
+abbrev pub sunk_instr : SinkPlan → ℕ → Instr → List Instr
+sunk_instr plan k i = planned_moves plan k plan.registers ++ i ∷ []
 
 -- The function with these moves. All else is as it was.
-abbrev pub sunk : Plan → Mach → Mach
+abbrev pub sunk : SinkPlan → Mach → Mach
 sunk plan m = record m { code = expand (sunk_instr plan) m.code }
 
 -- What a plan owes for a function to do what it did.
-pub record IsPlan (m : Mach) (plan : Plan) : Type 0 where
+pub record IsSinkPlan (m : Mach) (plan : SinkPlan) : Type 0 where
   -- open registers of the function, each once
   pub registers : (r : Reg) → Contains plan.registers r → IsRegister m r
   pub open_places : (r : Reg) → Contains plan.registers r → r.loc ≡ loc.Unset
@@ -55,27 +55,27 @@ pub record IsPlan (m : Mach) (plan : Plan) : Type 0 where
   -- A register is live where it is moved, and is not stale there. So each walk to there writes it that
   -- begins at the entry, where it may be a parameter instead, or at a call that is not external or the
   -- entry of a handler, reached or not. What that call itself writes counts.
-  pub live : (i : Instr) (next : List Instr) (r : Reg) → Stands i next m.code →
+  pub live : (i : Instr) (next : List Instr) (r : Reg) → StandsAsInstr i next m.code →
       Contains plan.registers r → plan.moves (length next) r.number ≡ true →
       Live m r.number (i ∷ next)
-  pub written : (i : Instr) (next : List Instr) (r : Reg) → Stands i next m.code →
+  pub written : (i : Instr) (next : List Instr) (r : Reg) → StandsAsInstr i next m.code →
       Contains plan.registers r → plan.moves (length next) r.number ≡ true →
       Stale m r.number (i ∷ next) → ⊥
   -- moves are before operations, and before no marks
-  pub operations : (i : Instr) (next : List Instr) (r : Reg) → Stands i next m.code →
+  pub operations : (i : Instr) (next : List Instr) (r : Reg) → StandsAsInstr i next m.code →
       Contains plan.registers r → plan.moves (length next) r.number ≡ true →
       (f : Op) × (i.op ≡ mach.Op f)
   -- No addr is moved where a walk comes: a frame point that is no call loses it, too.
   pub no_addr : (i : Instr) (next : List Instr) (r : Reg) → Reached m (i ∷ next) →
       Contains plan.registers r → plan.moves (length next) r.number ≡ true → r.comp ≢ comp.Addr
   -- each is moved before one instruction at the most
-  pub once : (i j : Instr) (next others : List Instr) (r : Reg) → Stands i next m.code →
-      Stands j others m.code → Contains plan.registers r →
+  pub once : (i j : Instr) (next others : List Instr) (r : Reg) → StandsAsInstr i next m.code →
+      StandsAsInstr j others m.code → Contains plan.registers r →
       plan.moves (length next) r.number ≡ true → plan.moves (length others) r.number ≡ true →
       others ≡ next
 
 -- What a function keeps with these moves.
-pub record IsKept (m q : Mach) (plan : Plan) : Type 0 where
+pub record IsSinkKept (m q : Mach) (plan : SinkPlan) : Type 0 where
   pub keeps : Keeps m q
   pub formed : WellFormed q
   pub placed : WellPlaced m → WellPlaced q

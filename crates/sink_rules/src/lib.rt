@@ -14,24 +14,24 @@ ghost use Rattle.std.specs.Prelude.{◌≡◌};
 ghost use Rattle.mach_ir.specs.Formed.{WellFormed};
 ghost use Rattle.mach_ir.specs.Walks.{NoAddrLive};
 ghost use Rattle.mach_ir.specs.declared.mach.Mach.{Mach};
-ghost use Rattle.sink_rules.specs.Chosen.{IsChosen, IsSunk};
-ghost use Rattle.sink_rules.specs.Sunk.{Plan, IsPlan, IsKept, sunk};
+ghost use Rattle.sink_rules.specs.Chosen.{IsSinkChoice, IsSunk};
+ghost use Rattle.sink_rules.specs.Sunk.{SinkPlan, IsSinkPlan, IsSinkKept, sunk};
 
 /// Law: a function in which registers are moved to themselves by a plan is kept.
 pub fn moves_to_themselves_change_nothing()
-    ensures { (m : Mach) (plan : Plan) → WellFormed m → IsPlan m plan →
-        IsKept m (sunk plan m) plan }
+    ensures { (m : Mach) (plan : SinkPlan) → WellFormed m → IsSinkPlan m plan →
+        IsSinkKept m (sunk plan m) plan }
 {}
 
 /// Law: what is chosen is a plan, where no addr lives over a frame point.
 pub fn a_chosen_plan_is_one()
-    ensures { (m : Mach) (plan : Plan) → WellFormed m → NoAddrLive m → IsChosen m plan →
-        IsPlan m plan }
+    ensures { (m : Mach) (plan : SinkPlan) → WellFormed m → NoAddrLive m → IsSinkChoice m plan →
+        IsSinkPlan m plan }
 {}
 
 /// Law: what is made of such a function so is kept.
 pub fn what_is_sunk_is_kept()
-    ensures { (m q : Mach) → WellFormed m → NoAddrLive m → (s : IsSunk m q) → IsKept m q s.plan }
+    ensures { (m q : Mach) → WellFormed m → NoAddrLive m → (s : IsSunk m q) → IsSinkKept m q s.plan }
 {}
 
 /// Law: one function is made of each.

@@ -8,7 +8,7 @@ use Rattle.mach_ir.specs.Walks.{in_args, in_results, further, IsRegister, is_in_
 use Rattle.mach_ir.specs.declared.reg.Reg.{Reg}
 use Rattle.mach_ir.specs.declared.mach.Instr.{Instr}
 use Rattle.mach_ir.specs.declared.mach.Mach.{Mach}
-use Rattle.spill.specs.Copies.{HaveSlots, CodeHasSlots, instr_at, code_at}
+use Rattle.spill.specs.Copies.{HaveSlots, CodeHasSlots, instr_with_copies, spilled_code}
 use Rattle.spill_rules.specs.Chosen.{spilled_size}
 use Rattle.spill.specs.declared.tables.Tables.{Tables}
 
@@ -16,7 +16,7 @@ use Rattle.spill.specs.declared.tables.Tables.{Tables}
 pub record Copying (t : Tables) (code items made : List Instr) : Type 0 where
   pub done : List Instr
   pub whole : items ++ done ≡ code
-  pub made_so : made ≡ code_at t (length code) done
+  pub made_so : made ≡ spilled_code t (length code) done
 
 -- what is left of a code has slots, as the code has
 slots_before : (free : ℕ) (rest : List Instr) (i : Instr) (done : List Instr) → CodeHasSlots free (rest ++ i ∷ done) →
@@ -51,13 +51,13 @@ pub copying_begun : (t : Tables) (code items made : List Instr) → items ≡ co
 copying_begun t code items made e h = record { done = []; whole = append-nil items ∙ e; made_so = h }
 
 pub copying_more : (t : Tables) (code items rest : List Instr) (i : Instr) (place : ℕ) (made new : List Instr) → items ≡ rest ++ i ∷ [] →
-    place ≡ length rest → Copying t code items made → new ≡ instr_at t place i ++ made → Copying t code rest new
+    place ≡ length rest → Copying t code items made → new ≡ instr_with_copies t place i ++ made → Copying t code rest new
 copying_more t code items rest i place made new popped at c e =
     record {
       done = i ∷ c.done;
       whole = sym (append_assoc rest (i ∷ []) c.done) ∙ ap (λ xs. xs ++ c.done) (sym popped) ∙ c.whole;
-      made_so = e ∙ ap (λ xs. instr_at t place i ++ xs) c.made_so
-          ∙ ap (λ p. instr_at t p i ++ code_at t (length code) c.done) (at ∙ place_is);
+      made_so = e ∙ ap (λ xs. instr_with_copies t place i ++ xs) c.made_so
+          ∙ ap (λ p. instr_with_copies t p i ++ spilled_code t (length code) c.done) (at ∙ place_is);
     }
   where
     all : length items + length c.done ≡ length code
@@ -70,6 +70,6 @@ copying_more t code items rest i place made new popped at c e =
     place_is = let a = all in let b = some in omega (arith, a, b)
 
 pub copying_done : (t : Tables) (code items made all : List Instr) → Copying t code items made → items ≡ [] → all ≡ made →
-    all ≡ code_at t (length code) code
+    all ≡ spilled_code t (length code) code
 copying_done t code items made all c none e =
-    e ∙ c.made_so ∙ ap (code_at t (length code)) (ap (λ xs. xs ++ c.done) (sym none) ∙ c.whole)
+    e ∙ c.made_so ∙ ap (spilled_code t (length code)) (ap (λ xs. xs ++ c.done) (sym none) ∙ c.whole)

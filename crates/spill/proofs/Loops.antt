@@ -8,11 +8,11 @@ use Rattle.bs_words.proofs.Lists.{none_in}
 use Rattle.dataflow.specs.Flow.{IsBare}
 use Rattle.dataflow.specs.declared.flow.Flow as flow
 use Rattle.dataflow.specs.declared.flow.Place as place
-use Rattle.mach_ir.specs.Meaning.{Everything, destroyed_by, written}
+use Rattle.mach_ir.specs.Meaning.{Everything, destroyed_by, registers_written}
 use Rattle.mach_ir.specs.declared.mach.Instr.{Instr}
 use Rattle.mach_ir.specs.declared.mach.Mach.{Mach}
-use Rattle.mach_laws.specs.Graph.{place_of, numbers, next_places, raise_places, numbers_read, numbers_written, IsFlowOf}
-use Rattle.liveness.specs.Nodes.{IsNode}
+use Rattle.mach_laws.specs.Graph.{code_index, numbers_of_registers, next_places, raise_places, numbers_read, numbers_written, IsFlowOf}
+use Rattle.liveness.specs.Nodes.{IsLivenessNode}
 use Rattle.liveness.proofs.Lists.{place_here, place_next}
 use Rattle.spill.specs.Graphs.{IsLivingOver, IsLostPlace, IsLostNode, AreLostNodes, at_end, before, reloaded_among, wanted_uses, IsWantedPlace}
 
@@ -43,7 +43,7 @@ module _ (m : Mach) (old : flow.Flow) (is : IsFlowOf m old) where
     writes_is : contents x.writes ≡ numbers_written m (i ∷ drop left m.code)
     writes_is = part_is (λ x. contents x.writes) ∙ is.writes (left - 1) ∙ ap (numbers_written m) at
 
-    after_is : left ≡ place_of m (drop left m.code)
+    after_is : left ≡ code_index m (drop left m.code)
     after_is =
         let a = place_next m (left - 1) i (drop left m.code) at in
         let b : suc (left - 1) ≡ left = omega (arith, some) in
@@ -59,13 +59,13 @@ module _ (m : Mach) (old : flow.Flow) (is : IsFlowOf m old) where
         record {
           next = h.next ∙ next_is;
           aside = h.aside;
-          reads = subst (λ k. Made rows (contents y.reads) k (numbers (written m i))) after_is
+          reads = subst (λ k. Made rows (contents y.reads) k (numbers_of_registers (registers_written m i))) after_is
               (subst (Made rows (contents y.reads) left) writes_is h.reads);
-          writes = h.writes ∙ ap (λ ns. ns ++ contents x.writes) reads_is ∙ ap (λ ns. numbers i.args ++ ns) writes_is;
+          writes = h.writes ∙ ap (λ ns. ns ++ contents x.writes) reads_is ∙ ap (λ ns. numbers_of_registers i.args ++ ns) writes_is;
         }
 
     pub wanted_node_is : (lost : List (List Bool)) (y : place.Place) → IsWantedPlace lost (left - 1) i.args x y →
-        IsNode m (wanted_uses m lost) (i ∷ drop left m.code) y
+        IsLivenessNode m (wanted_uses m lost) (i ∷ drop left m.code) y
     wanted_node_is lost y h =
         record {
           next = h.next ∙ next_is;
@@ -74,7 +74,7 @@ module _ (m : Mach) (old : flow.Flow) (is : IsFlowOf m old) where
           writes = h.writes ∙ writes_is;
         }
 
-pub bare_wanted : (m : Mach) (lost : List (List Bool)) (last : place.Place) → IsBare last → IsNode m (wanted_uses m lost) [] last
+pub bare_wanted : (m : Mach) (lost : List (List Bool)) (last : place.Place) → IsBare last → IsLivenessNode m (wanted_uses m lost) [] last
 bare_wanted m lost last h = record { next = h.next; aside = h.aside; reads = h.reads; writes = h.writes }
 
 module _ (m : Mach) (rows : List (List Bool)) (bound : ℕ) where

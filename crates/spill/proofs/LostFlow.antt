@@ -12,13 +12,13 @@ use Rattle.dataflow.specs.declared.flow.Flow as flow
 use Rattle.dataflow.specs.declared.flow.Place as place
 use Rattle.mach_ir.specs.Acts.{Target, On}
 use Rattle.mach_ir.specs.Graph.{IsLiveMap}
-use Rattle.mach_ir.specs.Meaning.{Everything, destroyed_by, code_at, written}
-use Rattle.mach_ir.specs.Walks.{OneOf, targets, goes, Leads, Live, Writes, Stands}
+use Rattle.mach_ir.specs.Meaning.{Everything, destroyed_by, code_at, registers_written}
+use Rattle.mach_ir.specs.Walks.{OneOf, targets, goes, WalkStep, Live, Writes, StandsAsInstr}
 use Rattle.mach_ir.specs.declared.graph.LiveMap.{LiveMap}
 use Rattle.mach_ir.specs.declared.mach.Instr.{Instr}
 use Rattle.mach_ir.specs.declared.mach.Mach.{Mach}
 use Rattle.mach_laws.specs.Expand.{Ending}
-use Rattle.mach_laws.specs.Graph.{place_of, numbers, next_places, numbers_read, numbers_written, IsFlowOf}
+use Rattle.mach_laws.specs.Graph.{code_index, numbers_of_registers, next_places, numbers_read, numbers_written, IsFlowOf}
 use Rattle.mach_laws.proofs.Places.{ending_next, stands_of, ending_of}
 use Rattle.mach_laws.proofs.Walking.{place_is, among_numbers, in_numbers, place_back, place_within, ending_place, ending_leads}
 use Rattle.spill_rules.specs.Chosen.{lives, Lost, over, still}
@@ -26,7 +26,7 @@ use Rattle.spill.specs.Graphs.{IsMadeBefore, IsLostNode, AreLostNodes, at_end, b
 use Rattle.spill.specs.Tables.{AreLost}
 use Rattle.liveness.proofs.Steps.{each, destroys_on, Steps, steps_of, steps_to, IsWithin, next_within, reads_small, writes_small, live_small}
 
-module _ (m : Mach) (live : LiveMap) (exact : IsLiveMap m live) (old : flow.Flow) (is : IsFlowOf m old) (formed : flows.WellFormed old) where
+module _ (m : Mach) (live : LiveMap) (exact : IsLiveMap m live) (old : flow.Flow) (is : IsFlowOf m old) (formed : flows.IsFlowFormed old) where
   abbrev rows : List (List Bool)
   rows = live.before.rows.items
 
@@ -90,7 +90,7 @@ module _ (m : Mach) (live : LiveMap) (exact : IsLiveMap m live) (old : flow.Flow
         let a = at o le in
         none_in q (subst (λ xs. Contains xs q) (a.part (λ x. contents x.aside) ∙ (a.is_node).aside) c)
 
-    turned : {i : Instr} {next : List Instr} (n : ℕ) (t : Target) → t ≡ On → Stands i next m.code → destroyed_by i.op ≡ Everything →
+    turned : {i : Instr} {next : List Instr} (n : ℕ) (t : Target) → t ≡ On → StandsAsInstr i next m.code → destroyed_by i.op ≡ Everything →
         (Writes m i n → ⊥) → OneOf t (targets i.op) → Live m n next → Lost m n (code_at m.code next t)
     turned {i} {next} n t e s d w o v =
         subst (λ t. Lost m n (code_at m.code next t)) (sym e)
@@ -105,19 +105,19 @@ module _ (m : Mach) (live : LiveMap) (exact : IsLiveMap m live) (old : flow.Flow
         subst (Lost m n) (sym s.to)
         (turned n s.target (destroys_on i.op s.target x.0 s.one) (stands_of ending) x.0
         (λ a. (x.1).1.unwritten (in_numbers a)) s.one
-        (subst (Live m n) (place_is m (ending_next ending)) ((exact.exact (place_of m next) n).0 (x.1).1.live)))
+        (subst (Live m n) (place_is m (ending_next ending)) ((exact.exact (code_index m next) n).0 (x.1).1.live)))
 
     kept : (n o q : ℕ) → o ≤ length m.code → Steps m o q → (Contains (g.writes o) n → ⊥) → Lost m n (drop o m.code) → Lost m n (drop q m.code)
     kept n o q le s w h =
         let i = s.instr in
         let next = s.next in
         let a = at o le in
-        let ends : g.writes o ≡ numbers i.args ++ numbers (written m i) =
+        let ends : g.writes o ≡ numbers_of_registers i.args ++ numbers_of_registers (registers_written m i) =
         a.part (λ x. contents x.writes) ∙ (a.is_node).writes ∙ ap (λ rest. numbers_read rest ++ numbers_written m rest) s.is in
-        let out : Contains (numbers i.args ++ numbers (written m i)) n → ⊥ = λ c. w (subst (λ xs. Contains xs n) (sym ends) c) in
+        let out : Contains (numbers_of_registers i.args ++ numbers_of_registers (registers_written m i)) n → ⊥ = λ c. w (subst (λ xs. Contains xs n) (sym ends) c) in
         subst (Lost m n) (sym s.to)
-        (still (subst (Lost m n) s.is h) (λ z. out (Contains-append_left (numbers i.args) (numbers (written m i)) n (in_numbers z)))
-        (λ z. out (Contains-append_right (numbers i.args) (numbers (written m i)) n (in_numbers z))) (goes s.target s.one))
+        (still (subst (Lost m n) s.is h) (λ z. out (Contains-append_left (numbers_of_registers i.args) (numbers_of_registers (registers_written m i)) n (in_numbers z)))
+        (λ z. out (Contains-append_right (numbers_of_registers i.args) (numbers_of_registers (registers_written m i)) n (in_numbers z))) (goes s.target s.one))
 
     stepped : (k n o p : ℕ) → ((q : ℕ) → q ≤ length m.code → ComesIn g n k q → Lost m n (drop q m.code)) → Contains (g.next o) p →
         Contains (g.reads o) n ⊎ ((Contains (g.writes o) n → ⊥) × ComesIn g n k o) → Lost m n (drop p m.code)
@@ -139,21 +139,21 @@ module _ (m : Mach) (live : LiveMap) (exact : IsLiveMap m live) (old : flow.Flow
     lost_ends (over (lives s d w l v)) = ending_leads l (ending_of s)
     lost_ends (still h a w l) = ending_leads l (lost_ends h)
 
-    goes_to : {i : Instr} {next to : List Instr} (p : ℕ) → Ending (i ∷ next) m.code → Leads m i next to → p ≤ length m.code → drop p m.code ≡ to →
-        Contains (g.next (place_of m (i ∷ next))) p
+    goes_to : {i : Instr} {next to : List Instr} (p : ℕ) → Ending (i ∷ next) m.code → WalkStep m i next to → p ≤ length m.code → drop p m.code ≡ to →
+        Contains (g.next (code_index m (i ∷ next))) p
     goes_to {i} {next} {to} p e l le h =
-        let o = place_of m (i ∷ next) in
+        let o = code_index m (i ∷ next) in
         let a = at o (place_within m (i ∷ next)) in
         subst (λ xs. Contains xs p) (sym (a.part (λ x. contents x.next) ∙ (a.is_node).next ∙ ap (next_places m) (place_is m e)))
         (subst (Contains (next_places m (i ∷ next))) (place_back m p to le h) (steps_to m l))
 
-    next_live : {i : Instr} {next to : List Instr} {n : ℕ} → destroyed_by i.op ≡ Everything → Leads m i next to → Live m n to → Live m n next
+    next_live : {i : Instr} {next to : List Instr} {n : ℕ} → destroyed_by i.op ≡ Everything → WalkStep m i next to → Live m n to → Live m n next
     next_live {i} {next} {n = n} d (goes t o) v = subst (λ t. Live m n (code_at m.code next t)) (destroys_on i.op t d o) v
 
     comes_to : {n : ℕ} {rest : List Instr} → Lost m n rest → (p : ℕ) → p ≤ length m.code → drop p m.code ≡ rest → ComesTo g p n
     comes_to {n} (over {i = i} {next = next} (lives s d w l v)) p le e =
         let ending = ending_of s in
-        let o = place_of m (i ∷ next) in
+        let o = code_index m (i ∷ next) in
         let a = at o (place_within m (i ∷ next)) in
         let after = next_live d l v in
         let made : IsMadeBefore m rows old.bound (i ∷ next) n = (
@@ -161,8 +161,8 @@ module _ (m : Mach) (live : LiveMap) (exact : IsLiveMap m live) (old : flow.Flow
           (
             live_small m old is formed after (ending_next ending),
             record {
-              live = (exact.exact (place_of m next) n).1 (subst (Live m n) (sym (place_is m (ending_next ending))) after);
-              unwritten = λ c. w (among_numbers n (written m i) c);
+              live = (exact.exact (code_index m next) n).1 (subst (Live m n) (sym (place_is m (ending_next ending))) after);
+              unwritten = λ c. w (among_numbers n (registers_written m i) c);
             },
           ),
         ) in (
@@ -176,10 +176,10 @@ module _ (m : Mach) (live : LiveMap) (exact : IsLiveMap m live) (old : flow.Flow
         )
     comes_to {n} (still {i = i} {next = next} h r w l) p le e =
         let ending = lost_ends h in
-        let o = place_of m (i ∷ next) in
+        let o = code_index m (i ∷ next) in
         let a = at o (place_within m (i ∷ next)) in
         let b = comes_to h o (place_within m (i ∷ next)) (place_is m ending) in
-        let ends : g.writes o ≡ numbers i.args ++ numbers (written m i) =
+        let ends : g.writes o ≡ numbers_of_registers i.args ++ numbers_of_registers (registers_written m i) =
         a.part (λ x. contents x.writes) ∙ (a.is_node).writes ∙ ap (λ rest. numbers_read rest ++ numbers_written m rest) (place_is m ending) in (
           suc b.0,
           inl (
@@ -187,8 +187,8 @@ module _ (m : Mach) (live : LiveMap) (exact : IsLiveMap m live) (old : flow.Flow
             goes_to p ending l le e,
             inr (
               λ c.
-                  ⊎_elim (λ z. r (among_numbers n i.args z)) (λ z. w (among_numbers n (written m i) z))
-                  (Contains-append_cases (numbers i.args) (numbers (written m i)) n (subst (λ xs. Contains xs n) ends c)),
+                  ⊎_elim (λ z. r (among_numbers n i.args z)) (λ z. w (among_numbers n (registers_written m i) z))
+                  (Contains-append_cases (numbers_of_registers i.args) (numbers_of_registers (registers_written m i)) n (subst (λ xs. Contains xs n) ends c)),
               b.1,
             ),
           ),
@@ -205,7 +205,7 @@ module _ (m : Mach) (live : LiveMap) (exact : IsLiveMap m live) (old : flow.Flow
 
     -- ---- the graph is one
 
-    pub lost_formed : flows.WellFormed f
+    pub lost_formed : flows.IsFlowFormed f
     lost_formed = λ k d lt. subst (IsPlace (length (contents f.places)) f.bound) (sym ((at k (inner k lt)).item d)) (fits k (inner k lt))
       where
         inner : (k : ℕ) → k < length (contents f.places) → k ≤ length m.code

@@ -1,7 +1,7 @@
 //! The function with its stores and reloads.
 ghost use Rattle.std.specs.Prelude.{◌≡◌, ◌+◌, ◌<◌, ◌++◌, ◌^◌, suc, length, IfOk};
 ghost use Rattle.mach_ir.specs.Sizes.{number_limit};
-ghost use Rattle.spill.specs.Copies.{HaveSlots, CodeHasSlots, slot_of, reloads_at, spills_at, instr_at, code_at};
+ghost use Rattle.spill.specs.Copies.{HaveSlots, CodeHasSlots, slot_register, reloads_at, spills_at, instr_with_copies, spilled_code};
 
 use crate::tables::Tables;
 use crate::wanted::is_reloaded;
@@ -13,7 +13,7 @@ use std::alloc::{AllocError, Global};
 /// The register of the slot.
 fn slot_of(free: u32, reg: Reg) -> Reg
     requires { free + reg.number < number_limit }
-    ensures { result ≡ slot_of free reg }
+    ensures { result ≡ slot_register free reg }
 {
     Reg {
         number: free + reg.number,
@@ -73,7 +73,7 @@ fn push_instr(
     requires fits { suc place < 2 ^ 64 }
     requires args { HaveSlots tables.now.free instr.args }
     requires results { HaveSlots tables.now.free instr.results }
-    ensures { IfOk result (λ _. made.new ≡ instr_at tables.now place instr ++ made.old) }
+    ensures { IfOk result (λ _. made.new ≡ instr_with_copies tables.now place instr ++ made.old) }
 {
     let reloads = reloads_at(alloc, tables, place, instr.args.as_slice())?;
     let spills = spills_at(alloc, tables, place + 1, instr.results.as_slice())?;
@@ -89,7 +89,7 @@ pub fn spill_code(
     code: Seq<Instr>,
 ) -> Result<Seq<Instr>, AllocError>
     requires { CodeHasSlots tables.now.free code }
-    ensures { IfOk result (λ made. made ≡ code_at tables.now (length code) code) }
+    ensures { IfOk result (λ made. made ≡ spilled_code tables.now (length code) code) }
 {
     let mut items = code.into_vec();
     let mut made = Backward::with_capacity(alloc, items.len())?;

@@ -1,9 +1,9 @@
 //! Which registers are lost before each place.
 ghost use Rattle.std.specs.Prelude.{◌↔◌, IsTrue, IfOk};
-ghost use Rattle.dataflow.specs.Flow.{WellFormed};
+ghost use Rattle.dataflow.specs.Flow.{IsFlowFormed};
 ghost use Rattle.mach_ir.specs.Graph.{IsLiveMap};
 ghost use Rattle.mach_laws.specs.Graph.{IsFlowOf};
-ghost use Rattle.spill.specs.Graphs.{LivesAt, AreLivingOver, AreMade, IsLostPlace, AreLostNodes};
+ghost use Rattle.spill.specs.Graphs.{LivesUnwritten, AreLivingOver, AreMade, IsLostPlace, AreLostNodes};
 ghost use Rattle.spill.specs.Tables.{AreLost};
 
 use crate::lists::{copy_of, is_among, joined};
@@ -15,7 +15,7 @@ use std::alloc::{AllocError, Global};
 
 /// Whether the number is live at the place after an instruction which writes others.
 fn lives_over(live: &LiveMap, after: usize, written: &[u32], number: u32) -> bool
-    ensures { IsTrue result ↔ LivesAt live.now.before.rows.items after written.now number }
+    ensures { IsTrue result ↔ LivesUnwritten live.now.before.rows.items after written.now number }
 {
     live.before.contains(after, number) && !is_among(number, written)
 }
@@ -112,7 +112,7 @@ fn lost_places(
 /// The only error is want of memory.
 pub fn lost(alloc: Global, mach: &Mach, live: &LiveMap, flow: &Flow) -> Result<Rows, AllocError>
     requires flow { IsFlowOf mach.now flow.now }
-    requires formed { WellFormed flow.now }
+    requires formed { IsFlowFormed flow.now }
     requires live { IsLiveMap mach.now live.now }
     ensures { IfOk result (λ rows. AreLost mach.now rows.rows.items) }
 {

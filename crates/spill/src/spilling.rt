@@ -4,7 +4,7 @@ ghost use Rattle.mach_ir.specs.Formed.{WellFormed};
 ghost use Rattle.mach_ir.specs.Placed.{WellPlaced};
 ghost use Rattle.mach_ir.specs.Sizes.{HasRoom, IsCountable};
 ghost use Rattle.spill_rules.specs.Chosen.{IsSpilled, ParamsPlaced, IsChosenKept, spilled_size};
-ghost use Rattle.spill.specs.Tables.{AreTables};
+ghost use Rattle.spill.specs.Tables.{AreSpillTables};
 
 use crate::copies::spill_code;
 use crate::lost::lost;
@@ -17,7 +17,7 @@ use std::alloc::{AllocError, Global};
 /// The tables of a function.
 fn tables_of(alloc: Global, mach: &Mach) -> Result<Tables, AllocError>
     requires countable { IsCountable mach.now }
-    ensures { IfOk result (AreTables mach.now) }
+    ensures { IfOk result (AreSpillTables mach.now) }
 {
     let free = first_free(mach);
     let LiveFlow { flow, live } = live_flow(alloc, mach)?;

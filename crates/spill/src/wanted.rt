@@ -1,13 +1,13 @@
 //! Which registers are wanted before each place.
 ghost use Rattle.std.specs.Prelude.{◌≡◌, ◌&&◌, IfOk};
 ghost use Rattle.bs_bits.specs.Set.{has};
-ghost use Rattle.dataflow.specs.Flow.{WellFormed};
-ghost use Rattle.dataflow.specs.Rows.{row};
-ghost use Rattle.liveness.specs.Nodes.{AreNodes};
+ghost use Rattle.dataflow.specs.Flow.{IsFlowFormed};
+ghost use Rattle.dataflow.specs.Rows.{set_in_row};
+ghost use Rattle.liveness.specs.Nodes.{AreLivenessNodes};
 ghost use Rattle.mach_laws.specs.Graph.{IsFlowOf};
 ghost use Rattle.spill.specs.Graphs.{reloaded_among, wanted_uses, IsWantedPlace};
 ghost use Rattle.spill.specs.Tables.{AreLost, AreWanted};
-ghost use Rattle.mach_ir.specs.Places.{is_open};
+ghost use Rattle.mach_ir.specs.Places.{is_unset_location};
 
 use crate::lists::copy_of;
 use bs_words::List;
@@ -18,7 +18,7 @@ use std::alloc::{AllocError, Global};
 
 /// Whether the operand is reloaded at the place: its place is open, and it is lost there.
 pub fn is_reloaded(lost: &Rows, place: usize, reg: &Reg) -> bool
-    ensures { result ≡ (is_open reg.now.loc && has (row lost.now.rows.items place) reg.now.number) }
+    ensures { result ≡ (is_unset_location reg.now.loc && has (set_in_row lost.now.rows.items place) reg.now.number) }
 {
     reg.is_open() && lost.contains(place, reg.number)
 }
@@ -73,7 +73,7 @@ fn wanted_places(
 ) -> Result<Vec<Place>, AllocError>
     requires { IsFlowOf mach.now flow.now }
     ensures { IfOk result (λ nodes.
-        AreNodes mach.now (wanted_uses mach.now lost.now.rows.items) mach.now.code nodes.items) }
+        AreLivenessNodes mach.now (wanted_uses mach.now lost.now.rows.items) mach.now.code nodes.items) }
 {
     let code = mach.code.as_slice();
     let mut nodes = Backward::with_capacity(alloc, flow.places.len())?;
@@ -92,7 +92,7 @@ fn wanted_places(
 /// they are reloaded, with no write of them before. The only error is want of memory.
 pub fn wanted(alloc: Global, mach: &Mach, lost: &Rows, flow: &Flow) -> Result<Rows, AllocError>
     requires flow { IsFlowOf mach.now flow.now }
-    requires formed { WellFormed flow.now }
+    requires formed { IsFlowFormed flow.now }
     requires lost { AreLost mach.now lost.now.rows.items }
     ensures { IfOk result (λ rows. AreWanted mach.now rows.rows.items) }
 {

@@ -8,13 +8,13 @@ use Rattle.bs_words.specs.declared.types.Comp.{Comp}
 use Rattle.bs_words.specs.declared.types.Loc.TheVariants as loc
 use Rattle.bs_words.proofs.Lists.{none_in, first_in, later_in, mapped, head_same}
 use Rattle.mach_ir.specs.Acts.{Target, On}
-use Rattle.mach_ir.specs.Formed.{comps, MarkHasForm, exit_form, if_form, else_form, switch_form, case_form, catch_form, with_form, try_form, leave_form, handler_form, end_form, IsFormed, formed_op, formed_mark, WellFormed}
+use Rattle.mach_ir.specs.Formed.{comps, MarkHasForm, exit_form, if_form, else_form, switch_form, case_form, catch_form, with_form, try_form, leave_form, handler_form, end_form, IsFormedInstruction, formed_op, formed_mark, WellFormed}
 use Rattle.mach_ir.specs.Forms as forms
 use Rattle.mach_ir.specs.Forms.{HasForm}
 use Rattle.mach_ir.specs.Meaning.{code_at}
 use Rattle.mach_ir.specs.Placed.{WellPlaced}
-use Rattle.mach_ir.specs.Seats.{argument_places, InOrder, AreSeated, in_order, places_of, Seated}
-use Rattle.mach_ir.specs.Walks.{Among, OneOf, targets, goes, Leads, Writes, Live, read, on, aside, IsRegister, is_param, is_in_code, Stands, here, below}
+use Rattle.mach_ir.specs.Seats.{argument_locations, InOrder, AreSeated, in_order, places_of, Seated}
+use Rattle.mach_ir.specs.Walks.{AmongRegisters, OneOf, targets, goes, WalkStep, Writes, Live, read, on, aside, IsRegister, is_param, is_in_code, StandsAsInstr, here, below}
 use Rattle.mach_ir.specs.declared.op.CopyKind.TheVariants as copy
 use Rattle.mach_ir.specs.declared.op.Op.{Op}
 use Rattle.mach_ir.specs.declared.reg.Reg.{Reg}
@@ -29,9 +29,9 @@ use Rattle.mach_laws.proofs.Among.{number_among, among_of}
 use Rattle.places_rules.proofs.Open.{machine_open}
 use Rattle.places_rules.proofs.Lists.{was}
 use Rattle.split_rules.proofs.Result.{comes_write}
-use Rattle.split_rules.specs.Writes.{Comes, from_entry, from_write, past, past_raise, IsWrite, by_entry, by_instr}
-use Rattle.spill_rules.specs.Chosen.{LivesOver, Lost, over, still, IsReloaded, IsChosen, IsSpilled, ParamsPlaced, IsNeededSlot, IsChosenKept}
-use Rattle.spill_rules.specs.Spilled.{Plan, copied, reload, spill, reloads_of, spills_of, has_operands, has_results, operands_of, results_of, spilled_instr, spilled, IsPlan, IsKept}
+use Rattle.split_rules.specs.Writes.{WriteReaches, from_entry, from_write, past, past_raise, IsWrite, by_entry, by_instr}
+use Rattle.spill_rules.specs.Chosen.{LivesOver, Lost, over, still, IsReloaded, IsSpillChoice, IsSpilled, ParamsPlaced, IsNeededSlot, IsChosenKept}
+use Rattle.spill_rules.specs.Spilled.{SpillPlan, copy_instruction, reload, spill, reloads_of, spills_of, has_operands, has_results, operand_registers, written_results, spilled_instr, spilled, IsSpillPlan, IsSpillKept}
 use Rattle.spill_rules.proofs.Formed.{spilled_formed}
 use Rattle.spill_rules.proofs.Kept.{Which, own, slotted, WasRegister, IsCopiedAt, by_reload, by_spill, was_register}
 use Rattle.spill_rules.proofs.Placed.{spilled_placed, spilled_seated}
@@ -43,11 +43,11 @@ use Rattle.spill_rules.proofs.Whole.{spilled_keeps, within_bounds, few_reloads, 
 pub same_rest : {a b code : List Instr} → Ending a code → Ending b code → length a ≡ length b → a ≡ b
 same_rest {code = code} e h len = sym (drop_ending e) ∙ ap (λ k. drop (length code - k) code) len ∙ drop_ending h
 
-pub same_instr : {i j : Instr} {next rest code : List Instr} → Stands i next code → Stands j rest code → length next ≡ length rest →
+pub same_instr : {i j : Instr} {next rest code : List Instr} → StandsAsInstr i next code → StandsAsInstr j rest code → length next ≡ length rest →
     i ∷ next ≡ j ∷ rest
 same_instr s t len = same_rest (ending_of s) (ending_of t) (ap suc len)
 
-pub not_whole : {i : Instr} {next code : List Instr} → Stands i next code → length next ≡ length code → ⊥
+pub not_whole : {i : Instr} {next code : List Instr} → StandsAsInstr i next code → length next ≡ length code → ⊥
 not_whole s e = let le = ending_short (ending_of s) in omega (arith, le, e)
 
 -- ---- what has results goes on
@@ -87,7 +87,7 @@ mark_on f cs ds leave_form some = absurd (some refl)
 mark_on f cs ds handler_form some = refl
 mark_on f cs ds end_form some = absurd (some refl)
 
-pub goes_on : {i : Instr} (r : Reg) → IsFormed i → Contains i.results r → targets i.op ≡ On ∷ []
+pub goes_on : {i : Instr} (r : Reg) → IsFormedInstruction i → Contains i.results r → targets i.op ≡ On ∷ []
 goes_on r (formed_op {f = f} {args = args} {results = results} h) c =
     op_on f (comps args) (comps results) h (λ e. no_result results r e c)
 goes_on r (formed_mark {f = f} {args = args} {results = results} h) c =
@@ -98,9 +98,9 @@ goes_on r (formed_mark {f = f} {args = args} {results = results} h) c =
 module _ (m : Mach) (n : ℕ) where
   data Begun : List Instr → Type 0 where
     at_start : Live m n m.code → Begun m.code
-    at_instr : {i : Instr} {next to : List Instr} → Stands i next m.code → Writes m i n → Leads m i next to → Live m n to → Begun next
+    at_instr : {i : Instr} {next to : List Instr} → StandsAsInstr i next m.code → Writes m i n → WalkStep m i next to → Live m n to → Begun next
 
-  began : {from to : List Instr} → Comes m n from to → Live m n to → Begun from
+  began : {from to : List Instr} → WriteReaches m n from to → Live m n to → Begun from
   began (from_entry a) v = at_start v
   began (from_write s w l) v = at_instr s w l v
   began (past c w l) v = began c (on w l v)
@@ -118,12 +118,12 @@ module _ (m : Mach) (n : ℕ) where
 
 -- ---- the plan
 
-module _ (m : Mach) (plan : Plan) (formed : WellFormed m) (params : ParamsPlaced m) (chosen : IsChosen m plan) where
+module _ (m : Mach) (plan : SpillPlan) (formed : WellFormed m) (params : ParamsPlaced m) (chosen : IsSpillChoice m plan) where
   abbrev AtCode : ℕ → List Instr → Type 0
   AtCode n [] = ⊥
   AtCode n (i ∷ next) = IsReloaded m i next n
 
-  pub reloaded_here : {i : Instr} {next : List Instr} (n : ℕ) → Stands i next m.code → plan.reloads (length next) n ≡ true → IsReloaded m i next n
+  pub reloaded_here : {i : Instr} {next : List Instr} (n : ℕ) → StandsAsInstr i next m.code → plan.reloads (length next) n ≡ true → IsReloaded m i next n
   reloaded_here {i} {next} n s e =
       let a = (chosen.reloads (length next) n).0 e in
       subst (AtCode n) (same_instr (a.reloaded).stands s a.len) a.reloaded
@@ -133,7 +133,7 @@ module _ (m : Mach) (plan : Plan) (formed : WellFormed m) (params : ParamsPlaced
       let e = formed.numbers h.register r (is_in_code (args_in h.stands h.operand)) k h.number in
       ap (λ (x : Reg). x.loc) (sym e) ∙ h.unset
 
-  stored_by : {from next : List Instr} {i : Instr} (n : ℕ) → IsReloaded m i next n → Comes m n from (i ∷ next) → IsWrite m n from →
+  stored_by : {from next : List Instr} {i : Instr} (n : ℕ) → IsReloaded m i next n → WriteReaches m n from (i ∷ next) → IsWrite m n from →
       plan.spills (length from) n ≡ true
   stored_by n h c (by_entry a) =
       let p = number_among m.params a in
@@ -147,21 +147,21 @@ module _ (m : Mach) (plan : Plan) (formed : WellFormed m) (params : ParamsPlaced
         stored = record { instr = j; stands = s; writes = w; reader = i; rest = next; reloaded = h; comes = c };
       })
 
-  live_next : {i : Instr} {next after : List Instr} (r : Reg) → Stands i next m.code → Contains i.results r → after ≡ next → Begun m r.number after →
+  live_next : {i : Instr} {next after : List Instr} (r : Reg) → StandsAsInstr i next m.code → Contains i.results r → after ≡ next → Begun m r.number after →
       Live m r.number next
   live_next r s c e (at_start v) = absurd (not_whole s (sym (ap length e)))
   live_next {i} {next} {after} r s c e (at_instr {i = j} {to = to} t w (goes x o) v) =
       let same : j ∷ after ≡ i ∷ next = same_instr t s (ap length e) in
       let to_on : x ≡ On =
       only_on x
-      (subst (OneOf x) (ap (λ (i : Instr). targets i.op) (head_same same) ∙ goes_on r (All-contains IsFormed m.code i formed.instrs (contains_of s)) c) o) in
+      (subst (OneOf x) (ap (λ (i : Instr). targets i.op) (head_same same) ∙ goes_on r (All-contains IsFormedInstruction m.code i formed.instrs (contains_of s)) c) o) in
       turned x to_on v
     where
       turned : (x : Target) → x ≡ On → Live m r.number (code_at m.code after x) → Live m r.number next
       turned x h v =
           subst (Live m r.number) e (subst (λ x. Live m r.number (code_at m.code after x)) h v)
 
-  useful : (i : Instr) (next : List Instr) (r : Reg) → Stands i next m.code → Contains i.results r → plan.spills (length next) r.number ≡ true →
+  useful : (i : Instr) (next : List Instr) (r : Reg) → StandsAsInstr i next m.code → Contains i.results r → plan.spills (length next) r.number ≡ true →
       Live m r.number next
   useful i next r s c e =
       let a = (chosen.spills (length next) r.number).0 e in
@@ -169,12 +169,12 @@ module _ (m : Mach) (plan : Plan) (formed : WellFormed m) (params : ParamsPlaced
       let h = b.reloaded in
       live_next r s c (same_rest (ending_next (ending_of b.stands)) (ending_next (ending_of s)) a.len)
       (began m r.number b.comes
-      (read (subst (λ n. Among n (b.reader).args) h.number (among_of h.register (b.reader).args h.operand))))
+      (read (subst (λ n. AmongRegisters n (b.reader).args) h.number (among_of h.register (b.reader).args h.operand))))
 
   minus : (a b : ℕ) → a + b - a ≡ b
   minus a b = omega arith
 
-  pub chosen_plan : IsPlan m plan
+  pub chosen_plan : IsSpillPlan m plan
   chosen_plan =
       record {
         back = λ n. n - chosen.free;
@@ -198,7 +198,7 @@ module _ (m : Mach) (plan : Plan) (formed : WellFormed m) (params : ParamsPlaced
   -- ---- slots
 
   module _ (placed : WellPlaced m) where
-    is : IsPlan m plan
+    is : IsSpillPlan m plan
     is = chosen_plan
 
     copied_over : (n : ℕ) → IsCopiedAt m plan formed placed is n → IsOver m n
@@ -226,7 +226,7 @@ module _ (m : Mach) (plan : Plan) (formed : WellFormed m) (params : ParamsPlaced
     twice : (a b c d : ℕ) → a ≡ b + c → b ≤ d → c < d → a < 2 * d
     twice a b c d e le lt = omega (arith, e, le, lt)
 
-    all_kept : IsKept m (spilled plan m) plan
+    all_kept : IsSpillKept m (spilled plan m) plan
     all_kept =
         record {
           keeps = spilled_keeps m plan formed placed is;
@@ -242,11 +242,11 @@ module _ (m : Mach) (plan : Plan) (formed : WellFormed m) (params : ParamsPlaced
           kept = all_kept;
           slots = λ r i. let w = was_register m plan formed placed is r i in needed r w w.which;
           reloads = λ i k.
-              let a = (few_reloads m plan formed placed is k (operands_of i)).0 in
+              let a = (few_reloads m plan formed placed is k (operand_registers i)).0 in
               let b = cond_few m plan formed placed is (has_operands i.op) i.args in
               omega (arith, a, b);
           spills = λ i k.
-              let a = (few_spills m plan formed placed is k (results_of i)).0 in
+              let a = (few_spills m plan formed placed is k (written_results i)).0 in
               let b = cond_few m plan formed placed is (has_results i.op) i.results in
               omega (arith, a, b);
           size = λ s h.
@@ -262,7 +262,7 @@ spilled_kept m q formed placed params s =
 
 -- ---- plans that agree
 
-module _ (p q : Plan) where
+module _ (p q : SpillPlan) where
   abbrev ReloadsAlike : ℕ → List Reg → Type 0
   ReloadsAlike k rs = (r : Reg) → Contains rs r → (p.reloads k r.number ≡ q.reloads k r.number) × (p.slot r.number ≡ q.slot r.number)
 
@@ -277,7 +277,7 @@ module _ (p q : Plan) where
   reloads_same k (r ∷ rs) h =
       let x = h r (first_in r rs) in
       ap (λ b. cond b (reload p r ∷ reloads_of p k rs) (reloads_of p k rs)) x.0
-      ∙ ap (λ s. cond (q.reloads k r.number) (copied copy.Reload (slot_at r s) r ∷ reloads_of p k rs) (reloads_of p k rs)) x.1
+      ∙ ap (λ s. cond (q.reloads k r.number) (copy_instruction copy.Reload (slot_at r s) r ∷ reloads_of p k rs) (reloads_of p k rs)) x.1
       ∙ ap (λ xs. cond (q.reloads k r.number) (reload q r ∷ xs) xs) (reloads_same k rs (λ z c. h z (later_in r z rs c)))
 
   spills_same : (k : ℕ) (rs : List Reg) → SpillsAlike k rs → spills_of p k rs ≡ spills_of q k rs
@@ -285,16 +285,16 @@ module _ (p q : Plan) where
   spills_same k (r ∷ rs) h =
       let x = h r (first_in r rs) in
       ap (λ b. cond b (spill p r ∷ spills_of p k rs) (spills_of p k rs)) x.0
-      ∙ ap (λ s. cond (q.spills k r.number) (copied copy.Spill r (slot_at r s) ∷ spills_of p k rs) (spills_of p k rs)) x.1
+      ∙ ap (λ s. cond (q.spills k r.number) (copy_instruction copy.Spill r (slot_at r s) ∷ spills_of p k rs) (spills_of p k rs)) x.1
       ∙ ap (λ xs. cond (q.spills k r.number) (spill q r ∷ xs) xs) (spills_same k rs (λ z c. h z (later_in r z rs c)))
 
-  instr_same : (k : ℕ) (i : Instr) → ReloadsAlike k (operands_of i) → SpillsAlike k (results_of i) → spilled_instr p k i ≡ spilled_instr q k i
+  instr_same : (k : ℕ) (i : Instr) → ReloadsAlike k (operand_registers i) → SpillsAlike k (written_results i) → spilled_instr p k i ≡ spilled_instr q k i
   instr_same k i a b =
-      ap (λ xs. xs ++ i ∷ spills_of p k (results_of i)) (reloads_same k (operands_of i) a)
-      ∙ ap (λ xs. reloads_of q k (operands_of i) ++ i ∷ xs) (spills_same k (results_of i) b)
+      ap (λ xs. xs ++ i ∷ spills_of p k (written_results i)) (reloads_same k (operand_registers i) a)
+      ∙ ap (λ xs. reloads_of q k (operand_registers i) ++ i ∷ xs) (spills_same k (written_results i) b)
 
   code_same : (code : List Instr) →
-      ((i : Instr) (next : List Instr) → Stands i next code → ReloadsAlike (length next) (operands_of i) × SpillsAlike (length next) (results_of i)) →
+      ((i : Instr) (next : List Instr) → StandsAsInstr i next code → ReloadsAlike (length next) (operand_registers i) × SpillsAlike (length next) (written_results i)) →
       expand (spilled_instr p) code ≡ expand (spilled_instr q) code
   code_same [] h = refl
   code_same (i ∷ is) h =
@@ -304,7 +304,7 @@ module _ (p q : Plan) where
 
   -- Plans that agree on operands and results give one function.
   pub spilled_alike : (m : Mach) →
-      ((i : Instr) (next : List Instr) → Stands i next m.code → ReloadsAlike (length next) (operands_of i) × SpillsAlike (length next) (results_of i)) →
+      ((i : Instr) (next : List Instr) → StandsAsInstr i next m.code → ReloadsAlike (length next) (operand_registers i) × SpillsAlike (length next) (written_results i)) →
       spilled p m ≡ spilled q m
   spilled_alike m h = ap (λ xs. record m { code = xs }) (code_same m.code h)
 
@@ -345,7 +345,7 @@ argument_numbers = 10 ∷ 11 ∷ 12 ∷ 13 ∷ 14 ∷ 15 ∷ 16 ∷ 17 ∷ 18 �
 pub seated_params : (m : Mach) → Seated m → ParamsPlaced m
 seated_params m s = record { placed = λ r c e. by r c e s.params }
   where
-    by : (r : Reg) → Contains m.params r → r.loc ≡ loc.Unset → AreSeated (InOrder argument_places) (places_of m.params) → ⊥
+    by : (r : Reg) → Contains m.params r → r.loc ≡ loc.Unset → AreSeated (InOrder argument_locations) (places_of m.params) → ⊥
     by r c e (in_order others h) =
         let l = mapped (λ (r : Reg). r.loc) m.params r c in
         let w = was loc.Machine argument_numbers r.loc (subst (λ ls. Contains ls r.loc) h (Contains-append_left (places_of m.params) others r.loc l)) in

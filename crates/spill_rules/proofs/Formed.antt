@@ -5,10 +5,10 @@ use Rattle.std.specs.Prelude.{slice_index_or}
 use Rattle.std.proofs.lemmas.List.Elements.{Contains-get_or, All-contains, Contains-append_right}
 use Rattle.std.proofs.lemmas.Bool.{both_ways}
 use Rattle.mach_ir.specs.Acts.{On, At}
-use Rattle.mach_ir.specs.Formed.{IsFormed, AreDistinct, labels_in, HasPlace, place_here, place_below, HasHandler, handler_here, handler_below, LeadsTo, LabelsStand, tries_left, leaves, IsNested, CasesAgree, WellFormed}
+use Rattle.mach_ir.specs.Formed.{IsFormedInstruction, AreDistinct, labels_in, LabelOccursIn, place_here, place_below, HasHandler, handler_here, handler_below, TargetsLabel, LabelsStand, tries_left, leaves, IsNested, CasesAgree, WellFormed}
 use Rattle.mach_ir.specs.Meaning.{after_label, from_handler, tries_at, tries_past}
 use Rattle.mach_ir.specs.Placed.{WellPlaced}
-use Rattle.mach_ir.specs.Walks.{OneOf, other, may_raise, Stands, here, below, IsRegister}
+use Rattle.mach_ir.specs.Walks.{OneOf, other, may_raise, StandsAsInstr, here, below, IsRegister}
 use Rattle.mach_ir.specs.declared.op.CopyKind.{CopyKind}
 use Rattle.mach_ir.specs.declared.op.CopyKind.TheVariants as copy
 use Rattle.mach_ir.specs.declared.op.Leaving.TheVariants as leaving
@@ -22,12 +22,12 @@ use Rattle.mach_laws.specs.Expand.{expand}
 use Rattle.mach_laws.proofs.Places.{label_expand, handler_expand, tries_expand, contains_of, stands_in, place_behind, handler_behind}
 use Rattle.mach_laws.proofs.InPlace.{same_head}
 use Rattle.bs_words.proofs.Lists.{none_in, first_in, in_cons}
-use Rattle.spill_rules.specs.Spilled.{Plan, in_slot, copied, reload, spill, reloads_of, spills_of, operands_of, results_of, spilled_instr, spilled, IsPlan}
+use Rattle.spill_rules.specs.Spilled.{SpillPlan, in_slot, copy_instruction, reload, spill, reloads_of, spills_of, operand_registers, written_results, spilled_instr, spilled, IsSpillPlan}
 use Rattle.spill_rules.proofs.Kept.{Which, own, slotted, was_register, slots_apart}
 use Rattle.spill_rules.proofs.Text.{keeps_marks, copy_formed, copy_no_mark}
 use Rattle.spill_rules.proofs.Whole.{named_in}
 
-module _ (plan : Plan) where
+module _ (plan : SpillPlan) where
   abbrev f : ℕ → Instr → List Instr
   f = spilled_instr plan
 
@@ -63,29 +63,29 @@ module _ (plan : Plan) where
 
   -- the code of an instruction before other code
   laid_out : (k : ℕ) (i : Instr) (zs : List Instr) →
-      f k i ++ zs ≡ reloads_of plan k (operands_of i) ++ (i ∷ (spills_of plan k (results_of i) ++ zs))
-  laid_out k i zs = append_assoc (reloads_of plan k (operands_of i)) (i ∷ spills_of plan k (results_of i)) zs
+      f k i ++ zs ≡ reloads_of plan k (operand_registers i) ++ (i ∷ (spills_of plan k (written_results i) ++ zs))
+  laid_out k i zs = append_assoc (reloads_of plan k (operand_registers i)) (i ∷ spills_of plan k (written_results i)) zs
 
   same_labels : (code : List Instr) → labels_in (expand f code) ≡ labels_in code
   same_labels [] = refl
   same_labels (i ∷ is) =
       ap labels_in (laid_out (length is) i (expand f is))
-      ∙ labels_reloads (length is) (operands_of i) (i ∷ (spills_of plan (length is) (results_of i) ++ expand f is))
-      ∙ same_head i (spills_of plan (length is) (results_of i) ++ expand f is) is
-      (labels_spills (length is) (results_of i) (expand f is) ∙ same_labels is)
+      ∙ labels_reloads (length is) (operand_registers i) (i ∷ (spills_of plan (length is) (written_results i) ++ expand f is))
+      ∙ same_head i (spills_of plan (length is) (written_results i) ++ expand f is) is
+      (labels_spills (length is) (written_results i) (expand f is) ∙ same_labels is)
 
   -- ---- places and handlers
 
-  place_there : {l : ℕ} {code : List Instr} → HasPlace l code → HasPlace l (expand f code)
+  place_there : {l : ℕ} {code : List Instr} → LabelOccursIn l code → LabelOccursIn l (expand f code)
   place_there {l} (place_here {i = i} {is = is} e) =
-      subst (HasPlace l) (sym (laid_out (length is) i (expand f is)))
-      (place_behind (reloads_of plan (length is) (operands_of i)) (i ∷ (spills_of plan (length is) (results_of i) ++ expand f is)) (place_here e))
+      subst (LabelOccursIn l) (sym (laid_out (length is) i (expand f is)))
+      (place_behind (reloads_of plan (length is) (operand_registers i)) (i ∷ (spills_of plan (length is) (written_results i) ++ expand f is)) (place_here e))
   place_there {l} (place_below {i = i} {is = is} h) = place_behind (f (length is) i) (expand f is) (place_there h)
 
   handler_there : {l : ℕ} {code : List Instr} → HasHandler l code → HasHandler l (expand f code)
   handler_there {l} (handler_here {i = i} {is = is} e) =
       subst (HasHandler l) (sym (laid_out (length is) i (expand f is)))
-      (handler_behind (reloads_of plan (length is) (operands_of i)) (i ∷ (spills_of plan (length is) (results_of i) ++ expand f is))
+      (handler_behind (reloads_of plan (length is) (operand_registers i)) (i ∷ (spills_of plan (length is) (written_results i) ++ expand f is))
       (handler_here e))
   handler_there {l} (handler_below {i = i} {is = is} h) = handler_behind (f (length is) i) (expand f is) (handler_there h)
 
@@ -95,39 +95,39 @@ module _ (plan : Plan) where
     is_reload : (k : ℕ) (r : Reg) → plan.reloads k r.number ≡ true → j ≡ reload plan r → IsCopy j
     is_spill : (r : Reg) → j ≡ spill plan r → IsCopy j
 
-  copies_what : {j : Instr} → IsCopy j → (kind : CopyKind) × (from : Reg) × (to : Reg) × (j ≡ copied kind from to)
+  copies_what : {j : Instr} → IsCopy j → (kind : CopyKind) × (from : Reg) × (to : Reg) × (j ≡ copy_instruction kind from to)
   copies_what (is_reload k r t e) = (copy.Reload, in_slot plan r, r, e)
   copies_what (is_spill r e) = (copy.Spill, r, in_slot plan r, e)
 
   -- an instruction of the first, with the code after it
   pub record IsMain (j : Instr) (ys code : List Instr) : Type 0 where
     pub next : List Instr
-    pub stands : Stands j next code
-    pub same : spills_of plan (length next) (results_of j) ++ expand f next ≡ ys
+    pub stands : StandsAsInstr j next code
+    pub same : spills_of plan (length next) (written_results j) ++ expand f next ≡ ys
 
-  main_reloads : (k : ℕ) (rs : List Reg) (j : Instr) (ys zs : List Instr) → Stands j ys (reloads_of plan k rs ++ zs) → IsCopy j ⊎ Stands j ys zs
+  main_reloads : (k : ℕ) (rs : List Reg) (j : Instr) (ys zs : List Instr) → StandsAsInstr j ys (reloads_of plan k rs ++ zs) → IsCopy j ⊎ StandsAsInstr j ys zs
   main_reloads k [] j ys zs s = inr s
   main_reloads k (r ∷ rs) j ys zs s = by (plan.reloads k r.number) refl (λ z. main_reloads k rs j ys zs z) s
     where
-      one : {xs : List Instr} {x : Instr} → plan.reloads k r.number ≡ true → x ≡ reload plan r → (Stands j ys xs → IsCopy j ⊎ Stands j ys zs) → Stands j ys (x ∷ xs) → IsCopy j ⊎ Stands j ys zs
+      one : {xs : List Instr} {x : Instr} → plan.reloads k r.number ≡ true → x ≡ reload plan r → (StandsAsInstr j ys xs → IsCopy j ⊎ StandsAsInstr j ys zs) → StandsAsInstr j ys (x ∷ xs) → IsCopy j ⊎ StandsAsInstr j ys zs
       one t e ih here = inl (is_reload k r t e)
       one t e ih (below z) = ih z
 
-      by : (b : Bool) → plan.reloads k r.number ≡ b → (Stands j ys (reloads_of plan k rs ++ zs) → IsCopy j ⊎ Stands j ys zs) →
-          Stands j ys (cond b (reload plan r ∷ reloads_of plan k rs) (reloads_of plan k rs) ++ zs) → IsCopy j ⊎ Stands j ys zs
+      by : (b : Bool) → plan.reloads k r.number ≡ b → (StandsAsInstr j ys (reloads_of plan k rs ++ zs) → IsCopy j ⊎ StandsAsInstr j ys zs) →
+          StandsAsInstr j ys (cond b (reload plan r ∷ reloads_of plan k rs) (reloads_of plan k rs) ++ zs) → IsCopy j ⊎ StandsAsInstr j ys zs
       by true t ih s = one t refl ih s
       by false t ih s = ih s
 
-  main_spills : (k : ℕ) (rs : List Reg) (j : Instr) (ys zs : List Instr) → Stands j ys (spills_of plan k rs ++ zs) → IsCopy j ⊎ Stands j ys zs
+  main_spills : (k : ℕ) (rs : List Reg) (j : Instr) (ys zs : List Instr) → StandsAsInstr j ys (spills_of plan k rs ++ zs) → IsCopy j ⊎ StandsAsInstr j ys zs
   main_spills k [] j ys zs s = inr s
   main_spills k (r ∷ rs) j ys zs s = by (plan.spills k r.number) (λ z. main_spills k rs j ys zs z) s
     where
-      one : {xs : List Instr} {x : Instr} → x ≡ spill plan r → (Stands j ys xs → IsCopy j ⊎ Stands j ys zs) → Stands j ys (x ∷ xs) → IsCopy j ⊎ Stands j ys zs
+      one : {xs : List Instr} {x : Instr} → x ≡ spill plan r → (StandsAsInstr j ys xs → IsCopy j ⊎ StandsAsInstr j ys zs) → StandsAsInstr j ys (x ∷ xs) → IsCopy j ⊎ StandsAsInstr j ys zs
       one e ih here = inl (is_spill r e)
       one e ih (below z) = ih z
 
-      by : (b : Bool) → (Stands j ys (spills_of plan k rs ++ zs) → IsCopy j ⊎ Stands j ys zs) →
-          Stands j ys (cond b (spill plan r ∷ spills_of plan k rs) (spills_of plan k rs) ++ zs) → IsCopy j ⊎ Stands j ys zs
+      by : (b : Bool) → (StandsAsInstr j ys (spills_of plan k rs ++ zs) → IsCopy j ⊎ StandsAsInstr j ys zs) →
+          StandsAsInstr j ys (cond b (spill plan r ∷ spills_of plan k rs) (spills_of plan k rs) ++ zs) → IsCopy j ⊎ StandsAsInstr j ys zs
       by true ih s = one refl ih s
       by false ih s = ih s
 
@@ -135,23 +135,23 @@ module _ (plan : Plan) where
   further_on i (inl c) = inl c
   further_on i (inr w) = inr (record { next = w.next; stands = below w.stands; same = w.same })
 
-  pub was_main : (code : List Instr) (j : Instr) (ys : List Instr) → Stands j ys (expand f code) → IsCopy j ⊎ IsMain j ys code
+  pub was_main : (code : List Instr) (j : Instr) (ys : List Instr) → StandsAsInstr j ys (expand f code) → IsCopy j ⊎ IsMain j ys code
   was_main [] j ys s = elim s [ ]
   was_main (i ∷ is) j ys s =
       ⊎_elim inl (λ z. of_main z (λ h. was_main is j ys h))
-      (main_reloads (length is) (operands_of i) j ys (i ∷ (spills_of plan (length is) (results_of i) ++ expand f is))
-      (subst (Stands j ys) (laid_out (length is) i (expand f is)) s))
+      (main_reloads (length is) (operand_registers i) j ys (i ∷ (spills_of plan (length is) (written_results i) ++ expand f is))
+      (subst (StandsAsInstr j ys) (laid_out (length is) i (expand f is)) s))
     where
-      at_head : {x : Instr} {zs : List Instr} → i ≡ x → spills_of plan (length is) (results_of i) ++ expand f is ≡ zs →
-          Stands j ys (x ∷ zs) → (Stands j ys zs → IsCopy j ⊎ IsMain j ys (i ∷ is)) → IsCopy j ⊎ IsMain j ys (i ∷ is)
+      at_head : {x : Instr} {zs : List Instr} → i ≡ x → spills_of plan (length is) (written_results i) ++ expand f is ≡ zs →
+          StandsAsInstr j ys (x ∷ zs) → (StandsAsInstr j ys zs → IsCopy j ⊎ IsMain j ys (i ∷ is)) → IsCopy j ⊎ IsMain j ys (i ∷ is)
       at_head e h here ih = inr (subst (λ j. IsMain j ys (i ∷ is)) e (record { next = is; stands = here; same = h }))
       at_head e h (below z) ih = ih z
 
-      of_main : Stands j ys (i ∷ (spills_of plan (length is) (results_of i) ++ expand f is)) →
-          (Stands j ys (expand f is) → IsCopy j ⊎ IsMain j ys is) → IsCopy j ⊎ IsMain j ys (i ∷ is)
+      of_main : StandsAsInstr j ys (i ∷ (spills_of plan (length is) (written_results i) ++ expand f is)) →
+          (StandsAsInstr j ys (expand f is) → IsCopy j ⊎ IsMain j ys is) → IsCopy j ⊎ IsMain j ys (i ∷ is)
       of_main z ih =
           at_head refl refl z
-          (λ h. ⊎_elim inl (λ g. further_on i (ih g)) (main_spills (length is) (results_of i) j ys (expand f is) h))
+          (λ h. ⊎_elim inl (λ g. further_on i (ih g)) (main_spills (length is) (written_results i) j ys (expand f is) h))
 
   -- a main has the tries that it had
   main_tries : {j : Instr} {ys code : List Instr} (w : IsMain j ys code) → tries_at (j ∷ ys) ≡ tries_at (j ∷ w.next)
@@ -159,12 +159,12 @@ module _ (plan : Plan) where
     where
       after_tries : {j : Instr} {ys code : List Instr} (w : IsMain j ys code) → tries_at ys ≡ tries_at w.next
       after_tries {j} w =
-          sym (ap tries_at w.same) ∙ tries_spills (length w.next) (results_of j) (expand f w.next)
+          sym (ap tries_at w.same) ∙ tries_spills (length w.next) (written_results j) (expand f w.next)
           ∙ tries_expand f (keeps_marks plan) w.next
 
   next_tries : {j : Instr} {ys code : List Instr} (w : IsMain j ys code) → tries_at ys ≡ tries_at w.next
   next_tries {j} w =
-      sym (ap tries_at w.same) ∙ tries_spills (length w.next) (results_of j) (expand f w.next)
+      sym (ap tries_at w.same) ∙ tries_spills (length w.next) (written_results j) (expand f w.next)
       ∙ tries_expand f (keeps_marks plan) w.next
 
   -- what is no copy
@@ -172,8 +172,8 @@ module _ (plan : Plan) where
   main_of not_copy (inl c) = absurd (not_copy c)
   main_of not_copy (inr w) = w
 
-  no_label : (l : ℕ) (j : Instr) → LeadsTo j.op l → IsCopy j → ⊥
-  no_label l j o c = by (subst (λ (j : Instr). LeadsTo j.op l) (copies_what c).3 o)
+  no_label : (l : ℕ) (j : Instr) → TargetsLabel j.op l → IsCopy j → ⊥
+  no_label l j o c = by (subst (λ (j : Instr). TargetsLabel j.op l) (copies_what c).3 o)
     where
       by : OneOf (At l) (On ∷ []) → ⊥
       by (other o) = elim o [ ]
@@ -184,7 +184,7 @@ one_distinct r = λ i j d lt within. absurd (none i j lt within)
     none : (i j : ℕ) → i < j → j < length (r ∷ []) → ⊥
     none i j x y = omega (arith, x, y)
 
-module _ (m : Mach) (plan : Plan) (formed : WellFormed m) (placed : WellPlaced m) (is : IsPlan m plan) where
+module _ (m : Mach) (plan : SpillPlan) (formed : WellFormed m) (placed : WellPlaced m) (is : IsSpillPlan m plan) where
   abbrev q : Mach
   q = spilled plan m
 
@@ -199,13 +199,13 @@ module _ (m : Mach) (plan : Plan) (formed : WellFormed m) (placed : WellPlaced m
             place_there plan ((formed.labels).named i w.next w.stands l o);
         forward = λ i next s l o e.
             let w = main_of plan (no_label plan l i o) (was_main plan m.code i next s) in
-            subst (HasPlace l) w.same
-            (place_behind (spills_of plan (length w.next) (results_of i)) (expand g w.next)
+            subst (LabelOccursIn l) w.same
+            (place_behind (spills_of plan (length w.next) (written_results i)) (expand g w.next)
             (place_there plan ((formed.labels).forward i w.next w.stands l o e)));
         handlers = λ i next s l end e.
             let w = main_of plan (λ c. not_leave l end i e c) (was_main plan m.code i next s) in
             subst (HasHandler l) w.same
-            (handler_behind (spills_of plan (length w.next) (results_of i)) (expand g w.next)
+            (handler_behind (spills_of plan (length w.next) (written_results i)) (expand g w.next)
             (handler_there plan ((formed.labels).handlers i w.next w.stands l end e)));
       }
     where
@@ -259,8 +259,8 @@ module _ (m : Mach) (plan : Plan) (formed : WellFormed m) (placed : WellPlaced m
       (λ e.
       subst (Contains (expand g (j ∷ is))) e
       (subst (λ xs. Contains xs j) (sym (laid_out plan (length is) j (expand g is)))
-      (Contains-append_right (reloads_of plan (length is) (operands_of j)) (j ∷ (spills_of plan (length is) (results_of j) ++ expand g is)) j
-      (first_in j (spills_of plan (length is) (results_of j) ++ expand g is)))))
+      (Contains-append_right (reloads_of plan (length is) (operand_registers j)) (j ∷ (spills_of plan (length is) (written_results j) ++ expand g is)) j
+      (first_in j (spills_of plan (length is) (written_results j) ++ expand g is)))))
       (λ d. Contains-append_right (g (length is) j) (expand g is) i (main_in is i d)) (in_cons j i is c)
 
   mark_in : (k : _) (j : Instr) → Contains q.code j → j.op ≡ mach.Mark k → Contains m.code j
@@ -278,7 +278,7 @@ module _ (m : Mach) (plan : Plan) (formed : WellFormed m) (placed : WellPlaced m
 
   -- ---- each instruction
 
-  each_in : (P : Instr → Type 0) → ((kind : CopyKind) (from to : Reg) → P (copied kind from to)) →
+  each_in : (P : Instr → Type 0) → ((kind : CopyKind) (from to : Reg) → P (copy_instruction kind from to)) →
       ((i : Instr) → Contains m.code i → P i) → All P q.code
   each_in P copies_so mains = λ k d lt.
       let j = slice_index_or q.code k d in
@@ -313,7 +313,7 @@ module _ (m : Mach) (plan : Plan) (formed : WellFormed m) (placed : WellPlaced m
         numbers = number_is;
         params = formed.params;
         params_distinct = formed.params_distinct;
-        instrs = each_in IsFormed copy_formed (λ i c. All-contains IsFormed m.code i formed.instrs c);
+        instrs = each_in IsFormedInstruction copy_formed (λ i c. All-contains IsFormedInstruction m.code i formed.instrs c);
         distinct = each_in (λ (i : Instr). AreDistinct i.results) (λ kind from to. one_distinct to)
             (λ i c. All-contains (λ (i : Instr). AreDistinct i.results) m.code i formed.distinct c);
         returns = λ i c e.
@@ -327,5 +327,5 @@ module _ (m : Mach) (plan : Plan) (formed : WellFormed m) (placed : WellPlaced m
         cases = cases;
       }
     where
-      no_return : (kind : CopyKind) (from to : Reg) → (copied kind from to).op ≡ mach.Op (op.Leaving leaving.Return) → ⊥
+      no_return : (kind : CopyKind) (from to : Reg) → (copy_instruction kind from to).op ≡ mach.Op (op.Leaving leaving.Return) → ⊥
       no_return kind from to e = cc

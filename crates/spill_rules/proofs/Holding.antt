@@ -10,9 +10,9 @@ use Rattle.bs_words.specs.declared.values.Value.{Value}
 use Rattle.bs_words.proofs.Lists.{first_in, later_in, head_same}
 use Rattle.mach_ir.specs.Acts.{Around, On, At}
 use Rattle.mach_ir.specs.Formed.{WellFormed}
-use Rattle.mach_ir.specs.Runs.{Place, Continues}
-use Rattle.mach_ir.specs.Meaning.{Held, File, put, put_if, put_all, clear, written, with_held, values, past_frame, unless_addr, passes_frame, wrote, on_values, step}
-use Rattle.mach_ir.specs.Walks.{Among, first, later, goes, raises, Live, read, on, aside, IsRegister, is_param, is_in_code}
+use Rattle.mach_ir.specs.Runs.{ActivationSetting, Continues}
+use Rattle.mach_ir.specs.Meaning.{Held, File, assign_register, put_if, put_all, clear_registers, registers_written, with_held, values, past_frame, unless_addr, passes_frame, wrote, on_values, step}
+use Rattle.mach_ir.specs.Walks.{AmongRegisters, first, later, goes, raises, Live, read, on, aside, IsRegister, is_param, is_in_code}
 use Rattle.mach_ir.specs.Keeps.{ValsWritten}
 use Rattle.mach_ir.specs.declared.op.CopyKind.{CopyKind}
 use Rattle.mach_ir.specs.declared.reg.Reg.{Reg}
@@ -24,16 +24,16 @@ use Rattle.mach_laws.proofs.Places.{ending_next, ending_label, ending_from_handl
 use Rattle.mach_laws.proofs.Among.{number_among, among_or_not}
 use Rattle.mach_laws.proofs.Files.{put_other}
 use Rattle.places_rules.proofs.Files.{put_here, put_both}
-use Rattle.spill_rules.specs.Spilled.{copied}
+use Rattle.spill_rules.specs.Spilled.{copy_instruction}
 
 -- what is read holds something
-pub values_held : (a : File) (rs : List Reg) (vs : List Value) → values a rs ≡ Some vs → (n : ℕ) → Among n rs → (h : Held) × (a n ≡ Some h)
+pub values_held : (a : File) (rs : List Reg) (vs : List Value) → values a rs ≡ Some vs → (n : ℕ) → AmongRegisters n rs → (h : Held) × (a n ≡ Some h)
 values_held a [] vs e n z = elim z [ ]
 values_held a (r ∷ rs) vs e n z =
     by (a r.number) refl (values a rs) refl e z (λ us t x. values_held a rs us t n x)
   where
-    by : (o : Option Held) → a r.number ≡ o → (p : Option (List Value)) → values a rs ≡ p → with_held o p ≡ Some vs → Among n (r ∷ rs) →
-        ((us : List Value) → values a rs ≡ Some us → Among n rs → (h : Held) × (a n ≡ Some h)) → (h : Held) × (a n ≡ Some h)
+    by : (o : Option Held) → a r.number ≡ o → (p : Option (List Value)) → values a rs ≡ p → with_held o p ≡ Some vs → AmongRegisters n (r ∷ rs) →
+        ((us : List Value) → values a rs ≡ Some us → AmongRegisters n rs → (h : Held) × (a n ≡ Some h)) → (h : Held) × (a n ≡ Some h)
     by None s p t e z again = absurd (none-some _ e)
     by (Some h) s None t e z again = absurd (none-some _ e)
     by (Some h) s (Some us) t e (first x) again = (h, ap a (sym x) ∙ s)
@@ -58,12 +58,12 @@ module _ (end : ℕ) where
       by (fits end (type_of_comp q.comp) v) (put_all end rs vs f) refl refl e
       (λ c k. put_fits rs vs f c k r (λ j z. one j (later_in q j rs z)) h)
     where
-      at_one : (c : File) → FitsIn r (c r.number) → fits end (type_of_comp q.comp) v ≡ true → FitsIn r (put q v c r.number)
+      at_one : (c : File) → FitsIn r (c r.number) → fits end (type_of_comp q.comp) v ≡ true → FitsIn r (assign_register q v c r.number)
       at_one c old t =
           ⊎_elim
           (λ s.
           let same : q ≡ r = one q (first_in q rs) (eqb-true q.number r.number s) in
-          λ (h : Held) (g : put q v c r.number ≡ Some h).
+          λ (h : Held) (g : assign_register q v c r.number ≡ Some h).
           let is : record { comp = q.comp; value = v } ≡ h =
           same_Some _ _ (sym (put_here q v c r.number (eqb-true q.number r.number s)) ∙ g) in
           (ap (λ (x : Held). x.comp) (sym is) ∙ ap (λ (x : Reg). x.comp) same, subst IsFitting is t))
@@ -78,17 +78,17 @@ module _ (end : ℕ) where
           subst (λ (x : File). FitsIn r (x r.number)) (same_Some _ _ k) (at_one c (again c e) t)
 
   -- what is written holds something
-  pub put_holds : (rs : List Reg) (vs : List Value) (f d : File) → put_all end rs vs f ≡ Some d → (n : ℕ) → Among n rs → (h : Held) × (d n ≡ Some h)
+  pub put_holds : (rs : List Reg) (vs : List Value) (f d : File) → put_all end rs vs f ≡ Some d → (n : ℕ) → AmongRegisters n rs → (h : Held) × (d n ≡ Some h)
   put_holds [] vs f d e n a = elim a [ ]
   put_holds (q ∷ rs) [] f d e n a = absurd (none-some _ e)
   put_holds (q ∷ rs) (v ∷ vs) f d e n a =
       by (fits end (type_of_comp q.comp) v) (put_all end rs vs f) refl e (λ c k z. put_holds rs vs f c k n z)
     where
-      rest_of : (q.number ≡ n → ⊥) → Among n (q ∷ rs) → Among n rs
+      rest_of : (q.number ≡ n → ⊥) → AmongRegisters n (q ∷ rs) → AmongRegisters n rs
       rest_of h (first e) = absurd (h e)
       rest_of h (later a) = a
 
-      at_one : (c : File) → (Among n rs → (h : Held) × (c n ≡ Some h)) → (h : Held) × (put q v c n ≡ Some h)
+      at_one : (c : File) → (AmongRegisters n rs → (h : Held) × (c n ≡ Some h)) → (h : Held) × (assign_register q v c n ≡ Some h)
       at_one c old =
           ⊎_elim (λ s. (record { comp = q.comp; value = v }, put_here q v c n (eqb-true q.number n s)))
           (λ s.
@@ -97,17 +97,17 @@ module _ (end : ℕ) where
           (cases_Bool (nat_eq q.number n))
 
       by : (t : Bool) (o : Option File) → put_all end rs vs f ≡ o → put_if t q v o ≡ Some d →
-          ((c : File) → put_all end rs vs f ≡ Some c → Among n rs → (h : Held) × (c n ≡ Some h)) → (h : Held) × (d n ≡ Some h)
+          ((c : File) → put_all end rs vs f ≡ Some c → AmongRegisters n rs → (h : Held) × (c n ≡ Some h)) → (h : Held) × (d n ≡ Some h)
       by false o e k again = absurd (none-some _ k)
       by true None e k again = absurd (none-some _ k)
       by true (Some c) e k again =
           subst (λ (x : File). (h : Held) × (x n ≡ Some h)) (same_Some _ _ k) (at_one c (again c e))
 
-  pub clear_fits : (ks : List Reg) (f : File) (r : Reg) → FitsIn r (f r.number) → FitsIn r (clear ks f r.number)
+  pub clear_fits : (ks : List Reg) (f : File) (r : Reg) → FitsIn r (f r.number) → FitsIn r (clear_registers ks f r.number)
   clear_fits [] f r h = h
   clear_fits (k ∷ ks) f r h = by (nat_eq k.number r.number) (clear_fits ks f r h)
     where
-      by : (b : Bool) → FitsIn r (clear ks f r.number) → FitsIn r (cond b None (clear ks f r.number))
+      by : (b : Bool) → FitsIn r (clear_registers ks f r.number) → FitsIn r (cond b None (clear_registers ks f r.number))
       by true old = λ h e. absurd (none-some _ e)
       by false old = old
 
@@ -137,7 +137,7 @@ module _ (m : Mach) where
 -- the parameters are written, and nothing else
 module _ (m : Mach) (formed : WellFormed m) (end : ℕ) (vs : List Value) (a : File)
     (e : put_all end m.params vs (λ n. None) ≡ Some a) where
-  pub unwritten_at_entry : (n : ℕ) → (Among n m.params → ⊥) → a n ≡ None
+  pub unwritten_at_entry : (n : ℕ) → (AmongRegisters n m.params → ⊥) → a n ≡ None
   unwritten_at_entry n free = (put_both end m.params vs (λ n. None) (λ n. None) a e).others n free
 
   -- what holds something is a parameter, made from no other register
@@ -162,16 +162,16 @@ module _ (m : Mach) (formed : WellFormed m) (end : ℕ) (vs : List Value) (a : F
 
 -- ---- copies
 
-module _ (c : Place) (q : Mach) where
+module _ (c : ActivationSetting) (q : Mach) where
   pub copy_step : (kind : CopyKind) (from to : Reg) (zs : List Instr) (b : File) (y : Around) (h : Held) → b from.number ≡ Some h →
       fits c.setting.end (type_of_comp to.comp) h.value ≡ true →
-      step c q (at (copied kind from to ∷ zs) b y) ≡ Continues (at zs (put to h.value b) y)
+      step c q (at (copy_instruction kind from to ∷ zs) b y) ≡ Continues (at zs (assign_register to h.value b) y)
   copy_step kind from to zs b y h e fit =
-      ap (λ o. on_values c q (copied kind from to) zs b y (with_held o (Some []))) e
+      ap (λ o. on_values c q (copy_instruction kind from to) zs b y (with_held o (Some []))) e
       ∙ ap (λ t. wrote zs y (put_if t to h.value (Some b))) fit
 
   pub vals_copy : (kind : CopyKind) (from to : Reg) (zs : List Instr) (b : File) (y : Around) →
-      ValsWritten q (at (copied kind from to ∷ zs) b y)
+      ValsWritten q (at (copy_instruction kind from to ∷ zs) b y)
   vals_copy kind from to zs b y =
       record {
         written = λ j ys e frame r one val v none.

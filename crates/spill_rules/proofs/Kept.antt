@@ -12,10 +12,10 @@ use Rattle.bs_words.proofs.Lists.{none_in, first_in, later_in, in_cons, head_sam
 use Rattle.mach_ir.specs.Acts.{Around, Target, On, At, Landing, AtLabel, AtHandler, Replaces}
 use Rattle.mach_ir.specs.Formed.{WellFormed}
 use Rattle.mach_ir.specs.Placed.{WellPlaced}
-use Rattle.mach_ir.specs.Runs.{Place, entered}
-use Rattle.mach_ir.specs.Meaning.{Held, File, put, put_all, clear, killed, written, values, past_frame, passes_frame, after_label, at_handler, code_at, tries_at, landing_code}
-use Rattle.mach_ir.specs.Walks.{Among, first, later, OneOf, targets, may_raise, goes, raises, Live, read, on, aside, LiveAcross, IsRegister, is_param, is_colour, is_in_code, InCode, in_args, in_results, further, Stands, Writes}
-use Rattle.mach_ir.specs.Keeps.{ValsWritten, OriginsAgree, wrote_unless, Does}
+use Rattle.mach_ir.specs.Runs.{ActivationSetting, entry_around}
+use Rattle.mach_ir.specs.Meaning.{Held, File, assign_register, put_all, clear_registers, killed, registers_written, values, past_frame, passes_frame, after_label, at_handler, code_at, tries_at, landing_code}
+use Rattle.mach_ir.specs.Walks.{AmongRegisters, first, later, OneOf, targets, may_raise, goes, raises, Live, read, on, aside, LiveAcross, IsRegister, is_param, is_colour, is_in_code, InCode, in_args, in_results, further, StandsAsInstr, Writes}
+use Rattle.mach_ir.specs.Keeps.{ValsWritten, OriginsAgree, wrote_unless, MachSimulation}
 use Rattle.mach_ir.specs.declared.op.CopyKind.TheVariants as copy
 use Rattle.mach_ir.specs.declared.reg.Reg.{Reg}
 use Rattle.mach_ir.specs.declared.mach.Instr.{Instr}
@@ -34,7 +34,7 @@ use Rattle.mach_laws.proofs.Walking.{across_live}
 use Rattle.places_rules.proofs.Files.{values_same, past_same, cleared, not_cleared, put_here, PutsBoth, put_both}
 use Rattle.split_rules.specs.Writes.{from_entry, past, past_raise}
 use Rattle.liveness.proofs.Bounds.{killed_is_colour}
-use Rattle.spill_rules.specs.Spilled.{Plan, in_slot, copied, reload, spill, reloads_of, spills_of, operands_of, results_of, spilled_instr, spilled, IsPlan}
+use Rattle.spill_rules.specs.Spilled.{SpillPlan, in_slot, copy_instruction, reload, spill, reloads_of, spills_of, operand_registers, written_results, spilled_instr, spilled, IsSpillPlan}
 use Rattle.spill_rules.proofs.Live.{IsStored, WasLive, itself, stored, Stage, Reading, Storing, Laid, main, laid_results, laid_operands, laid_of, is_result, Says, NotThere, stored_unwritten, laid_tries, live_back, live_before, WasAcross, itself_across, stored_across, across_back}
 use Rattle.spill_rules.proofs.Text.{keeps_marks, all_results, operand_in}
 use Rattle.spill_rules.proofs.Holding.{values_held, FitsIn, put_fits, put_holds, clear_fits, frame_fits, live_register, unwritten_at_entry, fit_at_entry, agree_at_entry, copy_step, vals_copy}
@@ -47,7 +47,7 @@ in_append (x ∷ xs) ys (in_args c) = inl (in_args c)
 in_append (x ∷ xs) ys (in_results c) = inl (in_results c)
 in_append (x ∷ xs) ys (further c) = ⊎_elim (λ h. inl (further h)) inr (in_append xs ys c)
 
-module _ (m : Mach) (plan : Plan) (formed : WellFormed m) (placed : WellPlaced m) (is : IsPlan m plan) where
+module _ (m : Mach) (plan : SpillPlan) (formed : WellFormed m) (placed : WellPlaced m) (is : IsSpillPlan m plan) where
   abbrev q : Mach
   q = spilled plan m
 
@@ -166,15 +166,15 @@ module _ (m : Mach) (plan : Plan) (formed : WellFormed m) (placed : WellPlaced m
   was_in (i ∷ next) r known c =
       ⊎_elim
       (λ h.
-      ⊎_elim (λ g. in_reloads (length next) (operands_of i) r (λ w d. known w (in_args (operand_in i w d))) g)
+      ⊎_elim (λ g. in_reloads (length next) (operand_registers i) r (λ w d. known w (in_args (operand_in i w d))) g)
       (λ g. of_main g)
-      (in_append (reloads_of plan (length next) (operands_of i)) (i ∷ spills_of plan (length next) (results_of i)) h))
+      (in_append (reloads_of plan (length next) (operand_registers i)) (i ∷ spills_of plan (length next) (written_results i)) h))
       (λ h. was_in next r (λ w d. known w (further d)) h) (in_append (f (length next) i) (expand f next) c)
     where
-      of_main : InCode r (i ∷ spills_of plan (length next) (results_of i)) → WasRegister r
+      of_main : InCode r (i ∷ spills_of plan (length next) (written_results i)) → WasRegister r
       of_main (in_args d) = itself_was r (known r (in_args d))
       of_main (in_results d) = itself_was r (known r (in_results d))
-      of_main (further d) = in_spills (length next) (results_of i) r (λ w z. known w (in_results (cond_in _ i.results w z))) d
+      of_main (further d) = in_spills (length next) (written_results i) r (λ w z. known w (in_results (cond_in _ i.results w z))) d
 
   pub was_register : (r : Reg) → IsRegister q r → WasRegister r
   was_register r (is_param c) = itself_was r (is_param c)
@@ -221,7 +221,7 @@ module _ (m : Mach) (plan : Plan) (formed : WellFormed m) (placed : WellPlaced m
   caught r [] e v = elim v [ ]
   caught r (l ∷ tries) e v = (aside (raises r e) v, λ s from k. s from (past_raise k (raises r e)))
 
-  module _ (c : Place) where
+  module _ (c : ActivationSetting) where
     abbrev limit : ℕ
     limit = c.setting.end
 
@@ -235,7 +235,7 @@ module _ (m : Mach) (plan : Plan) (formed : WellFormed m) (placed : WellPlaced m
     -- ---- before an instruction
 
     agree_reading : (i : Instr) (next ys : List Instr) (rs us : List Reg) (a b : File) (y : Around) → Ending (i ∷ next) m.code →
-        Lay (Reading i next rs) ys → Holds (i ∷ next) a b → ((x : ℕ) → Among x us → Among x i.args) → OriginsAgree q us (at ys b y)
+        Lay (Reading i next rs) ys → Holds (i ∷ next) a b → ((x : ℕ) → AmongRegisters x us → AmongRegisters x i.args) → OriginsAgree q us (at ys b y)
     agree_reading i next ys rs us a b y ending laid holds known =
         record {
           agree = λ r k ir ik origin l e h g s t.
@@ -247,7 +247,7 @@ module _ (m : Mach) (plan : Plan) (formed : WellFormed m) (placed : WellPlaced m
               (one.1 ∙ s) (two.1 ∙ t);
         }
       where
-        here : (r : Reg) (w : WasRegister r) → Live q r.number ys ⊎ Among r.number us →
+        here : (r : Reg) (w : WasRegister r) → Live q r.number ys ⊎ AmongRegisters r.number us →
             Live m (w.register).number (i ∷ next) × (a (w.register).number ≡ b r.number)
         here r w l =
             was_value (i ∷ next) ending a b r holds.itself (λ n e v k. holds.slots n v k) w.register w.among w.which
@@ -266,7 +266,7 @@ module _ (m : Mach) (plan : Plan) (formed : WellFormed m) (placed : WellPlaced m
         holds : Holds (i ∷ next) a file
 
       before : (i : Instr) (next : List Instr) (a : File) (y : Around) → Ending (i ∷ next) m.code →
-          ((n : ℕ) → Among n i.args → (h : Held) × (a n ≡ Some h)) → (tail : List Instr) → Lay (Reading i next []) tail → (rs : List Reg) →
+          ((n : ℕ) → AmongRegisters n i.args → (h : Held) × (a n ≡ Some h)) → (tail : List Instr) → Lay (Reading i next []) tail → (rs : List Reg) →
           ((r : Reg) → Contains rs r → Contains i.args r) → (b : File) → Holds (i ∷ next) a b → PassedBefore i next rs tail a b y
       before i next a y ending held tail laid [] known b holds =
           record { file = b; passing = general.passed; holds = holds }
@@ -274,7 +274,7 @@ module _ (m : Mach) (plan : Plan) (formed : WellFormed m) (placed : WellPlaced m
           by (plan.reloads (length next) r.number) refl
           (λ b' h. before i next a y ending held tail laid rs (λ k z. known k (later_in r k rs z)) b' h)
         where
-          among : Among r.number i.args
+          among : AmongRegisters r.number i.args
           among = among_of r i.args (known r (first_in r rs))
 
           is_reg : IsRegister m r
@@ -290,7 +290,7 @@ module _ (m : Mach) (plan : Plan) (formed : WellFormed m) (placed : WellPlaced m
           as_put = (held r.number among).1 ∙ ap (λ t. Some (record { comp = t; value = h.value })) fits_so.0
 
           b1 : File
-          b1 = put r h.value b
+          b1 = assign_register r h.value b
 
           holds_on : Holds (i ∷ next) a b1
           holds_on =
@@ -334,8 +334,8 @@ module _ (m : Mach) (plan : Plan) (formed : WellFormed m) (placed : WellPlaced m
                 holds = more.holds;
               }
             where
-              of_these : (x : ℕ) → Among x (r ∷ []) → Among x i.args
-              of_these x (first e) = subst (λ n. Among n i.args) e among
+              of_these : (x : ℕ) → AmongRegisters x (r ∷ []) → AmongRegisters x i.args
+              of_these x (first e) = subst (λ n. AmongRegisters n i.args) e among
               of_these x (later z) = elim z [ ]
           by false t again =
               let more = again b holds in
@@ -358,12 +358,12 @@ module _ (m : Mach) (plan : Plan) (formed : WellFormed m) (placed : WellPlaced m
       -- where a register of the second was just written
       abbrev JustWritten : Instr → List Instr → File → File → Around → List Reg → Type 0
       JustWritten i next d e y us =
-          (r : Reg) (w : WasRegister r) (u : Held) → Among r.number us → e r.number ≡ Some u →
-          (Live m (w.register).number next ⊎ Among (w.register).number (wrote_unless y.raised (written m i)))
+          (r : Reg) (w : WasRegister r) (u : Held) → AmongRegisters r.number us → e r.number ≡ Some u →
+          (Live m (w.register).number next ⊎ AmongRegisters (w.register).number (wrote_unless y.raised (registers_written m i)))
           × (d (w.register).number ≡ e r.number)
 
       agree_storing : (i : Instr) (next ys : List Instr) (rs us : List Reg) (d e : File) (y : Around) → Ending (i ∷ next) m.code →
-          Lay (Storing i next rs) ys → HoldsAfter next rs d e → Agrees m (written m i) (at next d y) → JustWritten i next d e y us →
+          Lay (Storing i next rs) ys → HoldsAfter next rs d e → Agrees m (registers_written m i) (at next d y) → JustWritten i next d e y us →
           OriginsAgree q us (at ys e y)
       agree_storing i next ys rs us d e y ending laid holds agreed just =
           record {
@@ -389,8 +389,8 @@ module _ (m : Mach) (plan : Plan) (formed : WellFormed m) (placed : WellPlaced m
               was_value next (ending_next ending) d e r holds.itself
               (λ j s v z. holds.slots j v z (subst (λ x. NotIn x (length next) rs) (sym s) g.1)) w.register w.among w.which g.0
 
-          here : (r : Reg) (w : WasRegister r) (u : Held) → Live q r.number ys ⊎ Among r.number us → e r.number ≡ Some u →
-              (Live m (w.register).number next ⊎ Among (w.register).number (wrote_unless y.raised (written m i)))
+          here : (r : Reg) (w : WasRegister r) (u : Held) → Live q r.number ys ⊎ AmongRegisters r.number us → e r.number ≡ Some u →
+              (Live m (w.register).number next ⊎ AmongRegisters (w.register).number (wrote_unless y.raised (registers_written m i)))
               × (d (w.register).number ≡ e r.number)
           here r w u (inl v) s =
               let g = of_live r w (live_back m plan formed placed is v (Storing i next rs) laid) in (inl g.0, g.1)
@@ -398,11 +398,11 @@ module _ (m : Mach) (plan : Plan) (formed : WellFormed m) (placed : WellPlaced m
 
       record PassedAfter (i : Instr) (next : List Instr) (rs : List Reg) (d e : File) (y : Around) : Type 0 where
         file : File
-        passing : Passes (Agrees m (written m i) (at next d y)) y (spills_of plan (length next) rs) (expand f next) e file
+        passing : Passes (Agrees m (registers_written m i) (at next d y)) y (spills_of plan (length next) rs) (expand f next) e file
         holds : HoldsAfter next [] d file
 
       after : (i : Instr) (next : List Instr) (d : File) (y : Around) → Ending (i ∷ next) m.code →
-          ((n : ℕ) → Among n i.results → (h : Held) × (d n ≡ Some h)) → ((r : Reg) → IsRegister m r → FitsIn limit r (d r.number)) →
+          ((n : ℕ) → AmongRegisters n i.results → (h : Held) × (d n ≡ Some h)) → ((r : Reg) → IsRegister m r → FitsIn limit r (d r.number)) →
           (rs : List Reg) → ((r : Reg) → Contains rs r → Contains i.results r) → (e : File) → HoldsAfter next rs d e →
           PassedAfter i next rs d e y
       after i next d y ending held fit [] known e holds =
@@ -427,7 +427,7 @@ module _ (m : Mach) (plan : Plan) (formed : WellFormed m) (placed : WellPlaced m
           as_put = holds_h ∙ ap (λ t. Some (record { comp = t; value = h.value })) fits_so.0
 
           e1 : File
-          e1 = put (in_slot plan r) h.value e
+          e1 = assign_register (in_slot plan r) h.value e
 
           not_in_more : (x : ℕ) → (plan.slot r.number ≡ x → ⊥) → NotIn x (length next) rs → NotIn x (length next) (r ∷ rs)
           not_in_more x g n = λ k z s t.
@@ -458,12 +458,12 @@ module _ (m : Mach) (plan : Plan) (formed : WellFormed m) (placed : WellPlaced m
               JustWritten i next d e1 y (wrote_unless y.raised (in_slot plan r ∷ []))
           just t k w u z s = by (w.which) (of_slot (unless_among y.raised (in_slot plan r ∷ []) k.number z))
             where
-              of_slot : Among k.number (in_slot plan r ∷ []) → plan.slot r.number ≡ k.number
+              of_slot : AmongRegisters k.number (in_slot plan r ∷ []) → plan.slot r.number ≡ k.number
               of_slot (first e) = e
               of_slot (later z) = elim z [ ]
 
               by : Which w.register k → plan.slot r.number ≡ k.number →
-                  (Live m (w.register).number next ⊎ Among (w.register).number (wrote_unless y.raised (written m i)))
+                  (Live m (w.register).number next ⊎ AmongRegisters (w.register).number (wrote_unless y.raised (registers_written m i)))
                   × (d (w.register).number ≡ e1 k.number)
               by (own a) n = absurd (is.fresh w.register w.among r.number (n ∙ sym (ap (λ (x : Reg). x.number) a)))
               by (slotted a) n =
@@ -480,7 +480,7 @@ module _ (m : Mach) (plan : Plan) (formed : WellFormed m) (placed : WellPlaced m
               record {
                 file = more.file;
                 passing = subst
-                    (λ t. Passes (Agrees m (written m i) (at next d y)) y
+                    (λ t. Passes (Agrees m (registers_written m i) (at next d y)) y
                     (cond t (spill plan r ∷ spills_of plan (length next) rs) (spills_of plan (length next) rs)) (expand f next) e more.file)
                     (sym t)
                     (general.passes
@@ -510,7 +510,7 @@ module _ (m : Mach) (plan : Plan) (formed : WellFormed m) (placed : WellPlaced m
               record {
                 file = more.file;
                 passing = subst
-                    (λ t. Passes (Agrees m (written m i) (at next d y)) y
+                    (λ t. Passes (Agrees m (registers_written m i) (at next d y)) y
                     (cond t (spill plan r ∷ spills_of plan (length next) rs) (spills_of plan (length next) rs)) (expand f next) e more.file)
                     (sym t) more.passing;
                 holds = more.holds;
@@ -526,9 +526,9 @@ module _ (m : Mach) (plan : Plan) (formed : WellFormed m) (placed : WellPlaced m
         b' = past_frame (passes_frame i.op) b
 
         abbrev post : List Instr
-        post = spills_of plan (length next) (results_of i)
+        post = spills_of plan (length next) (written_results i)
 
-        stands : Stands i next m.code
+        stands : StandsAsInstr i next m.code
         stands = stands_of ending
 
         still : (n : ℕ) → Live m n (i ∷ next) → a' n ≡ b' n
@@ -537,20 +537,20 @@ module _ (m : Mach) (plan : Plan) (formed : WellFormed m) (placed : WellPlaced m
         still_slot : (n : ℕ) → Live m n (i ∷ next) → Stored n (i ∷ next) → a' n ≡ b' (plan.slot n)
         still_slot n v k = past_same (passes_frame i.op) a b n (plan.slot n) (holds.slots n v k)
 
-        laid_main : Lay (Storing i next (results_of i)) (post ++ expand f next)
+        laid_main : Lay (Storing i next (written_results i)) (post ++ expand f next)
         laid_main =
-            laid_results m plan formed placed is i next (results_of i) (expand f next) (λ r z. cond_in _ i.results r z)
+            laid_results m plan formed placed is i next (written_results i) (expand f next) (λ r z. cond_in _ i.results r z)
             (laid_of m plan formed placed is next (ending_next ending))
 
         -- a slot is no register of the first
-        not_slot : (n x : ℕ) (rs : List Reg) → ((r : Reg) → Contains rs r → IsRegister m r) → Among (plan.slot n) rs → ⊥
+        not_slot : (n x : ℕ) (rs : List Reg) → ((r : Reg) → Contains rs r → IsRegister m r) → AmongRegisters (plan.slot n) rs → ⊥
         not_slot n x rs known z = let r = number_among rs z in is.fresh r.0 (known r.0 r.1) n (sym r.2)
 
         killed_known : (r : Reg) → Contains (killed m i) r → IsRegister m r
         killed_known r z = is_colour (killed_is_colour m i r z)
 
         abbrev Puts : List Value → File → Type 0
-        Puts vs d = PutsBoth limit i.results vs (clear (killed m i) a') (clear (killed m i) b') d
+        Puts vs d = PutsBoth limit i.results vs (clear_registers (killed m i) a') (clear_registers (killed m i) b') d
 
         same_after : (vs : List Value) (d : File) (p : Puts vs d) (t : Target) → OneOf t (targets i.op) → (n : ℕ) →
             Live m n (code_at m.code next t) → d n ≡ p.file n
@@ -579,10 +579,10 @@ module _ (m : Mach) (plan : Plan) (formed : WellFormed m) (placed : WellPlaced m
         one_number : (r : Reg) → IsRegister m r → (k : Reg) → Contains i.results k → k.number ≡ r.number → k ≡ r
         one_number r j k z e = formed.numbers k r (is_in_code (results_in stands z)) j e
 
-        fit_after : (vs : List Value) (d : File) → put_all limit i.results vs (clear (killed m i) a') ≡ Some d → (r : Reg) → IsRegister m r →
+        fit_after : (vs : List Value) (d : File) → put_all limit i.results vs (clear_registers (killed m i) a') ≡ Some d → (r : Reg) → IsRegister m r →
             FitsIn limit r (d r.number)
         fit_after vs d e r j =
-            put_fits limit i.results vs (clear (killed m i) a') d e r (one_number r j)
+            put_fits limit i.results vs (clear_registers (killed m i) a') d e r (one_number r j)
             (clear_fits limit (killed m i) a' r (frame_fits limit (passes_frame i.op) a r (holds.fit r j)))
 
         fit_still : (r : Reg) → IsRegister m r → FitsIn limit r (a' r.number)
@@ -596,7 +596,7 @@ module _ (m : Mach) (plan : Plan) (formed : WellFormed m) (placed : WellPlaced m
 
         -- where the second begins a code, its registers of one origin agree
         agree_begins : (rest : List Instr) (us : List Reg) (d e : File) (y : Around) → Ending rest m.code → Holds rest d e →
-            ((x : ℕ) → Among x (wrote_unless y.raised us) → ⊥) → OriginsAgree q (wrote_unless y.raised us) (at (expand f rest) e y)
+            ((x : ℕ) → AmongRegisters x (wrote_unless y.raised us) → ⊥) → OriginsAgree q (wrote_unless y.raised us) (at (expand f rest) e y)
         agree_begins rest us d e y end_rest h none =
             record {
               agree = λ r k ir ik origin l z x u s t.
@@ -608,7 +608,7 @@ module _ (m : Mach) (plan : Plan) (formed : WellFormed m) (placed : WellPlaced m
                   (one.1 ∙ s) (two.1 ∙ t);
             }
           where
-            here : (r : Reg) (w : WasRegister r) → Live q r.number (expand f rest) ⊎ Among r.number (wrote_unless y.raised us) →
+            here : (r : Reg) (w : WasRegister r) → Live q r.number (expand f rest) ⊎ AmongRegisters r.number (wrote_unless y.raised us) →
                 Live m (w.register).number rest × (d (w.register).number ≡ e r.number)
             here r w (inl v) =
                 was_value rest end_rest d e r h.itself (λ n s v k. h.slots n v k) w.register w.among w.which
@@ -616,10 +616,10 @@ module _ (m : Mach) (plan : Plan) (formed : WellFormed m) (placed : WellPlaced m
             here r w (inr z) = absurd (none r.number z)
 
         -- where it is silent, or raised a value
-        silent_none : IsSilent m i → (o : Option Value) → (x : ℕ) → Among x (wrote_unless o (written m i)) → ⊥
-        silent_none s o x z = s x (unless_among o (written m i) x z)
+        silent_none : IsSilent m i → (o : Option Value) → (x : ℕ) → AmongRegisters x (wrote_unless o (registers_written m i)) → ⊥
+        silent_none s o x z = s x (unless_among o (registers_written m i) x z)
 
-        none_written : (o : Option Value) → IsSilent m i ⊎ IsRaised o → (x : ℕ) → Among x (wrote_unless o (written m i)) → ⊥
+        none_written : (o : Option Value) → IsSilent m i ⊎ IsRaised o → (x : ℕ) → AmongRegisters x (wrote_unless o (registers_written m i)) → ⊥
         none_written o (inl s) x z = silent_none s o x z
         none_written (Some v) (inr r) x z = elim z [ ]
         none_written None (inr r) x z = elim r [ ]
@@ -630,18 +630,18 @@ module _ (m : Mach) (plan : Plan) (formed : WellFormed m) (placed : WellPlaced m
         no_post : IsSilent m i → post ≡ []
         no_post s = ap (spills_of plan (length next)) (all_results (form_of formed ending) ∙ none i.results (λ n z. s n (left_among i.results (killed m i) z)))
           where
-            none : (rs : List Reg) → ((n : ℕ) → Among n rs → ⊥) → rs ≡ []
+            none : (rs : List Reg) → ((n : ℕ) → AmongRegisters n rs → ⊥) → rs ≡ []
             none [] h = refl
             none (r ∷ rs) h = absurd (h r.number (first refl))
 
         just_main : (vs : List Value) (d : File) (p : Puts vs d) (y : Around) →
-            JustWritten i next d p.file y (wrote_unless y.raised (written m i))
+            JustWritten i next d p.file y (wrote_unless y.raised (registers_written m i))
         just_main vs d p y r w u z s = by w.which
           where
-            there : Among r.number (written m i)
-            there = unless_among y.raised (written m i) r.number z
+            there : AmongRegisters r.number (registers_written m i)
+            there = unless_among y.raised (registers_written m i) r.number z
 
-            in_m : (k : ℕ) → Among k (written m i) → (x : Reg) × IsRegister m x × (x.number ≡ k)
+            in_m : (k : ℕ) → AmongRegisters k (registers_written m i) → (x : Reg) × IsRegister m x × (x.number ≡ k)
             in_m k a =
                 ⊎_elim (λ h. let x = number_among i.results h in (x.0, is_in_code (results_in stands x.1), x.2))
                 (λ h. let x = number_among (killed m i) h in (x.0, killed_known x.0 x.1, x.2)) (split_among k i.results (killed m i) a)
@@ -656,28 +656,28 @@ module _ (m : Mach) (plan : Plan) (formed : WellFormed m) (placed : WellPlaced m
                 (among_or_not r.number i.results)
 
             by : Which w.register r →
-                (Live m (w.register).number next ⊎ Among (w.register).number (wrote_unless y.raised (written m i)))
+                (Live m (w.register).number next ⊎ AmongRegisters (w.register).number (wrote_unless y.raised (registers_written m i)))
                 × (d (w.register).number ≡ p.file r.number)
             by (own e) =
                 let n : w.register.number ≡ r.number = ap (λ (x : Reg). x.number) e in
-                (inr (subst (λ n. Among n (wrote_unless y.raised (written m i))) (sym n) z), ap d n ∙ value)
+                (inr (subst (λ n. AmongRegisters n (wrote_unless y.raised (registers_written m i))) (sym n) z), ap d n ∙ value)
             by (slotted e) =
                 let x = in_m r.number there in absurd (is.fresh x.0 x.1 w.register.number (ap (λ (x : Reg). x.number) e ∙ sym x.2))
 
-        past_to : (vs : List Value) (d : File) → put_all limit i.results vs (clear (killed m i) a') ≡ Some d → (p : Puts vs d) (y : Around)
+        past_to : (vs : List Value) (d : File) → put_all limit i.results vs (clear_registers (killed m i) a') ≡ Some d → (p : Puts vs d) (y : Around)
             (t : Target) → OneOf t (targets i.op) → Past y d p.file t
         past_to vs d e p y On o =
-            let begun : HoldsAfter next (results_of i) d p.file =
+            let begun : HoldsAfter next (written_results i) d p.file =
             record {
               itself = λ n v. same_after vs d p On o n v;
               slots = λ n v k free. slot_after vs d p On o n v k
                   (stored_unwritten m plan formed placed is (plan.slot n) n i next next On ending o refl k free);
             } in
-            let done = after i next d y ending (λ n z. put_holds limit i.results vs (clear (killed m i) a') d e n z) (fit_after vs d e)
-            (results_of i) (λ r z. cond_in _ i.results r z) p.file begun in
+            let done = after i next d y ending (λ n z. put_holds limit i.results vs (clear_registers (killed m i) a') d e n z) (fit_after vs d e)
+            (written_results i) (λ r z. cond_in _ i.results r z) p.file begun in
             general.on
             (λ agreed.
-            agree_storing i next (post ++ expand f next) (results_of i) (wrote_unless y.raised (written m i)) d p.file y ending laid_main begun
+            agree_storing i next (post ++ expand f next) (written_results i) (wrote_unless y.raised (registers_written m i)) d p.file y ending laid_main begun
             agreed (just_main vs d p y))
             done.passing
             (λ agreed. (
@@ -686,29 +686,29 @@ module _ (m : Mach) (plan : Plan) (formed : WellFormed m) (placed : WellPlaced m
                 itself = λ n v. done.holds.itself n v;
                 slots = λ n v k. done.holds.slots n v k (λ r z. absurd (none_in r z));
                 fit = fit_after vs d e;
-                agree = agree_there next (written m i) d y agreed;
+                agree = agree_there next (registers_written m i) d y agreed;
               },
             ))
         past_to vs d e p y (At l) o =
             let silent = label_silent m (form_of formed ending) l o in
-            let rel : Agrees m (written m i) (at (after_label l m.code) d y) → Holds (after_label l m.code) d p.file =
-            λ (agreed : Agrees m (written m i) (at (after_label l m.code) d y)).
+            let rel : Agrees m (registers_written m i) (at (after_label l m.code) d y) → Holds (after_label l m.code) d p.file =
+            λ (agreed : Agrees m (registers_written m i) (at (after_label l m.code) d y)).
             record {
               itself = λ n v. same_after vs d p (At l) o n v;
               slots = λ n v k. slot_after vs d p (At l) o n v k (silent n);
               fit = fit_after vs d e;
-              agree = agree_there (after_label l m.code) (written m i) d y agreed;
+              agree = agree_there (after_label l m.code) (registers_written m i) d y agreed;
             } in
             general.elsewhere (no_post silent)
             (λ agreed. (
               (refl, rel agreed),
-              subst (λ code. Agrees q (written q i) (at code p.file y)) (sym (label_expand f (keeps_marks plan) l m.code))
-                  (agree_begins (after_label l m.code) (written m i) d p.file y (ending_label l m.code) (rel agreed)
+              subst (λ code. Agrees q (registers_written q i) (at code p.file y)) (sym (label_expand f (keeps_marks plan) l m.code))
+                  (agree_begins (after_label l m.code) (registers_written m i) d p.file y (ending_label l m.code) (rel agreed)
                   (silent_none silent y.raised)),
             ))
 
         -- where an exit or a raise lands
-        landed : (to : Landing) → MayLand i.op to → (y : Around) → Agrees m (written m i) (at (landing_code m.code (i ∷ next) to) a' y) →
+        landed : (to : Landing) → MayLand i.op to → (y : Around) → Agrees m (registers_written m i) (at (landing_code m.code (i ∷ next) to) a' y) →
             Holds (landing_code m.code (i ∷ next) to) a' b'
         landed (AtLabel l) (lands_at_label o) y agreed =
             let silent = label_silent m (form_of formed ending) l o in
@@ -716,14 +716,14 @@ module _ (m : Mach) (plan : Plan) (formed : WellFormed m) (placed : WellPlaced m
               itself = λ n v. still n (on (silent n) (goes (At l) o) v);
               slots = λ n v k. still_slot n (on (silent n) (goes (At l) o) v) (λ from z. k from (past z (silent n) (goes (At l) o)));
               fit = fit_still;
-              agree = agree_there (after_label l m.code) (written m i) a' y agreed;
+              agree = agree_there (after_label l m.code) (registers_written m i) a' y agreed;
             }
         landed AtHandler (lands_at_handler r) y agreed =
             record {
               itself = λ n v. let g = caught r (tries_at (i ∷ next)) refl v in still n g.0;
               slots = λ n v k. let g = caught r (tries_at (i ∷ next)) refl v in still_slot n g.0 (g.1 k);
               fit = fit_still;
-              agree = agree_there (at_handler m.code (tries_at (i ∷ next))) (written m i) a' y agreed;
+              agree = agree_there (at_handler m.code (tries_at (i ∷ next))) (registers_written m i) a' y agreed;
             }
 
         tries_so : tries_at (i ∷ (post ++ expand f next)) ≡ tries_at (i ∷ next)
@@ -733,13 +733,13 @@ module _ (m : Mach) (plan : Plan) (formed : WellFormed m) (placed : WellPlaced m
             general.Lands c m q f (keeps_marks plan) is_code Suit Round i i next post to y y a' b'
         lands to may y s agreed = (
           (refl, landed to may y agreed),
-          subst (λ code. Agrees q (written q i) (at code b' y))
+          subst (λ code. Agrees q (registers_written q i) (at code b' y))
               (sym (land_expand f (keeps_marks plan) m.code (i ∷ next) (i ∷ (post ++ expand f next)) to tries_so))
-              (agree_begins (landing_code m.code (i ∷ next) to) (written m i) a' b' y (ending_land to (i ∷ next) m.code)
+              (agree_begins (landing_code m.code (i ∷ next) to) (registers_written m i) a' b' y (ending_land to (i ∷ next) m.code)
               (landed to may y agreed) (none_written y.raised s)),
         )
 
-        pushed : IsTry i.op → (y : Around) → Agrees m (written m i) (at next a' y) → Holds next a' b'
+        pushed : IsTry i.op → (y : Around) → Agrees m (registers_written m i) (at next a' y) → Holds next a' b'
         pushed t y agreed =
             let silent = try_silent m (form_of formed ending) t in
             record {
@@ -747,14 +747,14 @@ module _ (m : Mach) (plan : Plan) (formed : WellFormed m) (placed : WellPlaced m
               slots = λ n v k.
                   still_slot n (on (silent n) (goes On (try_on i.op t)) v) (λ from z. k from (past z (silent n) (goes On (try_on i.op t))));
               fit = fit_still;
-              agree = agree_there next (written m i) a' y agreed;
+              agree = agree_there next (registers_written m i) a' y agreed;
             }
 
         same_operation : level.SameOperation c m q f (keeps_marks plan) is_code Suit Holds (IsSilent m i) i i next post a' b'
         same_operation =
             record {
               goes = λ vs d e.
-                  let p = put_both limit i.results vs (clear (killed m i) a') (clear (killed m i) b') d e in
+                  let p = put_both limit i.results vs (clear_registers (killed m i) a') (clear_registers (killed m i) b') d e in
                   (p.file, p.puts, λ y to o. past_to vs d e p y to o);
               lands = λ y to l s. lands to l y s;
               tries = tries_so;
@@ -762,7 +762,7 @@ module _ (m : Mach) (plan : Plan) (formed : WellFormed m) (placed : WellPlaced m
                 no_post (try_silent m (form_of formed ending) t),
                 λ y agreed. (
                   (refl, pushed t y agreed),
-                  agree_begins next (written m i) a' b' y (ending_next ending) (pushed t y agreed)
+                  agree_begins next (registers_written m i) a' b' y (ending_next ending) (pushed t y agreed)
                       (silent_none (try_silent m (form_of formed ending) t) y.raised),
                 ),
               );
@@ -808,15 +808,15 @@ module _ (m : Mach) (plan : Plan) (formed : WellFormed m) (placed : WellPlaced m
           (vs : List Value) → values a i.args ≡ Some vs →
           general.Replaces c m q f (keeps_marks plan) is_code Suit Round i next y y a b vs
       one i next a b ending holds y vs e =
-          let laid : Lay (Reading i next []) (i ∷ (spills_of plan (length next) (results_of i) ++ expand f next)) =
+          let laid : Lay (Reading i next []) (i ∷ (spills_of plan (length next) (written_results i) ++ expand f next)) =
           main ending (laid_main i next a b ending holds) in
           let gone = before i next a y ending (λ n z. values_held a i.args vs e n z)
-          (i ∷ (spills_of plan (length next) (results_of i) ++ expand f next)) laid (operands_of i) (λ r z. operand_in i r z) b holds in
+          (i ∷ (spills_of plan (length next) (written_results i) ++ expand f next)) laid (operand_registers i) (λ r z. operand_in i r z) b holds in
           level.replaces c m q f (keeps_marks plan) is_code Suit Holds y
           (record {
-            pre = reloads_of plan (length next) (operands_of i);
+            pre = reloads_of plan (length next) (operand_registers i);
             main = i;
-            post = spills_of plan (length next) (results_of i);
+            post = spills_of plan (length next) (written_results i);
             shape = refl;
             same_op = refl;
             between = gone.file;
@@ -851,15 +851,15 @@ module _ (m : Mach) (plan : Plan) (formed : WellFormed m) (placed : WellPlaced m
           agree = λ r k i j origin v w x y g h. agree_at_entry m formed limit vs a e r k i j origin x y g h;
         }
       where
-        unwritten : (n : ℕ) → (Among n m.params → ⊥) → a n ≡ None
+        unwritten : (n : ℕ) → (AmongRegisters n m.params → ⊥) → a n ≡ None
         unwritten n free = unwritten_at_entry m formed limit vs a e n free
 
-        not_param : (n : ℕ) → Among (plan.slot n) m.params → ⊥
+        not_param : (n : ℕ) → AmongRegisters (plan.slot n) m.params → ⊥
         not_param n z = let r = number_among m.params z in is.fresh r.0 (is_param r.1) n (sym r.2)
 
   -- The function with its spills and reloads does what it did.
-  pub does_spilled : Does m (spilled plan m)
+  pub does_spilled : MachSimulation m (spilled plan m)
   does_spilled = λ c.
       level.begins_at c m q refl
       (λ arguments memory a t n e proper.
-      level.follows_from c m q f (keeps_marks plan) is_code (Holds c) (serves c) a a (entered memory) (at_entry c arguments a e) n t proper)
+      level.follows_from c m q f (keeps_marks plan) is_code (Holds c) (serves c) a a (entry_around memory) (at_entry c arguments a e) n t proper)

@@ -6,7 +6,7 @@ use Rattle.mach_ir.specs.Acts.{Target, On, At}
 use Rattle.mach_ir.specs.Formed.{WellFormed}
 use Rattle.mach_ir.specs.Meaning.{after_label, from_handler, code_at, tries_at, tries_past, killed}
 use Rattle.mach_ir.specs.Placed.{WellPlaced}
-use Rattle.mach_ir.specs.Walks.{Among, first, later, OneOf, targets, may_raise, goes, raises, Writes, Live, read, on, aside, LiveAcross, across_step, across_raise, is_colour}
+use Rattle.mach_ir.specs.Walks.{AmongRegisters, first, later, OneOf, targets, may_raise, goes, raises, Writes, Live, read, on, aside, LiveAcross, across_step, across_raise, is_colour}
 use Rattle.mach_ir.specs.declared.reg.Reg.{Reg}
 use Rattle.mach_ir.specs.declared.mach.Instr.{Instr}
 use Rattle.mach_ir.specs.declared.mach.Mach.{Mach}
@@ -17,13 +17,13 @@ use Rattle.mach_laws.proofs.Raised.{label_silent}
 use Rattle.mach_laws.proofs.Walking.{only_on}
 use Rattle.liveness.proofs.Bounds.{killed_is_colour}
 use Rattle.split_rules.proofs.Whole.{fixed_colours}
-use Rattle.split_rules.specs.Writes.{Comes, from_write, past, past_raise}
+use Rattle.split_rules.specs.Writes.{WriteReaches, from_write, past, past_raise}
 use Rattle.bs_words.proofs.Lists.{none_in, first_in, later_in, in_cons}
-use Rattle.spill_rules.specs.Spilled.{Plan, in_slot, reload, spill, reloads_of, spills_of, operands_of, results_of, spilled_instr, spilled, IsPlan}
+use Rattle.spill_rules.specs.Spilled.{SpillPlan, in_slot, reload, spill, reloads_of, spills_of, operand_registers, written_results, spilled_instr, spilled, IsSpillPlan}
 use Rattle.spill_rules.proofs.Text.{keeps_marks, all_results, operand_in}
 use Rattle.bs_words.proofs.Truths.{not_both}
 
-module _ (m : Mach) (plan : Plan) (formed : WellFormed m) (placed : WellPlaced m) (is : IsPlan m plan) where
+module _ (m : Mach) (plan : SpillPlan) (formed : WellFormed m) (placed : WellPlaced m) (is : IsSpillPlan m plan) where
   abbrev q : Mach
   q = spilled plan m
 
@@ -32,7 +32,7 @@ module _ (m : Mach) (plan : Plan) (formed : WellFormed m) (placed : WellPlaced m
 
   -- each write of the register that comes here was stored
   abbrev pub IsStored : ℕ → List Instr → Type 0
-  IsStored n rest = (from : List Instr) → Comes m n from rest → plan.spills (length from) n ≡ true
+  IsStored n rest = (from : List Instr) → WriteReaches m n from rest → plan.spills (length from) n ≡ true
 
   -- what is live in the second was live in the first
   pub data WasLive (x : ℕ) (rest : List Instr) : Type 0 where
@@ -50,13 +50,13 @@ module _ (m : Mach) (plan : Plan) (formed : WellFormed m) (placed : WellPlaced m
 
   pub data Laid : Stage → List Instr → Type 0 where
     laid_end : Laid (Before []) []
-    begins : {i : Instr} {next ys : List Instr} → Ending (i ∷ next) m.code → Laid (Reading i next (operands_of i)) ys →
+    begins : {i : Instr} {next ys : List Instr} → Ending (i ∷ next) m.code → Laid (Reading i next (operand_registers i)) ys →
         Laid (Before (i ∷ next)) ys
-    reloads : {i : Instr} {next ys : List Instr} {rs : List Reg} (r : Reg) → Ending (i ∷ next) m.code → Among r.number i.args →
+    reloads : {i : Instr} {next ys : List Instr} {rs : List Reg} (r : Reg) → Ending (i ∷ next) m.code → AmongRegisters r.number i.args →
         plan.reloads (length next) r.number ≡ true → Laid (Reading i next rs) ys → Laid (Reading i next (r ∷ rs)) (reload plan r ∷ ys)
     passes_operand : {i : Instr} {next ys : List Instr} {rs : List Reg} (r : Reg) → Laid (Reading i next rs) ys →
         Laid (Reading i next (r ∷ rs)) ys
-    main : {i : Instr} {next ys : List Instr} → Ending (i ∷ next) m.code → Laid (Storing i next (results_of i)) ys →
+    main : {i : Instr} {next ys : List Instr} → Ending (i ∷ next) m.code → Laid (Storing i next (written_results i)) ys →
         Laid (Reading i next []) (i ∷ ys)
     spills : {i : Instr} {next ys : List Instr} {rs : List Reg} (r : Reg) → Contains i.results r →
         plan.spills (length next) r.number ≡ true → Laid (Storing i next rs) ys → Laid (Storing i next (r ∷ rs)) (spill plan r ∷ ys)
@@ -95,12 +95,12 @@ module _ (m : Mach) (plan : Plan) (formed : WellFormed m) (placed : WellPlaced m
   laid_of [] ending = laid_end
   laid_of (i ∷ next) ending =
       begins ending
-      (subst (Laid (Reading i next (operands_of i)))
-      (sym (append_assoc (reloads_of plan (length next) (operands_of i)) (i ∷ spills_of plan (length next) (results_of i)) (expand f next)))
-      (laid_operands i next (operands_of i) (i ∷ (spills_of plan (length next) (results_of i) ++ expand f next)) ending
+      (subst (Laid (Reading i next (operand_registers i)))
+      (sym (append_assoc (reloads_of plan (length next) (operand_registers i)) (i ∷ spills_of plan (length next) (written_results i)) (expand f next)))
+      (laid_operands i next (operand_registers i) (i ∷ (spills_of plan (length next) (written_results i) ++ expand f next)) ending
       (λ r c. operand_in i r c)
       (main ending
-      (laid_results i next (results_of i) (expand f next) (λ r c. cond_in _ i.results r c) (laid_of next (ending_next ending))))))
+      (laid_results i next (written_results i) (expand f next) (λ r c. cond_in _ i.results r c) (laid_of next (ending_next ending))))))
 
   -- ---- what it says at each stage
 
@@ -130,7 +130,7 @@ module _ (m : Mach) (plan : Plan) (formed : WellFormed m) (placed : WellPlaced m
 
   -- a stored register is not destroyed, and if it is written it is stored again
   pub stored_unwritten : (x n : ℕ) (i : Instr) (next to : List Instr) (t : Target) → Ending (i ∷ next) m.code → OneOf t (targets i.op) →
-      plan.slot n ≡ x → IsStored n (code_at m.code next t) → NotThere x (length next) (results_of i) → Writes m i n → ⊥
+      plan.slot n ≡ x → IsStored n (code_at m.code next t) → NotThere x (length next) (written_results i) → Writes m i n → ⊥
   stored_unwritten x n i next to t ending o e s not_there w =
       let spilt = s next (from_write (stands_of ending) w (goes t o)) in
       ⊎_elim
@@ -153,19 +153,19 @@ module _ (m : Mach) (plan : Plan) (formed : WellFormed m) (placed : WellPlaced m
   passed_by x i next r rs e (inr h) =
       inr (h.0, more_there x (length next) r rs (λ s t. not_both (plan.spills (length next) r.number) s e) h.1)
 
-  read_case : {x : ℕ} {j : Instr} {ys : List Instr} (s : Stage) → Laid s (j ∷ ys) → Among x j.args → Says x s
-  read_case s (begins {i = i} {next = next} ending h) a = read_case (Reading i next (operands_of i)) h a
+  read_case : {x : ℕ} {j : Instr} {ys : List Instr} (s : Stage) → Laid s (j ∷ ys) → AmongRegisters x j.args → Says x s
+  read_case s (begins {i = i} {next = next} ending h) a = read_case (Reading i next (operand_registers i)) h a
   read_case s (reloads {i = i} {next = next} r ending among e h) a =
       stored r.number (of_one a) (read among) (λ from c. is.stored i next from r.number (stands_of ending) among e c)
     where
-      of_one : {x : ℕ} → Among x (in_slot plan r ∷ []) → plan.slot r.number ≡ x
+      of_one : {x : ℕ} → AmongRegisters x (in_slot plan r ∷ []) → plan.slot r.number ≡ x
       of_one (first e) = e
       of_one (later a) = elim a [ ]
   read_case s (passes_operand {i = i} {next = next} {rs = rs} r h) a = read_case (Reading i next rs) h a
   read_case s (main ending h) a = itself (read a)
   read_case s (spills r c e h) a = inl (is_result r c e (of_one a))
     where
-      of_one : {x : ℕ} → Among x (r ∷ []) → r.number ≡ x
+      of_one : {x : ℕ} → AmongRegisters x (r ∷ []) → r.number ≡ x
       of_one (first e) = e
       of_one (later a) = elim a [ ]
   read_case {x} s (passes_result {i = i} {next = next} {rs = rs} r e h) a = passed_by x i next r rs e (read_case (Storing i next rs) h a)
@@ -177,7 +177,7 @@ module _ (m : Mach) (plan : Plan) (formed : WellFormed m) (placed : WellPlaced m
 
   on_case : {x : ℕ} {j : Instr} {ys : List Instr} (s : Stage) (t : Target) → Laid s (j ∷ ys) → (Writes q j x → ⊥) → OneOf t (targets j.op) →
       Onward x ys t → Says x s
-  on_case s t (begins {i = i} {next = next} ending h) w o ih = on_case (Reading i next (operands_of i)) t h w o ih
+  on_case s t (begins {i = i} {next = next} ending h) w o ih = on_case (Reading i next (operand_registers i)) t h w o ih
   on_case {x} {ys = ys} s t (reloads {i = i} {next = next} {rs = rs} r ending among e h) w o ih =
       subst (Onward x ys) (only_on t o) ih (Reading i next rs) h
   on_case s t (passes_operand {i = i} {next = next} {rs = rs} r h) w o ih = on_case (Reading i next rs) t h w o ih
@@ -185,16 +185,16 @@ module _ (m : Mach) (plan : Plan) (formed : WellFormed m) (placed : WellPlaced m
     where
       not_result : IsResult x i (length next) → ⊥
       not_result (is_result r c s e) =
-          w (left_among i.results (killed q i) (subst (λ n. Among n i.results) e (among_of r i.results c)))
+          w (left_among i.results (killed q i) (subst (λ n. AmongRegisters n i.results) e (among_of r i.results c)))
 
-      went : (t : Target) → OneOf t (targets i.op) → WasLive x (code_at m.code next t) → NotThere x (length next) (results_of i) →
+      went : (t : Target) → OneOf t (targets i.op) → WasLive x (code_at m.code next t) → NotThere x (length next) (written_results i) →
           WasLive x (i ∷ next)
       went t o (itself v) n = itself (on w (goes t o) v)
       went t o (stored k e v k_stored) n =
           let free : Writes m i k → ⊥ = stored_unwritten x k i next next t ending o e k_stored n in
           stored k e (on free (goes t o) v) (λ from c. k_stored from (past c free (goes t o)))
 
-      silent_results : (l : ℕ) → OneOf (At l) (targets i.op) → NotThere x (length next) (results_of i)
+      silent_results : (l : ℕ) → OneOf (At l) (targets i.op) → NotThere x (length next) (written_results i)
       silent_results l o = λ r c.
           absurd
           (label_silent m (form_of formed ending) l o r.number
@@ -202,7 +202,7 @@ module _ (m : Mach) (plan : Plan) (formed : WellFormed m) (placed : WellPlaced m
 
       by : (t : Target) → OneOf t (targets i.op) → Onward x ys t → WasLive x (i ∷ next)
       by On o ih =
-          ⊎_elim (λ r. absurd (not_result r)) (λ g. went On o g.0 g.1) (ih (Storing i next (results_of i)) h)
+          ⊎_elim (λ r. absurd (not_result r)) (λ g. went On o g.0 g.1) (ih (Storing i next (written_results i)) h)
       by (At l) o ih =
           went (At l) o
           (ih (Before (after_label l m.code))
@@ -247,7 +247,7 @@ module _ (m : Mach) (plan : Plan) (formed : WellFormed m) (placed : WellPlaced m
 
   aside_case : {x : ℕ} {j : Instr} {ys : List Instr} (s : Stage) (l : ℕ) (tries : List ℕ) → Laid s (j ∷ ys) → may_raise j.op ≡ true →
       tries_at (j ∷ ys) ≡ l ∷ tries → ((s : Stage) → Laid s (from_handler l q.code) → Says x s) → Says x s
-  aside_case s l tries (begins {i = i} {next = next} ending h) b r ih = aside_case (Reading i next (operands_of i)) l tries h b r ih
+  aside_case s l tries (begins {i = i} {next = next} ending h) b r ih = aside_case (Reading i next (operand_registers i)) l tries h b r ih
   aside_case s l tries (reloads g ending a e h) b r ih = absurd (not_both false b refl)
   aside_case s l tries (passes_operand {i = i} {next = next} {rs = rs} g h) b r ih = aside_case (Reading i next rs) l tries h b r ih
   aside_case {x} s l tries (main {i = i} {next = next} ending h) b r ih =
@@ -279,28 +279,28 @@ module _ (m : Mach) (plan : Plan) (formed : WellFormed m) (placed : WellPlaced m
 
   -- what is live across the instruction itself
   pub across_back : {x : ℕ} {ys : List Instr} (i : Instr) (next : List Instr) → Ending (i ∷ next) m.code →
-      Laid (Storing i next (results_of i)) ys → LiveAcross q x i ys → WasAcross x i next
+      Laid (Storing i next (written_results i)) ys → LiveAcross q x i ys → WasAcross x i next
   across_back {x} {ys} i next ending h (across_step w (goes t o) v) = by t o (λ z k. live_back v z k)
     where
       not_result : IsResult x i (length next) → ⊥
       not_result (is_result r c s e) =
-          w (left_among i.results (killed q i) (subst (λ n. Among n i.results) e (among_of r i.results c)))
+          w (left_among i.results (killed q i) (subst (λ n. AmongRegisters n i.results) e (among_of r i.results c)))
 
-      went : (t : Target) → OneOf t (targets i.op) → WasLive x (code_at m.code next t) → NotThere x (length next) (results_of i) →
+      went : (t : Target) → OneOf t (targets i.op) → WasLive x (code_at m.code next t) → NotThere x (length next) (written_results i) →
           WasAcross x i next
       went t o (itself v) n = itself_across (across_step w (goes t o) v)
       went t o (stored k e v k_stored) n =
           let free : Writes m i k → ⊥ = stored_unwritten x k i next next t ending o e k_stored n in
           stored_across k e (across_step free (goes t o) v) (λ from c. k_stored from (past c free (goes t o)))
 
-      silent_results : (l : ℕ) → OneOf (At l) (targets i.op) → NotThere x (length next) (results_of i)
+      silent_results : (l : ℕ) → OneOf (At l) (targets i.op) → NotThere x (length next) (written_results i)
       silent_results l o = λ r c.
           absurd
           (label_silent m (form_of formed ending) l o r.number
           (left_among i.results (killed m i) (among_of r i.results (subst (λ rs. Contains rs r) (all_results (form_of formed ending)) c))))
 
       by : (t : Target) → OneOf t (targets i.op) → Onward x ys t → WasAcross x i next
-      by On o ih = ⊎_elim (λ r. absurd (not_result r)) (λ g. went On o g.0 g.1) (ih (Storing i next (results_of i)) h)
+      by On o ih = ⊎_elim (λ r. absurd (not_result r)) (λ g. went On o g.0 g.1) (ih (Storing i next (written_results i)) h)
       by (At l) o ih =
           went (At l) o
           (ih (Before (after_label l m.code))

@@ -7,9 +7,9 @@ use Rattle.mach_ir.specs.Acts.{Target, On, At}
 use Rattle.mach_ir.specs.Formed.{WellFormed}
 use Rattle.mach_ir.specs.Meaning.{after_label, code_at}
 use Rattle.mach_ir.specs.Placed as placing
-use Rattle.mach_ir.specs.Placed.{colours, IsPlaced, in_colour, MayShare, WellPlaced}
+use Rattle.mach_ir.specs.Placed.{colour_numbers, HasColourOrSlot, in_colour, MayShare, WellPlaced}
 use Rattle.mach_ir.specs.Seats.{AreSeated, anywhere, places_of, mach_operand_seats, mach_result_seats, Seated}
-use Rattle.mach_ir.specs.Walks.{Among, first, later, OneOf, targets, goes, Writes, Live, LiveAfter, after_step, IsRegister, is_in_code, Stands, Meets, at_write, at_params, Joined, one_way, other_way}
+use Rattle.mach_ir.specs.Walks.{AmongRegisters, first, later, OneOf, targets, goes, Writes, Live, LiveAfter, after_step, IsRegister, is_in_code, StandsAsInstr, Meets, at_write, at_params, Joined, one_way, other_way}
 use Rattle.mach_ir.specs.declared.reg.Reg.{Reg}
 use Rattle.mach_ir.specs.declared.mach.Instr.{Instr}
 use Rattle.mach_ir.specs.declared.mach.Mach.{Mach}
@@ -17,14 +17,14 @@ use Rattle.mach_laws.specs.Expand.{expand, Ending, all}
 use Rattle.mach_laws.proofs.Places.{label_expand, ending_next, ending_label, ending_of, results_in, contains_of, stands_in}
 use Rattle.places_rules.proofs.Open.{machine_slot}
 use Rattle.places_rules.proofs.Walked.{colour_place}
-use Rattle.spill_rules.specs.Spilled.{Plan, in_slot, results_of, has_results, spilled_instr, spilled, IsPlan}
+use Rattle.spill_rules.specs.Spilled.{SpillPlan, in_slot, written_results, has_results, spilled_instr, spilled, IsSpillPlan}
 use Rattle.spill_rules.proofs.Formed.{IsCopy, is_reload, is_spill, IsMain, was_main}
 use Rattle.spill_rules.proofs.Kept.{Which, own, slotted, WasRegister, was_register}
 use Rattle.spill_rules.proofs.Live.{Storing, Laid, laid_of, laid_results, WasLive, itself, stored, IsResult, is_result, live_back, live_before}
 use Rattle.spill_rules.proofs.Text.{keeps_marks}
 use Rattle.bs_words.proofs.Places.{same_slot}
 
-module _ (m : Mach) (plan : Plan) (formed : WellFormed m) (placed : WellPlaced m) (is : IsPlan m plan) where
+module _ (m : Mach) (plan : SpillPlan) (formed : WellFormed m) (placed : WellPlaced m) (is : IsSpillPlan m plan) where
   abbrev q : Mach
   q = spilled plan m
 
@@ -47,24 +47,24 @@ module _ (m : Mach) (plan : Plan) (formed : WellFormed m) (placed : WellPlaced m
       ending : Ending (j ∷ w.next) m.code
       ending = ending_of w.stands
 
-      result_in : (r : Reg) → Contains (results_of j) r → Contains j.results r
+      result_in : (r : Reg) → Contains (written_results j) r → Contains j.results r
       result_in r c = in_cond (has_results j.op) c
         where
           in_cond : (b : Bool) → Contains (cond b j.results []) r → Contains j.results r
           in_cond true c = c
           in_cond false c = absurd (none_in r c)
 
-      laid : Laid m plan formed placed is (Storing j w.next (results_of j)) ys
+      laid : Laid m plan formed placed is (Storing j w.next (written_results j)) ys
       laid =
-          subst (Laid m plan formed placed is (Storing j w.next (results_of j))) w.same
-          (laid_results m plan formed placed is j w.next (results_of j) (expand g w.next) result_in
+          subst (Laid m plan formed placed is (Storing j w.next (written_results j))) w.same
+          (laid_results m plan formed placed is j w.next (written_results j) (expand g w.next) result_in
           (laid_of m plan formed placed is w.next (ending_next ending)))
 
       by : (t : Target) → OneOf t (targets j.op) → Live q k.number (code_at q.code ys t) → LiveAfter m k.number j w.next
       by On o v =
           ⊎_elim (λ r. of_result r o)
           (λ h. after_step (goes On o) (of_own k i w.next h.0))
-          (live_back m plan formed placed is v (Storing j w.next (results_of j)) laid)
+          (live_back m plan formed placed is v (Storing j w.next (written_results j)) laid)
         where
           of_result : IsResult m plan formed placed is k.number j (length w.next) → OneOf On (targets j.op) → LiveAfter m k.number j w.next
           of_result (is_result r c t e) o =
@@ -78,7 +78,7 @@ module _ (m : Mach) (plan : Plan) (formed : WellFormed m) (placed : WellPlaced m
   -- ---- the graph
 
   -- no copy writes a register of the first that has a place
-  not_copied : (r : Reg) → IsRegister m r → r.loc ≢ loc.Unset → (j : Instr) (ys : List Instr) → Stands j ys q.code → IsCopy plan j →
+  not_copied : (r : Reg) → IsRegister m r → r.loc ≢ loc.Unset → (j : Instr) (ys : List Instr) → StandsAsInstr j ys q.code → IsCopy plan j →
       Writes q j r.number → ⊥
   not_copied r i fixed j ys s (is_reload k t told e) w =
       by (was_register m plan formed placed is t there)
@@ -89,7 +89,7 @@ module _ (m : Mach) (plan : Plan) (formed : WellFormed m) (placed : WellPlaced m
       there : IsRegister q t
       there = is_in_code (results_in s result)
 
-      one : {x : ℕ} → Among x (t ∷ []) → t.number ≡ x
+      one : {x : ℕ} → AmongRegisters x (t ∷ []) → t.number ≡ x
       one (first e) = e
       one (later a) = elim a [ ]
 
@@ -108,7 +108,7 @@ module _ (m : Mach) (plan : Plan) (formed : WellFormed m) (placed : WellPlaced m
   not_copied r i fixed j ys s (is_spill t e) w =
       is.fresh r i t.number (one (subst (λ (j : Instr). Writes q j r.number) e w))
     where
-      one : {x : ℕ} → Among x (in_slot plan t ∷ []) → plan.slot t.number ≡ x
+      one : {x : ℕ} → AmongRegisters x (in_slot plan t ∷ []) → plan.slot t.number ≡ x
       one (first e) = e
       one (later a) = elim a [ ]
 
@@ -126,11 +126,11 @@ module _ (m : Mach) (plan : Plan) (formed : WellFormed m) (placed : WellPlaced m
 
   -- ---- places
 
-  place_of : (r w : Reg) → IsRegister m w → Which m plan formed placed is w r → (r.loc ≡ loc.Unset) ⊎ IsPlaced r
-  place_of r w i (own e) = subst (λ (r : Reg). (r.loc ≡ loc.Unset) ⊎ IsPlaced r) e ((placed.agree).places w i)
-  place_of r w i (slotted e) = inr (subst IsPlaced e (placing.in_slot refl))
+  place_of : (r w : Reg) → IsRegister m w → Which m plan formed placed is w r → (r.loc ≡ loc.Unset) ⊎ HasColourOrSlot r
+  place_of r w i (own e) = subst (λ (r : Reg). (r.loc ≡ loc.Unset) ⊎ HasColourOrSlot r) e ((placed.agree).places w i)
+  place_of r w i (slotted e) = inr (subst HasColourOrSlot e (placing.in_slot refl))
 
-  in_slot_of : (r : Reg) (n : ℕ) → IsPlaced r → r.loc ≡ loc.Slot n → (n ≡ r.origin) × (r.loc ≡ loc.Slot r.origin)
+  in_slot_of : (r : Reg) (n : ℕ) → HasColourOrSlot r → r.loc ≡ loc.Slot n → (n ≡ r.origin) × (r.loc ≡ loc.Slot r.origin)
   in_slot_of r n (in_colour k c h) e = absurd (machine_slot h e)
   in_slot_of r n (placing.in_slot h) e = (same_slot e h, h)
 
@@ -144,7 +144,7 @@ module _ (m : Mach) (plan : Plan) (formed : WellFormed m) (placed : WellPlaced m
       also u = fixed (e ∙ u)
 
       by : (w v : Reg) → IsRegister m w → IsRegister m v → Which m plan formed placed is w r → Which m plan formed placed is v k →
-          (r.loc ≡ loc.Unset) ⊎ IsPlaced r → (k.loc ≡ loc.Unset) ⊎ IsPlaced k → MayShare r k
+          (r.loc ≡ loc.Unset) ⊎ HasColourOrSlot r → (k.loc ≡ loc.Unset) ⊎ HasColourOrSlot k → MayShare r k
       by w v a b x y (inl u) z = absurd (fixed u)
       by w v a b x y (inr p) (inl u) = absurd (also u)
       by w v a b (own x) (own y) (inr p) (inr s) =

@@ -3,7 +3,7 @@ use Rattle.std.proofs.Common.{◌≡◌, ℕ, Bool, true, false, cond, ◌⊎◌
 use Rattle.std.specs.List.{Contains}
 use Rattle.bs_words.specs.declared.types.Comp.{Comp}
 use Rattle.bs_words.proofs.Lists.{none_in}
-use Rattle.mach_ir.specs.Formed.{comps, MarkHasForm, exit_form, if_form, else_form, switch_form, case_form, catch_form, with_form, try_form, leave_form, handler_form, end_form, IsFormed, formed_op, formed_mark}
+use Rattle.mach_ir.specs.Formed.{comps, MarkHasForm, exit_form, if_form, else_form, switch_form, case_form, catch_form, with_form, try_form, leave_form, handler_form, end_form, IsFormedInstruction, formed_op, formed_mark}
 use Rattle.mach_ir.specs.Forms as form
 use Rattle.mach_ir.specs.Keeps.{NamesSymbol, NamesExternal}
 use Rattle.mach_ir.specs.Meaning.{has_label, is_handler_of}
@@ -16,9 +16,9 @@ use Rattle.mach_ir.specs.declared.mach.MachOp.TheVariants as mach
 use Rattle.mach_ir.specs.declared.mach.Instr.{Instr}
 use Rattle.mach_laws.specs.Expand.{KeepsMarks, NoLabel, no_label, not_labelled, NoHandler, no_handler, not_handled, bounds_try, NoBound, no_bound, not_bound}
 use Rattle.mach_laws.proofs.Instructions.{no_comps}
-use Rattle.spill_rules.specs.Spilled.{Plan, copied, reload, spill, reloads_of, spills_of, has_operands, has_results, operands_of, results_of, spilled_instr}
+use Rattle.spill_rules.specs.Spilled.{SpillPlan, copy_instruction, reload, spill, reloads_of, spills_of, has_operands, has_results, operand_registers, written_results, spilled_instr}
 
-module _ (plan : Plan) where
+module _ (plan : SpillPlan) where
   -- ---- no copy is a mark
 
   reloads_unlabelled : (l k : ℕ) (rs : List Reg) (ys : List Instr) → NoLabel l ys → NoLabel l (reloads_of plan k rs ++ ys)
@@ -126,9 +126,9 @@ module _ (plan : Plan) where
   handler_no_operands l (mach.Mark (mark.Handler k)) e = refl
   handler_no_operands l (mach.Mark (mark.End k)) e = refl
 
-  no_reloads : (k : ℕ) (i : Instr) → has_operands i.op ≡ false → spilled_instr plan k i ≡ i ∷ spills_of plan k (results_of i)
+  no_reloads : (k : ℕ) (i : Instr) → has_operands i.op ≡ false → spilled_instr plan k i ≡ i ∷ spills_of plan k (written_results i)
   no_reloads k i e =
-      ap (λ b. reloads_of plan k (cond b i.args []) ++ i ∷ spills_of plan k (results_of i)) e
+      ap (λ b. reloads_of plan k (cond b i.args []) ++ i ∷ spills_of plan k (written_results i)) e
 
   stands_alone : (k : ℕ) (i : Instr) → IsBare i → spilled_instr plan k i ≡ i ∷ []
   stands_alone k i e = no_reloads k i e.0 ∙ ap (λ b. i ∷ spills_of plan k (cond b i.results [])) e.1
@@ -138,17 +138,17 @@ module _ (plan : Plan) where
       record {
         mark = λ l n i e. (i, stands_alone n i (label_bare l i.op e), refl);
         none = λ l n i e.
-            reloads_unlabelled l n (operands_of i) (i ∷ spills_of plan n (results_of i))
-            (not_labelled e (spills_unlabelled l n (results_of i)));
+            reloads_unlabelled l n (operand_registers i) (i ∷ spills_of plan n (written_results i))
+            (not_labelled e (spills_unlabelled l n (written_results i)));
         handler = λ l n i e.
-            (i, spills_of plan n (results_of i), no_reloads n i (handler_no_operands l i.op e), refl);
+            (i, spills_of plan n (written_results i), no_reloads n i (handler_no_operands l i.op e), refl);
         no_other = λ l n i e.
-            reloads_unhandled l n (operands_of i) (i ∷ spills_of plan n (results_of i))
-            (not_handled e (spills_unhandled l n (results_of i)));
+            reloads_unhandled l n (operand_registers i) (i ∷ spills_of plan n (written_results i))
+            (not_handled e (spills_unhandled l n (written_results i)));
         bound = λ n i e. (i, stands_alone n i (bound_bare i.op e), refl);
         unbound = λ n i e.
-            reloads_unbound n (operands_of i) (i ∷ spills_of plan n (results_of i))
-            (not_bound e (spills_unbound n (results_of i)));
+            reloads_unbound n (operand_registers i) (i ∷ spills_of plan n (written_results i))
+            (not_bound e (spills_unbound n (written_results i)));
       }
 
 -- ---- what has no results
@@ -170,7 +170,7 @@ cond_none : (b : Bool) (rs : List Reg) → rs ≡ [] → cond b rs [] ≡ rs
 cond_none true rs e = refl
 cond_none false rs e = sym e
 
-pub all_results : {i : Instr} → IsFormed i → results_of i ≡ i.results
+pub all_results : {i : Instr} → IsFormedInstruction i → written_results i ≡ i.results
 all_results (formed_op h) = refl
 all_results (formed_mark {f = f} {args = args} {results = results} h) =
     ⊎_elim (λ e. ap (λ b. cond b results []) e)
@@ -189,13 +189,13 @@ takes_or f cs ds leave_form = inr refl
 takes_or f cs ds handler_form = inr refl
 takes_or f cs ds end_form = inr refl
 
-pub all_operands : {i : Instr} → IsFormed i → operands_of i ≡ i.args
+pub all_operands : {i : Instr} → IsFormedInstruction i → operand_registers i ≡ i.args
 all_operands (formed_op h) = refl
 all_operands (formed_mark {f = f} {args = args} {results = results} h) =
     ⊎_elim (λ e. ap (λ b. cond b args []) e)
     (λ e. cond_none (has_operands (mach.Mark f)) args (no_comps args e)) (takes_or f (comps args) (comps results) h)
 
-pub operand_in : (i : Instr) (r : Reg) → Contains (operands_of i) r → Contains i.args r
+pub operand_in : (i : Instr) (r : Reg) → Contains (operand_registers i) r → Contains i.args r
 operand_in i r c = by (has_operands i.op) c
   where
     by : (b : Bool) → Contains (cond b i.args []) r → Contains i.args r
@@ -204,14 +204,14 @@ operand_in i r c = by (has_operands i.op) c
 
 -- ---- what a copy is not
 
-pub copy_formed : (kind : CopyKind) (from to : Reg) → IsFormed (copied kind from to)
+pub copy_formed : (kind : CopyKind) (from to : Reg) → IsFormedInstruction (copy_instruction kind from to)
 copy_formed kind from to = formed_op form.copies
 
-pub copy_no_mark : (kind : CopyKind) (from to : Reg) (k : Mark) → (copied kind from to).op ≡ mach.Mark k → ⊥
+pub copy_no_mark : (kind : CopyKind) (from to : Reg) (k : Mark) → (copy_instruction kind from to).op ≡ mach.Mark k → ⊥
 copy_no_mark kind from to k e = cc
 
-pub copy_no_symbol : (name : List ℕ) (kind : CopyKind) (from to : Reg) → NamesSymbol name (copied kind from to).op → ⊥
+pub copy_no_symbol : (name : List ℕ) (kind : CopyKind) (from to : Reg) → NamesSymbol name (copy_instruction kind from to).op → ⊥
 copy_no_symbol name kind from to n = elim n [ ]
 
-pub copy_no_external : (row : _) (kind : CopyKind) (from to : Reg) → NamesExternal row (copied kind from to).op → ⊥
+pub copy_no_external : (row : _) (kind : CopyKind) (from to : Reg) → NamesExternal row (copy_instruction kind from to).op → ⊥
 copy_no_external row kind from to n = elim n [ ]

@@ -23,14 +23,14 @@ use Rattle.mach_laws.specs.Expand.{expand, Ending, all}
 use Rattle.mach_laws.proofs.Grows.{held, instrs_expand, operands_expand, operands_append}
 use Rattle.mach_laws.proofs.Places.{label_expand, handler_expand, ending_label, ending_from_handler}
 use Rattle.mach_laws.proofs.Walking.{across_live}
-use Rattle.spill_rules.specs.Spilled.{Plan, in_slot, copied, reload, spill, reloads_of, spills_of, has_operands, has_results, operands_of, results_of, spilled_instr, spilled, IsPlan}
+use Rattle.spill_rules.specs.Spilled.{SpillPlan, in_slot, copy_instruction, reload, spill, reloads_of, spills_of, has_operands, has_results, operand_registers, written_results, spilled_instr, spilled, IsSpillPlan}
 use Rattle.spill_rules.proofs.Kept.{Which, own, slotted, WasRegister, was_register, origin_of, comp_of, slots_apart, does_spilled}
 use Rattle.spill_rules.proofs.Live.{Stage, Before, Reading, Storing, Laid, begins, reloads, passes_operand, main, spills, passes_result, ends, laid_of, laid_tries, WasAcross, itself_across, stored_across, across_back}
 use Rattle.spill_rules.proofs.Text.{keeps_marks, copy_no_symbol, copy_no_external}
 use Rattle.spill_rules.proofs.Holding.{live_register}
 use Rattle.bs_words.proofs.Places.{same_slot}
 
-module _ (m : Mach) (plan : Plan) (formed : WellFormed m) (placed : WellPlaced m) (is : IsPlan m plan) where
+module _ (m : Mach) (plan : SpillPlan) (formed : WellFormed m) (placed : WellPlaced m) (is : IsSpillPlan m plan) where
   abbrev q : Mach
   q = spilled plan m
 
@@ -45,7 +45,7 @@ module _ (m : Mach) (plan : Plan) (formed : WellFormed m) (placed : WellPlaced m
 
   -- ---- what instructions name
 
-  module _ (Named : MachOp → Type 0) (no_copy : (kind : CopyKind) (from to : Reg) → Named (copied kind from to).op → ⊥) where
+  module _ (Named : MachOp → Type 0) (no_copy : (kind : CopyKind) (from to : Reg) → Named (copy_instruction kind from to).op → ⊥) where
     in_reloads : (k : ℕ) (rs : List Reg) (j : Instr) → Contains (reloads_of plan k rs) j → Named j.op → ⊥
     in_reloads k [] j c n = none_in j c
     in_reloads k (r ∷ rs) j c n = by (plan.reloads k r.number) (λ d. in_reloads k rs j d n) c
@@ -73,11 +73,11 @@ module _ (m : Mach) (plan : Plan) (formed : WellFormed m) (placed : WellPlaced m
     named_in (i ∷ next) j c n =
         ⊎_elim
         (λ h.
-        ⊎_elim (λ g. absurd (in_reloads (length next) (operands_of i) j g n))
+        ⊎_elim (λ g. absurd (in_reloads (length next) (operand_registers i) j g n))
         (λ g.
-        ⊎_elim (λ e. subst (Contains (i ∷ next)) e (first_in i next)) (λ d. absurd (in_spills (length next) (results_of i) j d n))
-        (in_cons i j (spills_of plan (length next) (results_of i)) g))
-        (Contains-append_cases (reloads_of plan (length next) (operands_of i)) (i ∷ spills_of plan (length next) (results_of i)) j h))
+        ⊎_elim (λ e. subst (Contains (i ∷ next)) e (first_in i next)) (λ d. absurd (in_spills (length next) (written_results i) j d n))
+        (in_cons i j (spills_of plan (length next) (written_results i)) g))
+        (Contains-append_cases (reloads_of plan (length next) (operand_registers i)) (i ∷ spills_of plan (length next) (written_results i)) j h))
         (λ h. later_in i j next (named_in next j h n)) (Contains-append_cases (f (length next) i) (expand f next) j c)
 
     named_before : IsNamedIn Named q → IsNamedIn Named m
@@ -120,13 +120,13 @@ module _ (m : Mach) (plan : Plan) (formed : WellFormed m) (placed : WellPlaced m
 
   step_back : {j : Instr} {ys : List Instr} (s : Stage m plan formed placed is) (t : Target) → Lay s (j ∷ ys) → IsReachedAt s →
       OneOf t (targets j.op) → WasReached (code_at q.code ys t)
-  step_back s t (begins {i = i} {next = next} ending h) r o = step_back (Reading i next (operands_of i)) t h r o
+  step_back s t (begins {i = i} {next = next} ending h) r o = step_back (Reading i next (operand_registers i)) t h r o
   step_back {ys = ys} s t (reloads {i = i} {next = next} {rs = rs} k ending a e h) r o = copy_on (Reading i next rs) ys t h r o
   step_back s t (passes_operand {i = i} {next = next} {rs = rs} k h) r o = step_back (Reading i next rs) t h r o
   step_back {ys = ys} s t (main {i = i} {next = next} ending h) r o = by t o
     where
       by : (t : Target) → OneOf t (targets i.op) → WasReached (code_at q.code ys t)
-      by On o = record { stage = Storing i next (results_of i); laid = h; reached = by_step r (goes On o) }
+      by On o = record { stage = Storing i next (written_results i); laid = h; reached = by_step r (goes On o) }
       by (At l) o = reached_label l (by_step r (goes (At l) o))
   step_back {ys = ys} s t (spills {i = i} {next = next} {rs = rs} k c e h) r o = copy_on (Storing i next rs) ys t h r o
   step_back s t (passes_result {i = i} {next = next} {rs = rs} k e h) r o = step_back (Storing i next rs) t h r o
@@ -134,7 +134,7 @@ module _ (m : Mach) (plan : Plan) (formed : WellFormed m) (placed : WellPlaced m
 
   raise_back : {j : Instr} {ys : List Instr} (s : Stage m plan formed placed is) (l : ℕ) (tries : List ℕ) → Lay s (j ∷ ys) → IsReachedAt s →
       may_raise j.op ≡ true → tries_at (j ∷ ys) ≡ l ∷ tries → WasReached (from_handler l q.code)
-  raise_back s l tries (begins {i = i} {next = next} ending h) r b e = raise_back (Reading i next (operands_of i)) l tries h r b e
+  raise_back s l tries (begins {i = i} {next = next} ending h) r b e = raise_back (Reading i next (operand_registers i)) l tries h r b e
   raise_back s l tries (reloads k ending a t h) r b e = absurd (both_ways false refl b)
   raise_back s l tries (passes_operand {i = i} {next = next} {rs = rs} k h) r b e = raise_back (Reading i next rs) l tries h r b e
   raise_back s l tries (main {i = i} {next = next} ending h) r b e =
@@ -153,12 +153,12 @@ module _ (m : Mach) (plan : Plan) (formed : WellFormed m) (placed : WellPlaced m
   record IsMain (j : Instr) (ys : List Instr) : Type 0 where
     next : List Instr
     ending : Ending (j ∷ next) m.code
-    laid : Lay (Storing j next (results_of j)) ys
+    laid : Lay (Storing j next (written_results j)) ys
     reached : Reached m (j ∷ next)
 
   frame_main : {j : Instr} {ys : List Instr} (s : Stage m plan formed placed is) → Lay s (j ∷ ys) → IsReachedAt s →
       passes_frame j.op ≡ true → IsMain j ys
-  frame_main s (begins {i = i} {next = next} ending h) r t = frame_main (Reading i next (operands_of i)) h r t
+  frame_main s (begins {i = i} {next = next} ending h) r t = frame_main (Reading i next (operand_registers i)) h r t
   frame_main s (reloads k ending a e h) r t = absurd (both_ways false refl t)
   frame_main s (passes_operand {i = i} {next = next} {rs = rs} k h) r t = frame_main (Reading i next rs) h r t
   frame_main s (main {i = i} {next = next} ending h) r t = record { next = next; ending = ending; laid = h; reached = r }
@@ -258,20 +258,20 @@ module _ (m : Mach) (plan : Plan) (formed : WellFormed m) (placed : WellPlaced m
 
   few_instrs : (k : ℕ) (i : Instr) → length (f k i) ≤ suc (held i)
   few_instrs k i =
-      let a = (few_reloads k (operands_of i)).0 in
-      let b = (few_spills k (results_of i)).0 in
+      let a = (few_reloads k (operand_registers i)).0 in
+      let b = (few_spills k (written_results i)).0 in
       let x = cond_few (has_operands i.op) i.args in
       let y = cond_few (has_results i.op) i.results in
-      let z = length-append (reloads_of plan k (operands_of i)) (i ∷ spills_of plan k (results_of i)) in
+      let z = length-append (reloads_of plan k (operand_registers i)) (i ∷ spills_of plan k (written_results i)) in
       omega (arith, a, b, x, y, z)
 
   few_operands : (k : ℕ) (i : Instr) → operand_count (f k i) ≤ 3 * held i
   few_operands k i =
-      let a = (few_reloads k (operands_of i)).1 in
-      let b = (few_spills k (results_of i)).1 in
+      let a = (few_reloads k (operand_registers i)).1 in
+      let b = (few_spills k (written_results i)).1 in
       let x = cond_few (has_operands i.op) i.args in
       let y = cond_few (has_results i.op) i.results in
-      let z = operands_append (reloads_of plan k (operands_of i)) (i ∷ spills_of plan k (results_of i)) in
+      let z = operands_append (reloads_of plan k (operand_registers i)) (i ∷ spills_of plan k (written_results i)) in
       omega (arith, a, b, x, y, z)
 
   number_below : (registers : ℕ) (r w : Reg) → Which m plan formed placed is w r → w.number < registers → plan.slot w.number < registers →

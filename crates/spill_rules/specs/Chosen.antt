@@ -4,31 +4,31 @@ use Rattle.std.specs.Prelude.{◌≡◌, ◌≢◌, ◌↔◌, ◌⊎◌, ℕ, �
 use Rattle.bs_words.specs.declared.types.Loc.TheVariants as loc
 use Rattle.mach_ir.specs.Meaning.{Everything, destroyed_by}
 use Rattle.mach_ir.specs.Sizes.{Size, HasSize}
-use Rattle.mach_ir.specs.Walks.{Among, Live, Writes, Leads, Stands, IsRegister}
+use Rattle.mach_ir.specs.Walks.{AmongRegisters, Live, Writes, WalkStep, StandsAsInstr, IsRegister}
 use Rattle.mach_ir.specs.declared.reg.Reg.{Reg}
 use Rattle.mach_ir.specs.declared.mach.Instr.{Instr}
 use Rattle.mach_ir.specs.declared.mach.Mach.{Mach}
-use Rattle.split_rules.specs.Writes.{Comes}
-use Rattle.spill_rules.specs.Spilled.{Plan, reloads_of, spills_of, operands_of, results_of, spilled, IsKept}
+use Rattle.split_rules.specs.Writes.{WriteReaches}
+use Rattle.spill_rules.specs.Spilled.{SpillPlan, reloads_of, spills_of, operand_registers, written_results, spilled, IsSpillKept}
 
 -- A register is live over an instruction that destroys every colour (a call or the entry of a
 -- handler): it is live where control goes on from there, and not written there. A tail call goes
 -- nowhere. An external call leaves colours, so what is live over it may keep one.
 pub data LivesOver (m : Mach) (n : ℕ) (i : Instr) (next : List Instr) : List Instr → Type 0 where
-  lives : {to : List Instr} → Stands i next m.code → destroyed_by i.op ≡ Everything →
-      (Writes m i n → ⊥) → Leads m i next to → Live m n to → LivesOver m n i next to
+  lives : {to : List Instr} → StandsAsInstr i next m.code → destroyed_by i.op ≡ Everything →
+      (Writes m i n → ⊥) → WalkStep m i next to → Live m n to → LivesOver m n i next to
 
 -- A register is lost from where it has lived over such an instruction up to its next read, which
 -- reloads it, or its next write. A raise leads to the entry of a handler, and that is such an
 -- instruction itself.
 pub data Lost (m : Mach) (n : ℕ) : List Instr → Type 0 where
   over : {i : Instr} {next to : List Instr} → LivesOver m n i next to → Lost m n to
-  still : {i : Instr} {next to : List Instr} → Lost m n (i ∷ next) → (Among n i.args → ⊥) →
-      (Writes m i n → ⊥) → Leads m i next to → Lost m n to
+  still : {i : Instr} {next to : List Instr} → Lost m n (i ∷ next) → (AmongRegisters n i.args → ⊥) →
+      (Writes m i n → ⊥) → WalkStep m i next to → Lost m n to
 
 -- An operand is reloaded where its place is open and it is lost.
 pub record IsReloaded (m : Mach) (i : Instr) (next : List Instr) (n : ℕ) : Type 0 where
-  pub stands : Stands i next m.code
+  pub stands : StandsAsInstr i next m.code
   pub register : Reg
   pub operand : Contains i.args register
   pub number : register.number ≡ n
@@ -37,14 +37,14 @@ pub record IsReloaded (m : Mach) (i : Instr) (next : List Instr) (n : ℕ) : Typ
 
 -- A write, known by the code after it, is stored where it comes to a place at which the register is
 -- reloaded.
-pub record IsStored (m : Mach) (next : List Instr) (n : ℕ) : Type 0 where
+pub record IsStoredWrite (m : Mach) (next : List Instr) (n : ℕ) : Type 0 where
   pub instr : Instr
-  pub stands : Stands instr next m.code
+  pub stands : StandsAsInstr instr next m.code
   pub writes : Writes m instr n
   pub reader : Instr
   pub rest : List Instr
   pub reloaded : IsReloaded m reader rest n
-  pub comes : Comes m n next (reader ∷ rest)
+  pub comes : WriteReaches m n next (reader ∷ rest)
 
 -- the same before so many instructions, the instruction itself being none of them
 pub record ReloadsAt (m : Mach) (k n : ℕ) : Type 0 where
@@ -56,11 +56,11 @@ pub record ReloadsAt (m : Mach) (k n : ℕ) : Type 0 where
 pub record StoresAt (m : Mach) (k n : ℕ) : Type 0 where
   pub next : List Instr
   pub len : length next ≡ k
-  pub stored : IsStored m next n
+  pub stored : IsStoredWrite m next n
 
 -- The plan that spilling chooses. The number of a slot's register is that of its register and `free`, which is
 -- the least number above those of all registers.
-pub record IsChosen (m : Mach) (plan : Plan) : Type 0 where
+pub record IsSpillChoice (m : Mach) (plan : SpillPlan) : Type 0 where
   pub reloads : (k n : ℕ) → (plan.reloads k n ≡ true) ↔ ReloadsAt m k n
   pub spills : (k n : ℕ) → (plan.spills k n ≡ true) ↔ StoresAt m k n
   pub free : ℕ
@@ -70,8 +70,8 @@ pub record IsChosen (m : Mach) (plan : Plan) : Type 0 where
 
 -- What spilling makes of a function.
 pub record IsSpilled (m q : Mach) : Type 0 where
-  pub plan : Plan
-  pub chosen : IsChosen m plan
+  pub plan : SpillPlan
+  pub chosen : IsSpillChoice m plan
   pub is : q ≡ spilled plan m
 
 -- Parameters are at fixed places, as the conventions say (`Seated`): the entry stores nothing.
@@ -105,12 +105,12 @@ spilled_size s =
       registers = 2 * s.registers;
     }
 
-pub record IsChosenKept (m q : Mach) (plan : Plan) : Type 0 where
-  pub kept : IsKept m q plan
+pub record IsChosenKept (m q : Mach) (plan : SpillPlan) : Type 0 where
+  pub kept : IsSpillKept m q plan
   -- the only new registers are in such slots
   pub slots : (r : Reg) → IsRegister q r → IsRegister m r ⊎ IsNeededSlot m r
   -- at most one reload for each operand, and one store for each place where a register is written
   pub reloads : (i : Instr) (k : ℕ) →
-      length (reloads_of plan k (operands_of i)) ≤ length i.args
-  pub spills : (i : Instr) (k : ℕ) → length (spills_of plan k (results_of i)) ≤ length i.results
+      length (reloads_of plan k (operand_registers i)) ≤ length i.args
+  pub spills : (i : Instr) (k : ℕ) → length (spills_of plan k (written_results i)) ≤ length i.results
   pub size : (s : Size) → HasSize m s → HasSize q (spilled_size s)

@@ -6,7 +6,7 @@ use Rattle.mach_ir.specs.Keeps.{Keeps}
 use Rattle.mach_ir.specs.Placed.{WellPlaced}
 use Rattle.mach_ir.specs.Seats.{Seated}
 use Rattle.mach_ir.specs.Sizes.{Size, HasSize}
-use Rattle.mach_ir.specs.Walks.{Among, Live, Stands, IsRegister}
+use Rattle.mach_ir.specs.Walks.{AmongRegisters, Live, StandsAsInstr, IsRegister}
 use Rattle.mach_ir.specs.declared.op.CopyKind.{CopyKind}
 use Rattle.mach_ir.specs.declared.op.CopyKind.TheVariants as copy
 use Rattle.mach_ir.specs.declared.op.Op.TheVariants as op
@@ -18,36 +18,36 @@ use Rattle.mach_ir.specs.declared.mach.MachOp.TheVariants as mach
 use Rattle.mach_ir.specs.declared.mach.Instr.{Instr}
 use Rattle.mach_ir.specs.declared.mach.Mach.{Mach}
 use Rattle.mach_laws.specs.Expand.{expand}
-use Rattle.split_rules.specs.Writes.{Comes}
+use Rattle.split_rules.specs.Writes.{WriteReaches}
 
 -- Which writes of a register are stored, and before which reads it is reloaded: by how many
 -- instructions come after, and by the register's number.
-pub record Plan : Type 0 where
+pub record SpillPlan : Type 0 where
   -- the number of the register that stands for a register's slot
   pub slot : ℕ → ℕ
   pub spills : ℕ → ℕ → Bool
   pub reloads : ℕ → ℕ → Bool
 
 -- the slot of a register: it has the number of the register's origin
-abbrev pub in_slot : Plan → Reg → Reg
+abbrev pub in_slot : SpillPlan → Reg → Reg
 in_slot plan r = record r { number = plan.slot r.number; loc = loc.Slot r.origin }
 
-abbrev pub copied : CopyKind → Reg → Reg → Instr
-copied kind from to =
+abbrev pub copy_instruction : CopyKind → Reg → Reg → Instr
+copy_instruction kind from to =
     record { op = mach.Op (op.Pure (pure.Copy kind)); args = from ∷ []; results = to ∷ [] }
 
-abbrev pub reload : Plan → Reg → Instr
-reload plan r = copied copy.Reload (in_slot plan r) r
+abbrev pub reload : SpillPlan → Reg → Instr
+reload plan r = copy_instruction copy.Reload (in_slot plan r) r
 
-abbrev pub spill : Plan → Reg → Instr
-spill plan r = copied copy.Spill r (in_slot plan r)
+abbrev pub spill : SpillPlan → Reg → Instr
+spill plan r = copy_instruction copy.Spill r (in_slot plan r)
 
-abbrev pub reloads_of : Plan → ℕ → List Reg → List Instr
+abbrev pub reloads_of : SpillPlan → ℕ → List Reg → List Instr
 reloads_of plan k [] = []
 reloads_of plan k (r ∷ rs) =
     cond (plan.reloads k r.number) (reload plan r ∷ reloads_of plan k rs) (reloads_of plan k rs)
 
-abbrev pub spills_of : Plan → ℕ → List Reg → List Instr
+abbrev pub spills_of : SpillPlan → ℕ → List Reg → List Instr
 spills_of plan k [] = []
 spills_of plan k (r ∷ rs) =
     cond (plan.spills k r.number) (spill plan r ∷ spills_of plan k rs) (spills_of plan k rs)
@@ -64,22 +64,22 @@ has_results (mach.Op f) = true
 has_results (mach.Mark (mark.Handler l)) = true
 has_results (mach.Mark _) = false
 
-abbrev pub operands_of : Instr → List Reg
-operands_of i = cond (has_operands i.op) i.args []
+abbrev pub operand_registers : Instr → List Reg
+operand_registers i = cond (has_operands i.op) i.args []
 
-abbrev pub results_of : Instr → List Reg
-results_of i = cond (has_results i.op) i.results []
+abbrev pub written_results : Instr → List Reg
+written_results i = cond (has_results i.op) i.results []
 
 -- an instruction, its reloads before it and its spills after it
-abbrev pub spilled_instr : Plan → ℕ → Instr → List Instr
+abbrev pub spilled_instr : SpillPlan → ℕ → Instr → List Instr
 spilled_instr plan k i =
-    reloads_of plan k (operands_of i) ++ i ∷ spills_of plan k (results_of i)
+    reloads_of plan k (operand_registers i) ++ i ∷ spills_of plan k (written_results i)
 
-abbrev pub spilled : Plan → Mach → Mach
+abbrev pub spilled : SpillPlan → Mach → Mach
 spilled plan m = record m { code = expand (spilled_instr plan) m.code }
 
 -- What a plan owes for a function to do what it did.
-pub record IsPlan (m : Mach) (plan : Plan) : Type 0 where
+pub record IsSpillPlan (m : Mach) (plan : SpillPlan) : Type 0 where
   -- each register has a slot register of its own, with a number that no register has
   pub back : ℕ → ℕ
   pub slot_back : (n : ℕ) → back (plan.slot n) ≡ n
@@ -90,17 +90,17 @@ pub record IsPlan (m : Mach) (plan : Plan) : Type 0 where
   pub reloads_open : (r : Reg) → IsRegister m r → (k : ℕ) → plan.reloads k r.number ≡ true →
       r.loc ≡ loc.Unset
   -- a register is reloaded only where each write of it that comes there was stored
-  pub stored : (i : Instr) (next from : List Instr) (n : ℕ) → Stands i next m.code →
-      Among n i.args → plan.reloads (length next) n ≡ true → Comes m n from (i ∷ next) →
+  pub stored : (i : Instr) (next from : List Instr) (n : ℕ) → StandsAsInstr i next m.code →
+      AmongRegisters n i.args → plan.reloads (length next) n ≡ true → WriteReaches m n from (i ∷ next) →
       plan.spills (length from) n ≡ true
   -- what is stored is live after its write
-  pub useful : (i : Instr) (next : List Instr) (r : Reg) → Stands i next m.code →
+  pub useful : (i : Instr) (next : List Instr) (r : Reg) → StandsAsInstr i next m.code →
       Contains i.results r → plan.spills (length next) r.number ≡ true → Live m r.number next
   -- the entry stores nothing
-  pub entry : (n : ℕ) → Among n m.params → plan.spills (length m.code) n ≡ false
+  pub entry : (n : ℕ) → AmongRegisters n m.params → plan.spills (length m.code) n ≡ false
 
 -- what a function with spills and reloads keeps
-pub record IsKept (m q : Mach) (plan : Plan) : Type 0 where
+pub record IsSpillKept (m q : Mach) (plan : SpillPlan) : Type 0 where
   pub keeps : Keeps m q
   pub formed : WellFormed q
   pub placed : WellPlaced q

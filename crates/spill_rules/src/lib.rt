@@ -16,19 +16,19 @@ ghost use Rattle.mach_ir.specs.Formed.{WellFormed};
 ghost use Rattle.mach_ir.specs.Placed.{WellPlaced};
 ghost use Rattle.mach_ir.specs.Seats.{Seated};
 ghost use Rattle.mach_ir.specs.declared.mach.Mach.{Mach};
-ghost use Rattle.spill_rules.specs.Chosen.{IsChosen, IsSpilled, ParamsPlaced, IsChosenKept};
-ghost use Rattle.spill_rules.specs.Spilled.{Plan, IsPlan, IsKept, spilled};
+ghost use Rattle.spill_rules.specs.Chosen.{IsSpillChoice, IsSpilled, ParamsPlaced, IsChosenKept};
+ghost use Rattle.spill_rules.specs.Spilled.{SpillPlan, IsSpillPlan, IsSpillKept, spilled};
 
 /// Law: a function in which registers are stored and reloaded by a plan keeps.
 pub fn spilling_changes_nothing()
-    ensures { (m : Mach) (plan : Plan) → WellFormed m → WellPlaced m → IsPlan m plan →
-        IsKept m (spilled plan m) plan }
+    ensures { (m : Mach) (plan : SpillPlan) → WellFormed m → WellPlaced m → IsSpillPlan m plan →
+        IsSpillKept m (spilled plan m) plan }
 {}
 
 /// Law: what spilling chooses is a plan.
 pub fn a_chosen_plan_is_one()
-    ensures { (m : Mach) (plan : Plan) → WellFormed m → ParamsPlaced m → IsChosen m plan →
-        IsPlan m plan }
+    ensures { (m : Mach) (plan : SpillPlan) → WellFormed m → ParamsPlaced m → IsSpillChoice m plan →
+        IsSpillPlan m plan }
 {}
 
 /// Law: what spilling makes of a function is kept, and gives slots only to what lives over calls.

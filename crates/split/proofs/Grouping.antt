@@ -15,11 +15,11 @@ use Rattle.liveness.proofs.Counting.{countable_of}
 use Rattle.split_rules.specs.Order.{write_of, open_writes, code_writes, writes_of}
 use Rattle.split_rules.specs.Split.{split_size}
 use Rattle.bs_words.proofs.Lists.{none_in, first_in, later_in, in_cons, pushed_kept, pushed_here, pushed_cases}
-use Rattle.split.specs.Writes.{members_in, HasMember, AreRising, ends, rises, IsGrouped}
+use Rattle.split.specs.Writes.{members_in, HasOnlyNewMember, AreRising, ends, rises, IsGrouped}
 use Rattle.split.specs.declared.writes.Group as group
 use Rattle.split_rules.specs.declared.writes.Write.{Write}
 use Rattle.split.proofs.Members.{open_write}
-use Rattle.mach_ir.specs.Places.{is_open}
+use Rattle.mach_ir.specs.Places.{is_unset_location}
 
 members_same : (gs : List group.Group) (k : ℕ) (g : group.Group) → k < length gs → members_in (set gs k g) k ≡ g.members.items
 members_same gs k g within =
@@ -38,7 +38,7 @@ members_read gs k g within read =
     get_or-map f gs k g [] within ∙ ap f (sym read)
 
 pub has_member : (old new : List group.Group) (k member : ℕ) (g g' : group.Group) → k < length old → g ≡ get_or old k g →
-    g'.members.items ≡ g.members.items ++ member ∷ [] → new ≡ set old k g' → HasMember old new k member
+    g'.members.items ≡ g.members.items ++ member ∷ [] → new ≡ set old k g' → HasOnlyNewMember old new k member
 has_member old new k member g g' within read more is =
     record {
       len = ap length is ∙ length-set old k g';
@@ -59,7 +59,7 @@ rising_more (u ∷ ws) w (rises low r) above =
     (rising_more ws w r (λ v c. above v (later_in u v ws c)))
 
 module _ (writes : List Write) (free : ℕ) (old new : List group.Group) (x : Write) (w : ℕ) (end : w ≡ length writes)
-    (has : HasMember old new x.number w) where
+    (has : HasOnlyNewMember old new x.number w) where
   in_group : (n v : ℕ) → Contains (members_in new n) v → Contains (members_in old n) v ⊎ ((n ≡ x.number) × (w ≡ v))
   in_group n v c =
       ⊎_elim
@@ -114,7 +114,7 @@ module _ (writes : List Write) (free : ℕ) (old new : List group.Group) (x : Wr
       }
 
 pub grouped_more : (writes : List Write) (free k w : ℕ) (old new : List group.Group) (d : Write) → k < length writes → w ≡ k →
-    HasMember old new (get_or writes k d).number w → IsGrouped (take k writes) free old → IsGrouped (take (k + 1) writes) free new
+    HasOnlyNewMember old new (get_or writes k d).number w → IsGrouped (take k writes) free old → IsGrouped (take (k + 1) writes) free new
 grouped_more writes free k w old new d lt e has g =
     subst (λ xs. IsGrouped xs free new) (sym (take_more writes k d lt))
     (grouped_pushed (take k writes) free old new (get_or writes k d) w (e ∙ sym (taken writes k lt)) has g)
@@ -175,7 +175,7 @@ numbers_small m free writes small e = λ k d lt.
 
 few_open : (k : ℕ) (rs : List Reg) → length (open_writes k rs) ≤ length rs
 few_open k [] = omega arith
-few_open k (r ∷ rs) = by (is_open r.loc) (few_open k rs)
+few_open k (r ∷ rs) = by (is_unset_location r.loc) (few_open k rs)
   where
     by : (b : Bool) → length (open_writes k rs) ≤ length rs →
         length (cond b (write_of k r ∷ open_writes k rs) (open_writes k rs)) ≤ length (r ∷ rs)

@@ -9,16 +9,16 @@ use Rattle.std.specs.List.{All, Contains}
 use Rattle.std.specs.Prelude.{nat_eq, slice_get, slice_index, slice_index_or}
 use Rattle.std.proofs.lemmas.List.Elements.{Contains-append_cases}
 use Rattle.bs_bits.specs.Set.{has}
-use Rattle.dataflow.specs.Rows.{row}
-use Rattle.mach_ir.specs.Walks.{Among, first, later, read}
+use Rattle.dataflow.specs.Rows.{set_in_row}
+use Rattle.mach_ir.specs.Walks.{AmongRegisters, first, later, read}
 use Rattle.mach_ir.specs.declared.reg.Reg.{Reg}
 use Rattle.mach_ir.specs.declared.mach.Instr.{Instr}
 use Rattle.mach_ir.specs.declared.mach.Mach.{Mach}
-use Rattle.split_rules.specs.Writes.{Comes, Chained, same, meets}
+use Rattle.split_rules.specs.Writes.{WriteReaches, Chained, same, meets}
 use Rattle.bs_words.proofs.Lists.{none_in, first_in, later_in, in_cons}
-use Rattle.split.specs.Joins.{replaced, joined, IsComing, Relabelled, as_it_was, as_another, Joins, AreLinked, AreSound, HaveOne, AreWebs, AreIndexes, JoinsReads}
+use Rattle.split.specs.Joins.{replaced_label, joined_labels, IsComingWrite, Relabelled, as_it_was, as_another, Joins, AreJoinedWrites, AreSound, HaveOne, AreWebs, AreIndexes, JoinsReads}
 use Rattle.split.specs.Reach.{AreReaching}
-use Rattle.split.specs.Writes.{all_of, members, AreWrites, after}
+use Rattle.split.specs.Writes.{listed_writes, writes_of_number, AreWrites, code_after}
 use Rattle.split_rules.specs.declared.writes.Write.{Write}
 use Rattle.split.specs.declared.writes.Writes.{Writes}
 use Rattle.bs_words.proofs.Truths.{not_both}
@@ -34,24 +34,24 @@ pub length_replaced : (f : ℕ → ℕ) (xs : List ℕ) → length (map f xs) �
 length_replaced f [] = refl
 length_replaced f (x ∷ xs) = ap suc (length_replaced f xs)
 
-pub replaced_itself : (k : ℕ) (xs : List ℕ) → map (replaced k k) xs ≡ xs
+pub replaced_itself : (k : ℕ) (xs : List ℕ) → map (replaced_label k k) xs ≡ xs
 replaced_itself k [] = refl
 replaced_itself k (x ∷ xs) =
-    ap (λ y. y ∷ map (replaced k k) xs) (one (nat_eq x k) refl) ∙ ap (λ ys. x ∷ ys) (replaced_itself k xs)
+    ap (λ y. y ∷ map (replaced_label k k) xs) (one (nat_eq x k) refl) ∙ ap (λ ys. x ∷ ys) (replaced_itself k xs)
   where
     one : (b : Bool) → nat_eq x k ≡ b → cond b k x ≡ x
     one true e = sym (eqb-true x k e)
     one false e = refl
 
-pub not_joined : (labels new : List ℕ) (one other : ℕ) → max one other ≡ min one other → new ≡ labels → new ≡ joined labels one other
+pub not_joined : (labels new : List ℕ) (one other : ℕ) → max one other ≡ min one other → new ≡ labels → new ≡ joined_labels labels one other
 not_joined labels new one other e h =
-    h ∙ sym (replaced_itself (min one other) labels) ∙ ap (λ k. map (replaced k (min one other)) labels) (sym e)
+    h ∙ sym (replaced_itself (min one other) labels) ∙ ap (λ k. map (replaced_label k (min one other)) labels) (sym e)
 
 -- the label of one that had this label, and of one that had another
-was_that : (from to label : ℕ) → label ≡ from → replaced from to label ≡ to
+was_that : (from to label : ℕ) → label ≡ from → replaced_label from to label ≡ to
 was_that from to label e = ap (λ b. cond b to label) (eq-eqb label from e)
 
-was_other : (from to label : ℕ) → nat_eq label from ≡ false → replaced from to label ≡ label
+was_other : (from to label : ℕ) → nat_eq label from ≡ false → replaced_label from to label ≡ label
 was_other from to label e = ap (λ b. cond b to label) e
 
 -- ---- those of some writes that come to a place
@@ -62,16 +62,16 @@ member_more ms k d w lt c =
     ⊎_elim (λ h. inl h) (λ h. ⊎_elim (λ e. inr e) (λ n. absurd (none_in w n)) (in_cons (slice_index_or ms k d) w [] h))
     (Contains-append_cases (take k ms) (slice_index_or ms k d ∷ []) w (subst (λ xs. Contains xs w) (take_more ms k d lt) c))
 
-pub record Joining (old now members : List ℕ) (k : ℕ) (rows : List (List Bool)) (p : ℕ) (found : Option ℕ) :
+pub record Joining (old now writes_of_number : List ℕ) (k : ℕ) (rows : List (List Bool)) (p : ℕ) (found : Option ℕ) :
     Type 0 where
   pub len : length now ≡ length old
   pub less : (w : ℕ) → w < length old → slice_index now w ≤ slice_index old w
   pub keeps : (w v : ℕ) → w < length old → v < length old → slice_index old w ≡ slice_index old v →
       slice_index now w ≡ slice_index now v
-  pub none : found ≡ None → (w : ℕ) → Contains (take k members) w → has (row rows p) w ≡ true → ⊥
-  pub some : (f : ℕ) → found ≡ Some f → IsComing members rows p f
-      × ((w : ℕ) → Contains (take k members) w → has (row rows p) w ≡ true → slice_index now w ≡ slice_index now f)
-  pub from : (w : ℕ) → w < length old → Relabelled old now members rows p w
+  pub none : found ≡ None → (w : ℕ) → Contains (take k writes_of_number) w → has (set_in_row rows p) w ≡ true → ⊥
+  pub some : (f : ℕ) → found ≡ Some f → IsComingWrite writes_of_number rows p f
+      × ((w : ℕ) → Contains (take k writes_of_number) w → has (set_in_row rows p) w ≡ true → slice_index now w ≡ slice_index now f)
+  pub from : (w : ℕ) → w < length old → Relabelled old now writes_of_number rows p w
 
 either : (a b : ℕ) → (a ≤ b) ⊎ (b ≤ a)
 either zero b = inl (omega arith)
@@ -91,21 +91,21 @@ no_members : (ms : List ℕ) (w : ℕ) → Contains (take 0 ms) w → ⊥
 no_members [] w c = none_in w c
 no_members (m ∷ ms) w c = none_in w c
 
-module _ (members : List ℕ) (rows : List (List Bool)) (p : ℕ) where
-  pub joining_begun : (labels : List ℕ) → Joining labels labels members 0 rows p None
+module _ (writes_of_number : List ℕ) (rows : List (List Bool)) (p : ℕ) where
+  pub joining_begun : (labels : List ℕ) → Joining labels labels writes_of_number 0 rows p None
   joining_begun labels =
       record {
         len = refl;
         less = λ w lt. omega arith;
         keeps = λ w v a b e. e;
-        none = λ e w c h. no_members members w c;
+        none = λ e w c h. no_members writes_of_number w c;
         some = λ f e. absurd (no_some f e);
         from = λ w lt. as_it_was refl;
       }
 
-  module _ (old now : List ℕ) (k : ℕ) (lt : k < length members) (d w : ℕ) (at : slice_index_or members k d ≡ w) where
-    member : Contains members w
-    member = subst (Contains members) at (in_list members k d lt)
+  module _ (old now : List ℕ) (k : ℕ) (lt : k < length writes_of_number) (d w : ℕ) (at : slice_index_or writes_of_number k d ≡ w) where
+    member : Contains writes_of_number w
+    member = subst (Contains writes_of_number) at (in_list writes_of_number k d lt)
       where
         in_list : (xs : List ℕ) (k d : ℕ) → k < length xs → Contains xs (slice_index_or xs k d)
         in_list [] k d lt = absurd (omega (arith, lt))
@@ -113,11 +113,11 @@ module _ (members : List ℕ) (rows : List (List Bool)) (p : ℕ) where
         in_list (x ∷ xs) (suc k) d lt = later_in x (slice_index_or xs k d) xs (in_list xs k d (omega (arith, lt)))
 
     -- the last of those that have been gone over
-    last_or : (v : ℕ) → Contains (take (k + 1) members) v → Contains (take k members) v ⊎ (w ≡ v)
-    last_or v c = ⊎_elim (λ h. inl h) (λ e. inr (sym at ∙ e)) (member_more members k d v lt c)
+    last_or : (v : ℕ) → Contains (take (k + 1) writes_of_number) v → Contains (take k writes_of_number) v ⊎ (w ≡ v)
+    last_or v c = ⊎_elim (λ h. inl h) (λ e. inr (sym at ∙ e)) (member_more writes_of_number k d v lt c)
 
-    pub joining_passed : (found : Option ℕ) → has (row rows p) w ≡ false → Joining old now members k rows p found →
-        Joining old now members (k + 1) rows p found
+    pub joining_passed : (found : Option ℕ) → has (set_in_row rows p) w ≡ false → Joining old now writes_of_number k rows p found →
+        Joining old now writes_of_number (k + 1) rows p found
     joining_passed found out j =
         record {
           len = j.len;
@@ -125,19 +125,19 @@ module _ (members : List ℕ) (rows : List (List Bool)) (p : ℕ) where
           keeps = j.keeps;
           none = λ e v c h.
               ⊎_elim (λ z. j.none e v z h)
-              (λ s. not_both (has (row rows p) w) (ap (has (row rows p)) s ∙ h) out) (last_or v c);
+              (λ s. not_both (has (set_in_row rows p) w) (ap (has (set_in_row rows p)) s ∙ h) out) (last_or v c);
           some = λ f e.
               let s = j.some f e in (
                 s.0,
                 λ v c h.
                     ⊎_elim (λ z. s.1 v z h)
-                    (λ z. absurd (not_both (has (row rows p) w) (ap (has (row rows p)) z ∙ h) out)) (last_or v c),
+                    (λ z. absurd (not_both (has (set_in_row rows p) w) (ap (has (set_in_row rows p)) z ∙ h) out)) (last_or v c),
               );
           from = j.from;
         }
 
-    pub joining_first : has (row rows p) w ≡ true → Joining old now members k rows p None →
-        Joining old now members (k + 1) rows p (Some w)
+    pub joining_first : has (set_in_row rows p) w ≡ true → Joining old now writes_of_number k rows p None →
+        Joining old now writes_of_number (k + 1) rows p (Some w)
     joining_first comes j =
         record {
           len = j.len;
@@ -146,7 +146,7 @@ module _ (members : List ℕ) (rows : List (List Bool)) (p : ℕ) where
           none = λ e. absurd (some_none w e);
           some = λ f e.
               let same : w ≡ f = some_is w f e in (
-                subst (IsComing members rows p) same (record { member = member; comes = comes }),
+                subst (IsComingWrite writes_of_number rows p) same (record { member = member; comes = comes }),
                 λ v c h.
                     ⊎_elim (λ z. absurd (j.none refl v z h))
                     (λ z. ap (slice_index now) (sym z ∙ same)) (last_or v c),
@@ -155,10 +155,10 @@ module _ (members : List ℕ) (rows : List (List Bool)) (p : ℕ) where
         }
 
     -- the label of the one comes in the place of the other's, which is not less
-    pub joining_joined : (new : List ℕ) (one low high : ℕ) → has (row rows p) w ≡ true → ((v : ℕ) → Contains members v → v < length now) →
+    pub joining_joined : (new : List ℕ) (one low high : ℕ) → has (set_in_row rows p) w ≡ true → ((v : ℕ) → Contains writes_of_number v → v < length now) →
         ((low ≡ one) × (high ≡ w)) ⊎ ((low ≡ w) × (high ≡ one)) → slice_index now low ≤ slice_index now high →
-        new ≡ map (replaced (slice_index now high) (slice_index now low)) now →
-        Joining old now members k rows p (Some one) → Joining old new members (k + 1) rows p (Some one)
+        new ≡ map (replaced_label (slice_index now high) (slice_index now low)) now →
+        Joining old now writes_of_number k rows p (Some one) → Joining old new writes_of_number (k + 1) rows p (Some one)
     joining_joined new one low high comes within pair le made j =
         record {
           len = ap length made ∙ length_replaced f now ∙ j.len;
@@ -167,7 +167,7 @@ module _ (members : List ℕ) (rows : List (List Bool)) (p : ℕ) where
           none = λ e. absurd (some_none one e);
           some = λ g e.
               let eq : one ≡ g = some_is one g e in (
-                subst (IsComing members rows p) eq here.0,
+                subst (IsComingWrite writes_of_number rows p) eq here.0,
                 λ v c h.
                     subst (λ g. slice_index new v ≡ slice_index new g) eq
                     (⊎_elim (λ z. alike v one (within v (in_whole v c)) (within one here.0.member) (here.1 v z h))
@@ -183,22 +183,22 @@ module _ (members : List ℕ) (rows : List (List Bool)) (p : ℕ) where
         }
       where
         f : ℕ → ℕ
-        f = replaced (slice_index now high) (slice_index now low)
+        f = replaced_label (slice_index now high) (slice_index now low)
 
-        here : IsComing members rows p one
-            × ((v : ℕ) → Contains (take k members) v → has (row rows p) v ≡ true → slice_index now v ≡ slice_index now one)
+        here : IsComingWrite writes_of_number rows p one
+            × ((v : ℕ) → Contains (take k writes_of_number) v → has (set_in_row rows p) v ≡ true → slice_index now v ≡ slice_index now one)
         here = j.some one refl
 
-        coming : IsComing members rows p w
+        coming : IsComingWrite writes_of_number rows p w
         coming = record { member = member; comes = comes }
 
-        low_comes : IsComing members rows p low
+        low_comes : IsComingWrite writes_of_number rows p low
         low_comes =
-            ⊎_elim (λ e. subst (IsComing members rows p) (sym e.0) here.0) (λ e. subst (IsComing members rows p) (sym e.0) coming) pair
+            ⊎_elim (λ e. subst (IsComingWrite writes_of_number rows p) (sym e.0) here.0) (λ e. subst (IsComingWrite writes_of_number rows p) (sym e.0) coming) pair
 
-        high_comes : IsComing members rows p high
+        high_comes : IsComingWrite writes_of_number rows p high
         high_comes =
-            ⊎_elim (λ e. subst (IsComing members rows p) (sym e.1) coming) (λ e. subst (IsComing members rows p) (sym e.1) here.0) pair
+            ⊎_elim (λ e. subst (IsComingWrite writes_of_number rows p) (sym e.1) coming) (λ e. subst (IsComingWrite writes_of_number rows p) (sym e.1) here.0) pair
 
         under : (v : ℕ) → v < length old → v < length now
         under v lt = let len = j.len in omega (arith, lt, len)
@@ -212,8 +212,8 @@ module _ (members : List ℕ) (rows : List (List Bool)) (p : ℕ) where
         alike : (a b : ℕ) → a < length now → b < length now → slice_index now a ≡ slice_index now b → slice_index new a ≡ slice_index new b
         alike a b x y e = made_at a x ∙ ap f e ∙ sym (made_at b y)
 
-        in_whole : (v : ℕ) → Contains (take (k + 1) members) v → Contains members v
-        in_whole v c = ⊎_elim (λ z. in_taken members k v z) (λ e. subst (Contains members) e member) (last_or v c)
+        in_whole : (v : ℕ) → Contains (take (k + 1) writes_of_number) v → Contains writes_of_number v
+        in_whole v c = ⊎_elim (λ z. in_taken writes_of_number k v z) (λ e. subst (Contains writes_of_number) e member) (last_or v c)
           where
             in_taken : (xs : List ℕ) (k v : ℕ) → Contains (take k xs) v → Contains xs v
             in_taken [] zero v c = absurd (none_in v c)
@@ -254,32 +254,32 @@ module _ (members : List ℕ) (rows : List (List Bool)) (p : ℕ) where
             let was = j.less v lt in omega (arith, stays, was))
             (cases_Bool (nat_eq (slice_index now v) (slice_index now high)))
 
-        again : (v : ℕ) → slice_index new v ≡ slice_index now v → Relabelled old now members rows p v →
-            Relabelled old new members rows p v
+        again : (v : ℕ) → slice_index new v ≡ slice_index now v → Relabelled old now writes_of_number rows p v →
+            Relabelled old new writes_of_number rows p v
         again v e (as_it_was h) = as_it_was (e ∙ h)
         again v e (as_another a b x y g h) = as_another a b x y g (e ∙ h)
 
         -- whose the lower label was before
-        origin : (u : ℕ) × IsComing members rows p u × (slice_index now low ≡ slice_index old u)
+        origin : (u : ℕ) × IsComingWrite writes_of_number rows p u × (slice_index now low ≡ slice_index old u)
         origin = whose (j.from low (back low (within low low_comes.member)))
           where
-            whose : Relabelled old now members rows p low → (u : ℕ) × IsComing members rows p u × (slice_index now low ≡ slice_index old u)
+            whose : Relabelled old now writes_of_number rows p low → (u : ℕ) × IsComingWrite writes_of_number rows p u × (slice_index now low ≡ slice_index old u)
             whose (as_it_was h) = (low, low_comes, h)
             whose (as_another a b x y g h) = (b, y, h)
 
-        moved : (v : ℕ) → v < length old → slice_index now v ≡ slice_index now high → Relabelled old new members rows p v
+        moved : (v : ℕ) → v < length old → slice_index now v ≡ slice_index now high → Relabelled old new writes_of_number rows p v
         moved v lt e = by (j.from v lt) (j.from high (back high (within high high_comes.member)))
           where
             label : slice_index new v ≡ slice_index old origin.0
             label = to_low v (under v lt) e ∙ origin.2
 
-            by : Relabelled old now members rows p v → Relabelled old now members rows p high → Relabelled old new members rows p v
+            by : Relabelled old now writes_of_number rows p v → Relabelled old now writes_of_number rows p high → Relabelled old new writes_of_number rows p v
             by (as_another a b x y g h) z = as_another a origin.0 x origin.1 g label
             by (as_it_was h) (as_it_was g) = as_another high origin.0 high_comes origin.1 (sym h ∙ e ∙ g) label
             by (as_it_was h) (as_another a b x y g i) = as_another b origin.0 y origin.1 (sym h ∙ e ∙ i) label
 
-  pub joining_done : (old now : List ℕ) (k : ℕ) (found : Option ℕ) → length members ≤ k → Joining old now members k rows p found →
-      Joins old now members rows p
+  pub joining_done : (old now : List ℕ) (k : ℕ) (found : Option ℕ) → length writes_of_number ≤ k → Joining old now writes_of_number k rows p found →
+      Joins old now writes_of_number rows p
   joining_done old now k found le j =
       record {
         len = j.len;
@@ -289,13 +289,13 @@ module _ (members : List ℕ) (rows : List (List Bool)) (p : ℕ) where
         from = j.from;
       }
     where
-      whole : (w : ℕ) → Contains members w → Contains (take k members) w
-      whole w c = subst (λ xs. Contains xs w) (sym (take_all k members le)) c
+      whole : (w : ℕ) → Contains writes_of_number w → Contains (take k writes_of_number) w
+      whole w c = subst (λ xs. Contains xs w) (sym (take_all k writes_of_number le)) c
 
-      by : (o : Option ℕ) → (o ≡ None → (w : ℕ) → Contains (take k members) w → has (row rows p) w ≡ true → ⊥) →
-          ((f : ℕ) → o ≡ Some f → IsComing members rows p f
-          × ((w : ℕ) → Contains (take k members) w → has (row rows p) w ≡ true → slice_index now w ≡ slice_index now f)) →
-          (w v : ℕ) → IsComing members rows p w → IsComing members rows p v → slice_index now w ≡ slice_index now v
+      by : (o : Option ℕ) → (o ≡ None → (w : ℕ) → Contains (take k writes_of_number) w → has (set_in_row rows p) w ≡ true → ⊥) →
+          ((f : ℕ) → o ≡ Some f → IsComingWrite writes_of_number rows p f
+          × ((w : ℕ) → Contains (take k writes_of_number) w → has (set_in_row rows p) w ≡ true → slice_index now w ≡ slice_index now f)) →
+          (w v : ℕ) → IsComingWrite writes_of_number rows p w → IsComingWrite writes_of_number rows p v → slice_index now w ≡ slice_index now v
       by None none some w v a b = absurd (none refl w (whole w a.member) a.comes)
       by (Some f) none some w v a b =
           let s = some f refl in s.1 w (whole w a.member) a.comes ∙ sym (s.1 v (whole v b.member) b.comes)
@@ -310,14 +310,14 @@ module _ (old now : List ℕ) (ms : List ℕ) (rows : List (List Bool)) (p k : �
       let len = j.len in omega (arith, lt, len)
 
   module _ (lt : k < length ms) (d : ℕ) (now' : List ℕ) (found' : Option ℕ) where
-    pub step_passed : has (row rows p) (slice_index_or ms k d) ≡ false → now' ≡ now → found' ≡ found →
+    pub step_passed : has (set_in_row rows p) (slice_index_or ms k d) ≡ false → now' ≡ now → found' ≡ found →
         Joining old now' ms (k + 1) rows p found'
     step_passed out e h =
         subst (λ xs. Joining old xs ms (k + 1) rows p found') (sym e)
         (subst (Joining old now ms (k + 1) rows p) (sym h)
         (joining_passed ms rows p old now k lt d (slice_index_or ms k d) refl found out j))
 
-    pub step_first : has (row rows p) (slice_index_or ms k d) ≡ true → found ≡ None → now' ≡ now →
+    pub step_first : has (set_in_row rows p) (slice_index_or ms k d) ≡ true → found ≡ None → now' ≡ now →
         found' ≡ Some (slice_index_or ms k d) → Joining old now' ms (k + 1) rows p found'
     step_first comes none e h =
         subst (λ xs. Joining old xs ms (k + 1) rows p found') (sym e)
@@ -325,19 +325,19 @@ module _ (old now : List ℕ) (ms : List ℕ) (rows : List (List Bool)) (p k : �
         (joining_first ms rows p old now k lt d (slice_index_or ms k d) refl comes
         (subst (Joining old now ms k rows p) none j)))
 
-    pub step_joined : has (row rows p) (slice_index_or ms k d) ≡ true → (one : ℕ) → found ≡ Some one →
+    pub step_joined : has (set_in_row rows p) (slice_index_or ms k d) ≡ true → (one : ℕ) → found ≡ Some one →
         All (λ w. w < length old) ms →
-        now' ≡ joined now (slice_index now one) (slice_index now (slice_index_or ms k d)) → found' ≡ found →
+        now' ≡ joined_labels now (slice_index now one) (slice_index now (slice_index_or ms k d)) → found' ≡ found →
         Joining old now' ms (k + 1) rows p found'
     step_joined comes one some below e h =
         subst (Joining old now' ms (k + 1) rows p) (sym (h ∙ some))
         (⊎_elim
         (λ le.
         joining_joined ms rows p old now k lt d w refl now' one one w comes within (inl (refl, refl)) le
-        (e ∙ ap (λ k. map (replaced k (min a b)) now) (max-eq_right le) ∙ ap (λ k. map (replaced b k) now) (min-eq_left le)) before)
+        (e ∙ ap (λ k. map (replaced_label k (min a b)) now) (max-eq_right le) ∙ ap (λ k. map (replaced_label b k) now) (min-eq_left le)) before)
         (λ le.
         joining_joined ms rows p old now k lt d w refl now' one w one comes within (inr (refl, refl)) le
-        (e ∙ ap (λ k. map (replaced k (min a b)) now) (max-eq_left le) ∙ ap (λ k. map (replaced a k) now) (min-eq_right le)) before)
+        (e ∙ ap (λ k. map (replaced_label k (min a b)) now) (max-eq_left le) ∙ ap (λ k. map (replaced_label a k) now) (min-eq_right le)) before)
         (either a b))
       where
         w : ℕ
@@ -357,10 +357,10 @@ module _ (old now : List ℕ) (ms : List ℕ) (rows : List (List Bool)) (p k : �
             let lt : v < length old = subst (λ w. w < length old) c.2 (below c.0 v c.1) in
             let len = j.len in omega (arith, lt, len)
 
-pub indexes_all : (t : Writes) (n : ℕ) (ms old now : List ℕ) → ms ≡ members t n → AreIndexes t (length old) → length now ≡ length old →
+pub indexes_all : (t : Writes) (n : ℕ) (ms old now : List ℕ) → ms ≡ writes_of_number t n → AreIndexes t (length old) → length now ≡ length old →
     All (λ w. w < length now) ms
 indexes_all t n ms old now e below len = λ k d lt.
-    let c : Contains (members t n) (slice_index_or ms k d) =
+    let c : Contains (writes_of_number t n) (slice_index_or ms k d) =
     subst (λ xs. Contains xs (slice_index_or ms k d)) e (in_list ms k d lt) in
     let w = below.below n (slice_index_or ms k d) c in less (slice_index_or ms k d) w
   where
@@ -389,7 +389,7 @@ module _ (m : Mach) (t : Writes) where
   write_is : (x y : Write) → Some x ≡ Some y → x ≡ y
   write_is x y e = cc
 
-  pub link_turned : {w v : ℕ} → AreLinked m t w v → AreLinked m t v w
+  pub link_turned : {w v : ℕ} → AreJoinedWrites m t w v → AreJoinedWrites m t v w
   link_turned l =
       record {
         one = l.other;
@@ -397,10 +397,10 @@ module _ (m : Mach) (t : Writes) where
         is_one = l.is_other;
         is_other = l.is_one;
         number = sym l.number;
-        chained = subst (λ n. Chained m n (after m (l.other).left) (after m (l.one).left)) l.number (chain_turned l.chained);
+        chained = subst (λ n. Chained m n (code_after m (l.other).left) (code_after m (l.one).left)) l.number (chain_turned l.chained);
       }
 
-  pub link_on : {w v u : ℕ} → AreLinked m t w v → AreLinked m t v u → AreLinked m t w u
+  pub link_on : {w v u : ℕ} → AreJoinedWrites m t w v → AreJoinedWrites m t v u → AreJoinedWrites m t w u
   link_on l k =
       let e : l.other ≡ k.one = write_is l.other k.one (sym l.is_other ∙ k.is_one) in
       let number : l.other.number ≡ k.one.number = ap (λ (x : Write). x.number) e in
@@ -411,13 +411,13 @@ module _ (m : Mach) (t : Writes) where
         is_other = k.is_other;
         number = l.number ∙ number ∙ k.number;
         chained = chain_on l.chained
-            (subst (λ n. Chained m n (after m (l.other).left) (after m (k.other).left)) (sym (l.number ∙ number))
-            (subst (λ (x : Write). Chained m (k.one).number (after m x.left) (after m (k.other).left)) (sym e) k.chained));
+            (subst (λ n. Chained m n (code_after m (l.other).left) (code_after m (k.other).left)) (sym (l.number ∙ number))
+            (subst (λ (x : Write). Chained m (k.one).number (code_after m x.left) (code_after m (k.other).left)) (sym e) k.chained));
       }
 
-  pub link_itself : (w : ℕ) → w < length (all_of t) → AreLinked m t w w
+  pub link_itself : (w : ℕ) → w < length (listed_writes t) → AreJoinedWrites m t w w
   link_itself w lt =
-      let x = there (all_of t) w lt in
+      let x = there (listed_writes t) w lt in
       record { one = x.0; other = x.0; is_one = x.1; is_other = x.1; number = refl; chained = same }
     where
       there : (xs : List Write) (w : ℕ) → w < length xs → (x : Write) × (slice_get xs w ≡ Some x)
@@ -428,7 +428,7 @@ module _ (m : Mach) (t : Writes) where
   -- joining writes that are linked keeps labels sound
   pub sound_joined : (rows : List (List Bool)) (p : ℕ) (old new ms : List ℕ) → ((w : ℕ) → Contains ms w → w < length old) →
       Joins old new ms rows p → AreSound m t old →
-      ((w v : ℕ) → IsComing ms rows p w → IsComing ms rows p v → AreLinked m t w v) → AreSound m t new
+      ((w v : ℕ) → IsComingWrite ms rows p w → IsComingWrite ms rows p v → AreJoinedWrites m t w v) → AreSound m t new
   sound_joined rows p old new ms below j s linked =
       record {
         len = j.len ∙ s.len;
@@ -438,11 +438,11 @@ module _ (m : Mach) (t : Writes) where
       before : (w : ℕ) → w < length new → w < length old
       before w lt = let len = j.len in omega (arith, lt, len)
 
-      by : (w : ℕ) → w < length old → Relabelled old new ms rows p w → AreLinked m t w (slice_index new w)
-      by w lt (as_it_was e) = subst (AreLinked m t w) (sym e) (s.linked w lt)
+      by : (w : ℕ) → w < length old → Relabelled old new ms rows p w → AreJoinedWrites m t w (slice_index new w)
+      by w lt (as_it_was e) = subst (AreJoinedWrites m t w) (sym e) (s.linked w lt)
       by w lt (as_another u v a b e h) =
-          subst (AreLinked m t w) (sym h)
-          (link_on (subst (AreLinked m t w) e (s.linked w lt))
+          subst (AreJoinedWrites m t w) (sym h)
+          (link_on (subst (AreJoinedWrites m t w) e (s.linked w lt))
           (link_on (link_turned (s.linked u (below u a.member))) (link_on (linked u v a b) (s.linked v (below v b.member)))))
 
 -- ---- operands
@@ -458,12 +458,12 @@ module _ (t : Writes) (rows : List (List Bool)) (p : ℕ) where
         sound = λ m s linked. s;
       }
     where
-      none : (args : List Reg) (n : ℕ) → Among n (take 0 args) → ⊥
+      none : (args : List Reg) (n : ℕ) → AmongRegisters n (take 0 args) → ⊥
       none [] n a = elim a [ ]
       none (r ∷ rs) n a = elim a [ ]
 
   pub reads_more : (old now new : List ℕ) (args : List Reg) (k : ℕ) (d : Reg) (ms : List ℕ) → k < length args →
-      ms ≡ members t (slice_index_or args k d).number → AreIndexes t (length old) → Joins now new ms rows p →
+      ms ≡ writes_of_number t (slice_index_or args k d).number → AreIndexes t (length old) → Joins now new ms rows p →
       JoinsReads old now t rows p (take k args) → JoinsReads old new t rows p (take (k + 1) args)
   reads_more old now new args k d ms lt same_members below joins before =
       record {
@@ -479,14 +479,14 @@ module _ (t : Writes) (rows : List (List Bool)) (p : ℕ) where
             (λ e. subst (HaveOne t rows new p) e (record { one = j.together }))
             (among_more n a);
         sound = λ m s linked.
-            sound_joined m t rows p now new (members t r.number) (λ w c. now_under w (below.below r.number w c)) j
+            sound_joined m t rows p now new (writes_of_number t r.number) (λ w c. now_under w (below.below r.number w c)) j
             (before.sound m s (λ n w v a x y. linked n w v (earlier n a) x y)) (λ w v x y. linked r.number w v last x y);
       }
     where
       r : Reg
       r = slice_index_or args k d
 
-      j : Joins now new (members t r.number) rows p
+      j : Joins now new (writes_of_number t r.number) rows p
       j = subst (λ ms. Joins now new ms rows p) same_members joins
 
       now_under : (w : ℕ) → w < length old → w < length now
@@ -495,33 +495,33 @@ module _ (t : Writes) (rows : List (List Bool)) (p : ℕ) where
       taken : take (k + 1) args ≡ take k args ++ r ∷ []
       taken = take_more args k d lt
 
-      among_split : (n : ℕ) (rs qs : List Reg) → Among n (rs ++ qs) → Among n rs ⊎ Among n qs
+      among_split : (n : ℕ) (rs qs : List Reg) → AmongRegisters n (rs ++ qs) → AmongRegisters n rs ⊎ AmongRegisters n qs
       among_split n [] qs a = inr a
       among_split n (r ∷ rs) qs (first e) = inl (first e)
       among_split n (r ∷ rs) qs (later a) = ⊎_elim (λ h. inl (later h)) inr (among_split n rs qs a)
 
-      among_left : (n : ℕ) (rs qs : List Reg) → Among n rs → Among n (rs ++ qs)
+      among_left : (n : ℕ) (rs qs : List Reg) → AmongRegisters n rs → AmongRegisters n (rs ++ qs)
       among_left n [] qs a = elim a [ ]
       among_left n (r ∷ rs) qs (first e) = first e
       among_left n (r ∷ rs) qs (later a) = later (among_left n rs qs a)
 
-      among_right : (n : ℕ) (rs qs : List Reg) → Among n qs → Among n (rs ++ qs)
+      among_right : (n : ℕ) (rs qs : List Reg) → AmongRegisters n qs → AmongRegisters n (rs ++ qs)
       among_right n [] qs a = a
       among_right n (r ∷ rs) qs a = later (among_right n rs qs a)
 
-      number_of_one : (n : ℕ) → Among n (r ∷ []) → r.number ≡ n
+      number_of_one : (n : ℕ) → AmongRegisters n (r ∷ []) → r.number ≡ n
       number_of_one n (first e) = e
       number_of_one n (later a) = elim a [ ]
 
-      among_more : (n : ℕ) → Among n (take (k + 1) args) → Among n (take k args) ⊎ (r.number ≡ n)
+      among_more : (n : ℕ) → AmongRegisters n (take (k + 1) args) → AmongRegisters n (take k args) ⊎ (r.number ≡ n)
       among_more n a =
-          ⊎_elim inl (λ h. inr (number_of_one n h)) (among_split n (take k args) (r ∷ []) (subst (Among n) taken a))
+          ⊎_elim inl (λ h. inr (number_of_one n h)) (among_split n (take k args) (r ∷ []) (subst (AmongRegisters n) taken a))
 
-      earlier : (n : ℕ) → Among n (take k args) → Among n (take (k + 1) args)
-      earlier n a = subst (Among n) (sym taken) (among_left n (take k args) (r ∷ []) a)
+      earlier : (n : ℕ) → AmongRegisters n (take k args) → AmongRegisters n (take (k + 1) args)
+      earlier n a = subst (AmongRegisters n) (sym taken) (among_left n (take k args) (r ∷ []) a)
 
-      last : Among r.number (take (k + 1) args)
-      last = subst (Among r.number) (sym taken) (among_right r.number (take k args) (r ∷ []) (first refl))
+      last : AmongRegisters r.number (take (k + 1) args)
+      last = subst (AmongRegisters r.number) (sym taken) (among_right r.number (take k args) (r ∷ []) (first refl))
 
   pub reads_done : (old new : List ℕ) (args : List Reg) (k : ℕ) → length args ≤ k → JoinsReads old new t rows p (take k args) →
       JoinsReads old new t rows p args
@@ -532,7 +532,7 @@ module _ (t : Writes) (rows : List (List Bool)) (p : ℕ) where
 pub record WebsBefore (m : Mach) (t : Writes) (rows : List (List Bool)) (labels : List ℕ) (place : ℕ) : Type 0 where
   pub sound : AreSound m t labels
   pub least : (w : ℕ) → w < length labels → slice_index labels w ≤ w
-  pub one : (p : ℕ) (i : Instr) (next : List Instr) (n : ℕ) → p < place → drop p m.code ≡ i ∷ next → Among n i.args →
+  pub one : (p : ℕ) (i : Instr) (next : List Instr) (n : ℕ) → p < place → drop p m.code ≡ i ∷ next → AmongRegisters n i.args →
       HaveOne t rows labels p n
 
 -- labels that only fall stay below
@@ -542,13 +542,13 @@ still_least old new len less least w lt =
     let old_lt : w < length old = omega (arith, lt, len) in
     let fallen = less w old_lt in let was = least w old_lt in omega (arith, fallen, was)
 
-pub indexes : (m : Mach) (free : ℕ) (t : Writes) (labels : List ℕ) → AreWrites m free t → length labels ≡ length (all_of t) →
+pub indexes : (m : Mach) (free : ℕ) (t : Writes) (labels : List ℕ) → AreWrites m free t → length labels ≡ length (listed_writes t) →
     AreIndexes t (length labels)
 indexes m free t labels writes len =
     record {
       below = λ n w c.
           let x = (writes.grouped).sound n w c in
-          let lt : w < length (all_of t) = slice_get_within (all_of t) w x.0 x.1 in
+          let lt : w < length (listed_writes t) = slice_get_within (listed_writes t) w x.0 x.1 in
           omega (arith, lt, len);
     }
 
@@ -565,8 +565,8 @@ module _ (m : Mach) (free : ℕ) (t : Writes) (rows : List (List Bool)) (writes 
   write_same x y e = cc
 
   -- writes of an operand that come to its instruction are joined
-  coming_linked : (p : ℕ) (i : Instr) (next : List Instr) (n w v : ℕ) → p ≤ length m.code → drop p m.code ≡ i ∷ next → Among n i.args →
-      IsComing (members t n) rows p w → IsComing (members t n) rows p v → AreLinked m t w v
+  coming_linked : (p : ℕ) (i : Instr) (next : List Instr) (n w v : ℕ) → p ≤ length m.code → drop p m.code ≡ i ∷ next → AmongRegisters n i.args →
+      IsComingWrite (writes_of_number t n) rows p w → IsComingWrite (writes_of_number t n) rows p v → AreJoinedWrites m t w v
   coming_linked p i next n w v le at a x y =
       let u = reach.sound p w le x.comes in
       let z = reach.sound p v le y.comes in
@@ -574,26 +574,26 @@ module _ (m : Mach) (free : ℕ) (t : Writes) (rows : List (List Bool)) (writes 
       let two = (writes.grouped).sound n v y.member in
       let un : u.0.number ≡ n = ap (λ (x : Write). x.number) (write_same u.0 one.0 (sym u.1 ∙ one.1)) ∙ one.2 in
       let zn : z.0.number ≡ n = ap (λ (x : Write). x.number) (write_same z.0 two.0 (sym z.1 ∙ two.1)) ∙ two.2 in
-      let cu : Comes m n (after m u.0.left) (i ∷ next) =
-      subst (Comes m n (after m u.0.left)) at (subst (λ n. Comes m n (after m u.0.left) (drop p m.code)) un u.2) in
-      let cz : Comes m n (after m z.0.left) (i ∷ next) =
-      subst (Comes m n (after m z.0.left)) at (subst (λ n. Comes m n (after m z.0.left) (drop p m.code)) zn z.2) in
+      let cu : WriteReaches m n (code_after m u.0.left) (i ∷ next) =
+      subst (WriteReaches m n (code_after m u.0.left)) at (subst (λ n. WriteReaches m n (code_after m u.0.left) (drop p m.code)) un u.2) in
+      let cz : WriteReaches m n (code_after m z.0.left) (i ∷ next) =
+      subst (WriteReaches m n (code_after m z.0.left)) at (subst (λ n. WriteReaches m n (code_after m z.0.left) (drop p m.code)) zn z.2) in
       record {
         one = u.0;
         other = z.0;
         is_one = u.1;
         is_other = z.1;
         number = un ∙ sym zn;
-        chained = subst (λ n. Chained m n (after m u.0.left) (after m z.0.left)) (sym un) (meets (read a) cu cz same);
+        chained = subst (λ n. Chained m n (code_after m u.0.left) (code_after m z.0.left)) (sym un) (meets (read a) cu cz same);
       }
 
-  pub webs_begun : (labels : List ℕ) → length labels ≡ length (all_of t) → ((w : ℕ) → w < length labels → slice_index labels w ≡ w) →
+  pub webs_begun : (labels : List ℕ) → length labels ≡ length (listed_writes t) → ((w : ℕ) → w < length labels → slice_index labels w ≡ w) →
       WebsBefore m t rows labels 0
   webs_begun labels len own =
       record {
         sound = record {
           len = len;
-          linked = λ w lt. subst (AreLinked m t w) (sym (own w lt)) (link_itself m t w (omega (arith, lt, len)));
+          linked = λ w lt. subst (AreJoinedWrites m t w) (sym (own w lt)) (link_itself m t w (omega (arith, lt, len)));
         };
         least = λ w lt. let e = own w lt in omega (arith, e);
         one = λ p i next n lt. absurd (omega (arith, lt));
@@ -614,7 +614,7 @@ module _ (m : Mach) (free : ℕ) (t : Writes) (rows : List (List Bool)) (writes 
             record { one = λ w v x y. j.same w v (below.below n w x.member) (below.below n v y.member) (was.one w v x y) })
             (λ e.
             let same_code : i ∷ next ≡ k ∷ rest = sym at ∙ ap (λ p. drop p m.code) (sym e) ∙ there in
-            subst (λ p. HaveOne t rows new p n) (sym e) (j.one n (subst (λ (i : Instr). Among n i.args) (sym (head i k next rest same_code)) a)))
+            subst (λ p. HaveOne t rows new p n) (sym e) (j.one n (subst (λ (i : Instr). AmongRegisters n i.args) (sym (head i k next rest same_code)) a)))
             (less_or p place le);
       }
     where

@@ -10,17 +10,17 @@ use Rattle.bs_words.specs.declared.types.Loc.TheVariants as loc
 use Rattle.bs_words.proofs.Lists.{none_in, first_in, later_in, in_cons}
 use Rattle.mach_ir.specs.Formed.{WellFormed}
 use Rattle.mach_ir.specs.Meaning.{killed}
-use Rattle.mach_ir.specs.Walks.{Among, IsRegister, is_param, is_colour, is_in_code, InCode, in_results, further, Stands, here, below}
+use Rattle.mach_ir.specs.Walks.{AmongRegisters, IsRegister, is_param, is_colour, is_in_code, InCode, in_results, further, StandsAsInstr, here, below}
 use Rattle.mach_ir.specs.declared.reg.Reg.{Reg}
 use Rattle.mach_ir.specs.declared.mach.Instr.{Instr}
 use Rattle.mach_ir.specs.declared.mach.Mach.{Mach}
 use Rattle.liveness.proofs.Bounds.{killed_is_colour}
 use Rattle.split_rules.specs.Order.{write_of, open_writes, code_writes, writes_of}
 use Rattle.mach_laws.proofs.Among.{number_among}
-use Rattle.split.specs.Writes.{has_left, is_at, find_at, AreRising, rises, is_first}
+use Rattle.split.specs.Writes.{has_left, is_at, find_at, AreRising, rises, is_first_write}
 use Rattle.split.specs.Names.{find_coming}
 use Rattle.split_rules.specs.declared.writes.Write.{Write}
-use Rattle.mach_ir.specs.Places.{is_open}
+use Rattle.mach_ir.specs.Places.{is_unset_location}
 use Rattle.mach_laws.proofs.Places.{is_unset}
 use Rattle.bs_words.proofs.Truths.{not_both}
 
@@ -47,10 +47,10 @@ in_open k (q ∷ rs) r c e =
     ⊎_elim
     (λ s.
     subst (λ b. Contains (cond b (write_of k q ∷ open_writes k rs) (open_writes k rs)) (write_of k r))
-    (sym (ap (λ (x : Reg). is_open x.loc) s ∙ ap is_open e))
+    (sym (ap (λ (x : Reg). is_unset_location x.loc) s ∙ ap is_unset_location e))
     (subst (λ (x : Reg). Contains (write_of k q ∷ open_writes k rs) (write_of k x)) s
     (first_in (write_of k q) (open_writes k rs))))
-    (λ d. either (is_open q.loc) (in_open k rs r d e)) (in_cons q r rs c)
+    (λ d. either (is_unset_location q.loc) (in_open k rs r d e)) (in_cons q r rs c)
   where
     either : (b : Bool) → Contains (open_writes k rs) (write_of k r) →
         Contains (cond b (write_of k q ∷ open_writes k rs) (open_writes k rs)) (write_of k r)
@@ -66,25 +66,25 @@ pub record WasOpen (k : ℕ) (rs : List Reg) (x : Write) : Type 0 where
 
 pub open_was : (k : ℕ) (rs : List Reg) (x : Write) → Contains (open_writes k rs) x → WasOpen k rs x
 open_was k [] x c = absurd (none_in x c)
-open_was k (q ∷ rs) x c = by (is_open q.loc) refl c (λ d. open_was k rs x d)
+open_was k (q ∷ rs) x c = by (is_unset_location q.loc) refl c (λ d. open_was k rs x d)
   where
     further_on : WasOpen k rs x → WasOpen k (q ∷ rs) x
     further_on w =
         record { register = w.register; among = later_in q w.register rs w.among; unset = w.unset; same = w.same }
 
-    by : (b : Bool) → is_open q.loc ≡ b → Contains (cond b (write_of k q ∷ open_writes k rs) (open_writes k rs)) x →
+    by : (b : Bool) → is_unset_location q.loc ≡ b → Contains (cond b (write_of k q ∷ open_writes k rs) (open_writes k rs)) x →
         (Contains (open_writes k rs) x → WasOpen k rs x) → WasOpen k (q ∷ rs) x
     by true e c ih =
         ⊎_elim (λ s. record { register = q; among = first_in q rs; unset = is_unset q.loc e; same = s })
         (λ d. further_on (ih d)) (in_cons (write_of k q) x (open_writes k rs) c)
     by false e c ih = further_on (ih c)
 
-pub in_writes : (code : List Instr) (i : Instr) (next : List Instr) (r : Reg) → Stands i next code → Contains i.results r →
+pub in_writes : (code : List Instr) (i : Instr) (next : List Instr) (r : Reg) → StandsAsInstr i next code → Contains i.results r →
     r.loc ≡ loc.Unset → Contains (code_writes code) (write_of (length next) r)
 in_writes [] i next r s c e = elim s [ ]
 in_writes (j ∷ is) i next r s c e = by s (λ z. in_writes is i next r z c e)
   where
-    by : {xs : List Instr} {k : Instr} → Stands i next (k ∷ xs) → (Stands i next xs → Contains (code_writes xs) (write_of (length next) r)) →
+    by : {xs : List Instr} {k : Instr} → StandsAsInstr i next (k ∷ xs) → (StandsAsInstr i next xs → Contains (code_writes xs) (write_of (length next) r)) →
         Contains (code_writes (k ∷ xs)) (write_of (length next) r)
     by here ih =
         Contains-append_left (open_writes (length next) i.results) (code_writes next) (write_of (length next) r)
@@ -130,7 +130,7 @@ open_write m x c =
 
 module _ (m : Mach) (formed : WellFormed m) (colour_fixed : (r : Reg) → Contains m.colours r → r.loc ≢ loc.Unset) where
   -- what is open is not destroyed
-  pub open_not_killed : (x : Write) (i : Instr) → IsOpenWrite m x → Among x.number (killed m i) → ⊥
+  pub open_not_killed : (x : Write) (i : Instr) → IsOpenWrite m x → AmongRegisters x.number (killed m i) → ⊥
   open_not_killed x i o a =
       let k = number_among (killed m i) a in
       let c = killed_is_colour m i k.0 k.1 in
@@ -146,12 +146,12 @@ module _ (m : Mach) (formed : WellFormed m) (colour_fixed : (r : Reg) → Contai
 pub first_low : (u : ℕ) (us : List ℕ) (w : ℕ) → AreRising (u ∷ us) → Contains (u ∷ us) w → u ≤ w
 first_low u us w (rises low r) c = ⊎_elim (λ e. omega (arith, e)) (λ d. let lt = low w d in omega (arith, lt)) (in_cons u w us c)
 
-pub first_least : (ws : List ℕ) (l w : ℕ) → AreRising ws → is_first ws l ≡ true → Contains ws w → l ≤ w
+pub first_least : (ws : List ℕ) (l w : ℕ) → AreRising ws → is_first_write ws l ≡ true → Contains ws w → l ≤ w
 first_least [] l w r e c = absurd (none_in w c)
 first_least (u ∷ us) l w r e c =
     let low = first_low u us w r c in let same : u ≡ l = eqb-true u l e in omega (arith, low, same)
 
-pub one_first : (ws : List ℕ) (l k : ℕ) → is_first ws l ≡ true → is_first ws k ≡ true → l ≡ k
+pub one_first : (ws : List ℕ) (l k : ℕ) → is_first_write ws l ≡ true → is_first_write ws k ≡ true → l ≡ k
 one_first [] l k e h = absurd (not_both false e refl)
 one_first (u ∷ us) l k e h = sym (eqb-true u l e) ∙ eqb-true u k h
 

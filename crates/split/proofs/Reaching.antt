@@ -8,28 +8,28 @@ use Rattle.std.specs.Prelude.{slice_get, slice_index_or}
 use Rattle.bs_words.specs.Contents.{contents}
 use Rattle.bs_words.specs.declared.types.Loc.TheVariants as loc
 use Rattle.bs_words.proofs.Lists.{none_in, first_in, later_in, in_cons, drop_none}
-use Rattle.dataflow.specs.Flow.{Graph, graph, IsPlace, WellFormed}
+use Rattle.dataflow.specs.Flow.{Graph, graph, IsPlace, IsFlowFormed}
 use Rattle.dataflow.specs.Reach.{ComesIn, ComesTo, IsReaching}
 use Rattle.dataflow.specs.declared.flow.Flow as flow
 use Rattle.dataflow.specs.declared.flow.Place as place
 use Rattle.mach_ir.specs.Acts.{Target}
 use Rattle.mach_ir.specs.Formed as well
 use Rattle.mach_ir.specs.Meaning.{code_at, from_handler, killed, tries_at}
-use Rattle.mach_ir.specs.Walks.{Among, first, later, OneOf, targets, may_raise, goes, raises, Writes}
+use Rattle.mach_ir.specs.Walks.{AmongRegisters, first, later, OneOf, targets, may_raise, goes, raises, Writes}
 use Rattle.mach_ir.specs.declared.reg.Reg.{Reg}
 use Rattle.mach_ir.specs.declared.mach.Instr.{Instr}
 use Rattle.mach_ir.specs.declared.mach.Mach.{Mach}
 use Rattle.mach_laws.specs.Expand.{Ending, all, more}
-use Rattle.mach_laws.specs.Graph.{place_of, next_places, raise_places}
+use Rattle.mach_laws.specs.Graph.{code_index, next_places, raise_places}
 use Rattle.mach_laws.proofs.Places.{ending_next, ending_from_handler, stands_of, ending_of}
 use Rattle.mach_laws.proofs.Walking.{drop_ending, ending_at, place_is, place_at, place_back, place_within, ending_place, target_of, in_targets, handler_of, in_handlers}
 use Rattle.mach_laws.proofs.Among.{left_among, split_among}
-use Rattle.liveness.specs.Nodes.{AreNodes}
+use Rattle.liveness.specs.Nodes.{AreLivenessNodes}
 use Rattle.liveness.proofs.Graph.{count_is, part_is, nodes_within}
 use Rattle.split_rules.proofs.Result.{comes_ends}
-use Rattle.split_rules.specs.Writes.{Comes, from_entry, from_write, past, past_raise}
-use Rattle.split.specs.Reach.{listed, made_at, ended_by, made_before, ended_before, write_uses, IsEntry, AreReaching}
-use Rattle.split.specs.Writes.{all_of, members, find_at, AreWrites, after}
+use Rattle.split_rules.specs.Writes.{WriteReaches, from_entry, from_write, past, past_raise}
+use Rattle.split.specs.Reach.{listed, made_at, ended_by, made_before, ended_before, write_uses, IsReachingEntry, AreReaching}
+use Rattle.split.specs.Writes.{listed_writes, writes_of_number, find_at, AreWrites, code_after}
 use Rattle.split_rules.specs.declared.writes.Write.{Write}
 use Rattle.split.specs.declared.writes.Writes as table
 use Rattle.split.proofs.Members.{some_is, got_in, IsOpenWrite, open_write, open_not_killed, found_at}
@@ -76,50 +76,50 @@ where_is (suc p) (suc k) =
 
 -- ---- what is made and ended, by number
 
-made_in : (t : table.Writes) (k : ℕ) (rs : List Reg) (n w : ℕ) → Among n rs → find_at (all_of t) k (members t n) ≡ Some w →
+made_in : (t : table.Writes) (k : ℕ) (rs : List Reg) (n w : ℕ) → AmongRegisters n rs → find_at (listed_writes t) k (writes_of_number t n) ≡ Some w →
     Contains (made_at t k rs) w
 made_in t k [] n w a e = elim a [ ]
 made_in t k (r ∷ rs) n w (first s) e =
-    Contains-append_left (listed (find_at (all_of t) k (members t r.number))) (made_at t k rs) w
-    (subst (λ o. Contains (listed o) w) (sym (ap (λ n. find_at (all_of t) k (members t n)) s ∙ e)) (first_in w []))
+    Contains-append_left (listed (find_at (listed_writes t) k (writes_of_number t r.number))) (made_at t k rs) w
+    (subst (λ o. Contains (listed o) w) (sym (ap (λ n. find_at (listed_writes t) k (writes_of_number t n)) s ∙ e)) (first_in w []))
 made_in t k (r ∷ rs) n w (later a) e =
-    Contains-append_right (listed (find_at (all_of t) k (members t r.number))) (made_at t k rs) w (made_in t k rs n w a e)
+    Contains-append_right (listed (find_at (listed_writes t) k (writes_of_number t r.number))) (made_at t k rs) w (made_in t k rs n w a e)
 
 in_made : (t : table.Writes) (k : ℕ) (rs : List Reg) (w : ℕ) → Contains (made_at t k rs) w →
-    (n : ℕ) × Among n rs × (find_at (all_of t) k (members t n) ≡ Some w)
+    (n : ℕ) × AmongRegisters n rs × (find_at (listed_writes t) k (writes_of_number t n) ≡ Some w)
 in_made t k [] w c = absurd (none_in w c)
 in_made t k (r ∷ rs) w c =
-    ⊎_elim (λ h. (r.number, first refl, listed_is (find_at (all_of t) k (members t r.number)) h))
+    ⊎_elim (λ h. (r.number, first refl, listed_is (find_at (listed_writes t) k (writes_of_number t r.number)) h))
     (λ h. let g = in_made t k rs w h in (g.0, later g.1, g.2))
-    (Contains-append_cases (listed (find_at (all_of t) k (members t r.number))) (made_at t k rs) w c)
+    (Contains-append_cases (listed (find_at (listed_writes t) k (writes_of_number t r.number))) (made_at t k rs) w c)
   where
     listed_is : (o : Option ℕ) → Contains (listed o) w → o ≡ Some w
     listed_is None c = absurd (none_in w c)
     listed_is (Some v) c = ⊎_elim (λ e. ap Some e) (λ d. absurd (none_in w d)) (in_cons v w [] c)
 
-ended_in : (t : table.Writes) (rs : List Reg) (n w : ℕ) → Among n rs → Contains (members t n) w → Contains (ended_by t rs) w
+ended_in : (t : table.Writes) (rs : List Reg) (n w : ℕ) → AmongRegisters n rs → Contains (writes_of_number t n) w → Contains (ended_by t rs) w
 ended_in t [] n w a c = elim a [ ]
 ended_in t (r ∷ rs) n w (first s) c =
-    Contains-append_left (members t r.number) (ended_by t rs) w (subst (λ n. Contains (members t n) w) (sym s) c)
-ended_in t (r ∷ rs) n w (later a) c = Contains-append_right (members t r.number) (ended_by t rs) w (ended_in t rs n w a c)
+    Contains-append_left (writes_of_number t r.number) (ended_by t rs) w (subst (λ n. Contains (writes_of_number t n) w) (sym s) c)
+ended_in t (r ∷ rs) n w (later a) c = Contains-append_right (writes_of_number t r.number) (ended_by t rs) w (ended_in t rs n w a c)
 
-in_ended : (t : table.Writes) (rs : List Reg) (w : ℕ) → Contains (ended_by t rs) w → (n : ℕ) × Among n rs × Contains (members t n) w
+in_ended : (t : table.Writes) (rs : List Reg) (w : ℕ) → Contains (ended_by t rs) w → (n : ℕ) × AmongRegisters n rs × Contains (writes_of_number t n) w
 in_ended t [] w c = absurd (none_in w c)
 in_ended t (r ∷ rs) w c =
     ⊎_elim (λ h. (r.number, first refl, h)) (λ h. let g = in_ended t rs w h in (g.0, later g.1, g.2))
-    (Contains-append_cases (members t r.number) (ended_by t rs) w c)
+    (Contains-append_cases (writes_of_number t r.number) (ended_by t rs) w c)
 
 -- ---- places and targets
 
 module _ (m : Mach) where
-  after_next : {next : List Instr} → Ending next m.code → after m (length next) ≡ next
+  after_next : {next : List Instr} → Ending next m.code → code_after m (length next) ≡ next
   after_next e = drop_ending e
 
   -- ---- the graph of the analysis
 
   module _ (t : table.Writes) (f : flow.Flow) (nodes : List place.Place) (entry : place.Place)
-      (whole : contents f.places ≡ nodes ++ entry ∷ []) (are : AreNodes m (write_uses t) m.code nodes)
-      (is_entry : IsEntry m t entry) where
+      (whole : contents f.places ≡ nodes ++ entry ∷ []) (are : AreLivenessNodes m (write_uses t) m.code nodes)
+      (is_entry : IsReachingEntry m t entry) where
     abbrev g : Graph
     g = graph f
 
@@ -243,24 +243,24 @@ module _ (m : Mach) where
 
     module _ (free : ℕ) (formed : well.WellFormed m) (writes : AreWrites m free t)
         (colour_fixed : (r : Reg) → Contains m.colours r → r.loc ≢ loc.Unset) where
-      open_of : (w : ℕ) (x : Write) → slice_get (all_of t) w ≡ Some x → IsOpenWrite m x
-      open_of w x e = open_write m x (subst (λ xs. Contains xs x) writes.all (got_in (all_of t) w x e))
+      open_of : (w : ℕ) (x : Write) → slice_get (listed_writes t) w ≡ Some x → IsOpenWrite m x
+      open_of w x e = open_write m x (subst (λ xs. Contains xs x) writes.all (got_in (listed_writes t) w x e))
 
       -- a write with this index comes to this code
       record Came (w : ℕ) (rest : List Instr) : Type 0 where
         write : Write
-        is : slice_get (all_of t) w ≡ Some write
-        comes : Comes m write.number (after m write.left) rest
+        is : slice_get (listed_writes t) w ≡ Some write
+        comes : WriteReaches m write.number (code_after m write.left) rest
 
       came_at : (w : ℕ) (xs ys : List Instr) → xs ≡ ys → Came w xs → Came w ys
       came_at w xs ys e c =
-          record { write = c.write; is = c.is; comes = subst (Comes m (c.write).number (after m (c.write).left)) e c.comes }
+          record { write = c.write; is = c.is; comes = subst (WriteReaches m (c.write).number (code_after m (c.write).left)) e c.comes }
 
       -- the write that was found among those of a number
-      made_is : (k n w : ℕ) → find_at (all_of t) k (members t n) ≡ Some w →
-          (x : Write) × (slice_get (all_of t) w ≡ Some x) × (x.left ≡ k) × (x.number ≡ n)
+      made_is : (k n w : ℕ) → find_at (listed_writes t) k (writes_of_number t n) ≡ Some w →
+          (x : Write) × (slice_get (listed_writes t) w ≡ Some x) × (x.left ≡ k) × (x.number ≡ n)
       made_is k n w e =
-          let a = found_at (all_of t) k (members t n) w e in
+          let a = found_at (listed_writes t) k (writes_of_number t n) w e in
           let b = (writes.grouped).sound n w a.among in
           (a.write, a.is, a.left, ap (λ (x : Write). x.number) (some_is a.write b.0 (sym a.is ∙ b.1)) ∙ b.2)
 
@@ -269,16 +269,16 @@ module _ (m : Mach) where
       made_comes w i next t' ending o c =
           let n = in_made t (length next) i.results w c in
           let x = made_is (length next) n.0 w n.2 in
-          let after_is : after m x.0.left ≡ next = ap (after m) x.2 ∙ after_next (ending_next ending) in
+          let after_is : code_after m x.0.left ≡ next = ap (code_after m) x.2 ∙ after_next (ending_next ending) in
           record {
             write = x.0;
             is = x.1;
-            comes = subst (λ n. Comes m n (after m x.0.left) (code_at m.code next t')) (sym x.3)
-                (subst (λ from. Comes m n.0 from (code_at m.code next t')) (sym after_is)
+            comes = subst (λ n. WriteReaches m n (code_after m x.0.left) (code_at m.code next t')) (sym x.3)
+                (subst (λ from. WriteReaches m n.0 from (code_at m.code next t')) (sym after_is)
                 (from_write (stands_of ending) (left_among i.results (killed m i) n.1) (goes t' o)));
           }
 
-      not_ended : (w : ℕ) (i : Instr) (next : List Instr) (x : Write) → slice_get (all_of t) w ≡ Some x →
+      not_ended : (w : ℕ) (i : Instr) (next : List Instr) (x : Write) → slice_get (listed_writes t) w ≡ Some x →
           (Contains (ended_by t i.results) w → ⊥) → Writes m i x.number → ⊥
       not_ended w i next x e free_of a =
           ⊎_elim (λ r. free_of (ended_in t i.results x.number w r ((writes.grouped).whole w x e)))
@@ -327,12 +327,12 @@ module _ (m : Mach) where
           let made = subst (λ xs. Contains xs w) (ap g.reads e ∙ at_entry (λ x. contents x.reads) ∙ is_entry.reads) c in
           let n = in_made t (length m.code) m.params w made in
           let x = made_is (length m.code) n.0 w n.2 in
-          let after_is : after m x.0.left ≡ m.code = ap (after m) x.2 ∙ drop_ending all in
+          let after_is : code_after m x.0.left ≡ m.code = ap (code_after m) x.2 ∙ drop_ending all in
           record {
             write = x.0;
             is = x.1;
-            comes = subst (λ n. Comes m n (after m x.0.left) m.code) (sym x.3)
-                (subst (λ from. Comes m n.0 from m.code) (sym after_is) (from_entry n.1));
+            comes = subst (λ n. WriteReaches m n (code_after m x.0.left) m.code) (sym x.3)
+                (subst (λ from. WriteReaches m n.0 from m.code) (sym after_is) (from_entry n.1));
           })
           (λ c. absurd (no_way_in k w (subst (ComesIn g w k) e c.1))) h)
 
@@ -350,12 +350,12 @@ module _ (m : Mach) where
 
       -- ---- and back
 
-      number_found : (n w : ℕ) (from : List Instr) → find_at (all_of t) (length from) (members t n) ≡ Some w →
-          (x : Write) × (slice_get (all_of t) w ≡ Some x) × (x.number ≡ n)
+      number_found : (n w : ℕ) (from : List Instr) → find_at (listed_writes t) (length from) (writes_of_number t n) ≡ Some w →
+          (x : Write) × (slice_get (listed_writes t) w ≡ Some x) × (x.number ≡ n)
       number_found n w from e = let x = made_is (length from) n w e in (x.0, x.1, x.3)
 
-      comes_to : {n : ℕ} {from rest : List Instr} → Comes m n from rest → (p w : ℕ) → p ≤ length m.code → drop p m.code ≡ rest →
-          find_at (all_of t) (length from) (members t n) ≡ Some w → ComesTo g p w
+      comes_to : {n : ℕ} {from rest : List Instr} → WriteReaches m n from rest → (p w : ℕ) → p ≤ length m.code → drop p m.code ≡ rest →
+          find_at (listed_writes t) (length from) (writes_of_number t n) ≡ Some w → ComesTo g p w
       comes_to {n} (from_entry a) p w le e found =
           let start : p ≡ 0 = by p le e in (
             1,
@@ -375,7 +375,7 @@ module _ (m : Mach) where
               omega (arith, le, long, same)
       comes_to {n} (from_write {i = i} {next = next} s a (goes t' o)) p w le e found =
           let ending = ending_of s in
-          let at = place_of m (i ∷ next) in
+          let at = code_index m (i ∷ next) in
           let here_is : drop at m.code ≡ i ∷ next = place_is m ending in
           let within = place_within m (i ∷ next) in
           let x = number_found n w next found in
@@ -383,7 +383,7 @@ module _ (m : Mach) where
           ⊎_elim (λ r. made_in t (length next) i.results n w r found)
           (λ k.
           absurd
-          (open_not_killed m formed colour_fixed x.0 i (open_of w x.0 x.1) (subst (λ n. Among n (killed m i)) (sym x.2) k)))
+          (open_not_killed m formed colour_fixed x.0 i (open_of w x.0 x.1) (subst (λ n. AmongRegisters n (killed m i)) (sym x.2) k)))
           (split_among n i.results (killed m i) a) in (
             1,
             inl (
@@ -395,7 +395,7 @@ module _ (m : Mach) where
           )
       comes_to {n} (past {i = i} {from = from} {next = next} c free_of (goes t' o)) p w le e found =
           let ending = comes_ends m c in
-          let at = place_of m (i ∷ next) in
+          let at = code_index m (i ∷ next) in
           let here_is : drop at m.code ≡ i ∷ next = place_is m ending in
           let within = place_within m (i ∷ next) in
           let x = number_found n w from found in
@@ -405,7 +405,7 @@ module _ (m : Mach) where
           let r = in_ended t i.results w (subst (λ xs. Contains xs w) (writes_at at within ∙ ap (ended_before t) here_is) d) in
           let y = (writes.grouped).sound r.0 w r.2 in
           let same : r.0 ≡ n = sym y.2 ∙ ap (λ (x : Write). x.number) (some_is y.0 x.0 (sym y.1 ∙ x.1)) ∙ x.2 in
-          free_of (left_among i.results (killed m i) (subst (λ n. Among n i.results) same r.1)) in (
+          free_of (left_among i.results (killed m i) (subst (λ n. AmongRegisters n i.results) same r.1)) in (
             suc before.0,
             inl (
               at,
@@ -416,7 +416,7 @@ module _ (m : Mach) where
           )
       comes_to {n} (past_raise {i = i} {from = from} {next = next} c (raises {l = l} {tries = tries} b r)) p w le e found =
           let ending = comes_ends m c in
-          let at = place_of m (i ∷ next) in
+          let at = code_index m (i ∷ next) in
           let here_is : drop at m.code ≡ i ∷ next = place_is m ending in
           let within = place_within m (i ∷ next) in
           let before = comes_to c at w within here_is found in (
@@ -443,11 +443,11 @@ module _ (m : Mach) where
 
     -- ---- the graph is one
 
-    module _ (free : ℕ) (writes : AreWrites m free t) (bound : f.bound ≡ length (all_of t)) where
-      index_below : (n w : ℕ) → Contains (members t n) w → w < f.bound
+    module _ (free : ℕ) (writes : AreWrites m free t) (bound : f.bound ≡ length (listed_writes t)) where
+      index_below : (n w : ℕ) → Contains (writes_of_number t n) w → w < f.bound
       index_below n w c =
           let x = (writes.grouped).sound n w c in
-          let lt : w < length (all_of t) = slice_get_within (all_of t) w x.0 x.1 in
+          let lt : w < length (listed_writes t) = slice_get_within (listed_writes t) w x.0 x.1 in
           omega (arith, lt, bound)
 
       each_below : (ws : List ℕ) → ((w : ℕ) → Contains ws w → w < f.bound) → All (λ w. w < f.bound) ws
@@ -458,7 +458,7 @@ module _ (m : Mach) where
       made_below : (k : ℕ) (rs : List Reg) → All (λ w. w < f.bound) (made_at t k rs)
       made_below k rs =
           each_below (made_at t k rs)
-          (λ w c. let n = in_made t k rs w c in index_below n.0 w (found_at (all_of t) k (members t n.0) w n.2).among)
+          (λ w c. let n = in_made t k rs w c in index_below n.0 w (found_at (listed_writes t) k (writes_of_number t n.0) w n.2).among)
 
       ended_below : (rs : List Reg) → All (λ w. w < f.bound) (ended_by t rs)
       ended_below rs = each_below (ended_by t rs) (λ w c. let n = in_ended t rs w c in index_below n.0 w n.2)
@@ -467,7 +467,7 @@ module _ (m : Mach) where
       rest_below [] = (All-nil (λ w. w < f.bound), All-nil (λ w. w < f.bound))
       rest_below (i ∷ next) = (made_below (length next) i.results, ended_below i.results)
 
-      pub flow_formed : WellFormed f
+      pub flow_formed : IsFlowFormed f
       flow_formed =
           let nodes_count : length nodes ≡ suc (length m.code) = count_is m (write_uses t) are in
           let total : length (contents f.places) ≡ length nodes + 1 = ap length whole ∙ length-append nodes (entry ∷ []) in

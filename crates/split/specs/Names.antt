@@ -1,10 +1,10 @@
 -- The numbers of writes, and the naming that tables give.
 use Rattle.std.specs.Prelude.{◌≡◌, ℕ, ◌+◌, ◌-◌, Bool, cond, List, [], ◌∷◌, Option, Some, None, slice_get, slice_index}
 use Rattle.bs_bits.specs.Set.{has}
-use Rattle.dataflow.specs.Rows.{row}
+use Rattle.dataflow.specs.Rows.{set_in_row}
 use Rattle.mach_ir.specs.declared.mach.Mach.{Mach}
 use Rattle.split_rules.specs.Renamed.{Naming}
-use Rattle.split.specs.Writes.{all_of, members, find_at, is_first, AreWrites}
+use Rattle.split.specs.Writes.{listed_writes, writes_of_number, find_at, is_first_write, AreWrites}
 use Rattle.split.specs.Reach.{AreReaching}
 use Rattle.split.specs.Joins.{AreWebs}
 use Rattle.split_rules.specs.declared.writes.Write.{Write}
@@ -14,11 +14,11 @@ use Rattle.split.specs.declared.tables.Tables.{Tables}
 -- The number of a web of this register, by the index of its first write: that of the register's first
 -- write keeps the register's.
 abbrev pub new_number : Writes → ℕ → ℕ → ℕ → ℕ
-new_number t free n label = cond (is_first (members t n) label) n (free + label)
+new_number t free n label = cond (is_first_write (writes_of_number t n) label) n (free + label)
 
 -- each write has the number of its web
 pub record AreNames (t : Writes) (labels : List ℕ) (free : ℕ) (names : List ℕ) : Type 0 where
-  pub each : (w : ℕ) (x : Write) → slice_get (all_of t) w ≡ Some x →
+  pub each : (w : ℕ) (x : Write) → slice_get (listed_writes t) w ≡ Some x →
       slice_get names w ≡ Some (new_number t free x.number (slice_index labels w))
 
 -- the first of these writes that comes to a place
@@ -38,11 +38,11 @@ name_of names n (Some w) = or_name n (slice_get names w)
 -- the number that a register has as an operand at a place
 abbrev pub name_read : Tables → ℕ → ℕ → ℕ
 name_read t place n =
-    name_of t.names.items n (find_coming (row t.rows.rows.items place) (members t.writes n))
+    name_of t.names.items n (find_coming (set_in_row t.rows.rows.items place) (writes_of_number t.writes n))
 
 -- and as a result before so many instructions
 abbrev pub name_written : Tables → ℕ → ℕ → ℕ
-name_written t left n = name_of t.names.items n (find_at (all_of t.writes) left (members t.writes n))
+name_written t left n = name_of t.names.items n (find_at (listed_writes t.writes) left (writes_of_number t.writes n))
 
 -- An operand has the number of a write that comes to it, a result that of its own.
 abbrev pub naming : Tables → ℕ → Naming
@@ -53,7 +53,7 @@ naming t end =
     }
 
 -- what is known of the tables of a function
-pub record AreTables (m : Mach) (free : ℕ) (t : Tables) : Type 0 where
+pub record AreSplitTables (m : Mach) (free : ℕ) (t : Tables) : Type 0 where
   pub writes : AreWrites m free t.writes
   pub reaching : AreReaching m t.writes t.rows.rows.items
   pub labels : List ℕ

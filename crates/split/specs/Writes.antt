@@ -7,18 +7,18 @@ use Rattle.split_rules.specs.declared.writes.Write.{Write}
 use Rattle.split.specs.declared.writes.Group as group
 use Rattle.split.specs.declared.writes.Writes.{Writes}
 
-abbrev pub all_of : Writes → List Write
-all_of t = t.all.items
+abbrev pub listed_writes : Writes → List Write
+listed_writes t = t.all.items
 
 abbrev pub members_in : List group.Group → ℕ → List ℕ
 members_in groups n = slice_index_or (map (λ (g : group.Group). g.members.items) groups) n []
 
 -- the indexes of the writes of a number
-abbrev pub members : Writes → ℕ → List ℕ
-members t n = members_in t.groups.items n
+abbrev pub writes_of_number : Writes → ℕ → List ℕ
+writes_of_number t n = members_in t.groups.items n
 
 -- an index has come to its group, and nothing else
-pub record HasMember (old new : List group.Group) (n member : ℕ) : Type 0 where
+pub record HasOnlyNewMember (old new : List group.Group) (n member : ℕ) : Type 0 where
   pub len : length new ≡ length old
   pub here : members_in new n ≡ members_in old n ++ member ∷ []
   pub others : (k : ℕ) → (k ≡ n → ⊥) → members_in new k ≡ members_in old k
@@ -38,8 +38,8 @@ pub record IsGrouped (writes : List Write) (free : ℕ) (groups : List group.Gro
 
 -- the writes of a function
 pub record AreWrites (m : Mach) (free : ℕ) (t : Writes) : Type 0 where
-  pub all : all_of t ≡ writes_of m
-  pub grouped : IsGrouped (all_of t) free t.groups.items
+  pub all : listed_writes t ≡ writes_of m
+  pub grouped : IsGrouped (listed_writes t) free t.groups.items
 
 abbrev pub has_left : Option Write → ℕ → Bool
 has_left None k = false
@@ -53,10 +53,10 @@ abbrev pub find_at : List Write → ℕ → List ℕ → Option ℕ
 find_at writes k [] = None
 find_at writes k (w ∷ ws) = cond (is_at writes w k) (Some w) (find_at writes k ws)
 
-abbrev pub is_first : List ℕ → ℕ → Bool
-is_first [] w = false
-is_first (v ∷ ws) w = nat_eq v w
+abbrev pub is_first_write : List ℕ → ℕ → Bool
+is_first_write [] w = false
+is_first_write (v ∷ ws) w = nat_eq v w
 
 -- the code after so many instructions are left: what a write with this number is known by
-abbrev pub after : Mach → ℕ → List Instr
-after m k = drop (length m.code - k) m.code
+abbrev pub code_after : Mach → ℕ → List Instr
+code_after m k = drop (length m.code - k) m.code

@@ -4,7 +4,7 @@ ghost use Rattle.mach_ir.specs.Sizes.{number_limit};
 ghost use Rattle.split_rules.specs.Order.{writes_of};
 ghost use Rattle.split.specs.Writes.{AreWrites};
 ghost use Rattle.split.specs.Reach.{AreReaching};
-ghost use Rattle.split.specs.Joins.{replaced, joined, Joins, AreIndexes, JoinsReads, AreWebs};
+ghost use Rattle.split.specs.Joins.{replaced_label, joined_labels, Joins, AreIndexes, JoinsReads, AreWebs};
 
 use crate::writes::Writes;
 use dataflow::Rows;
@@ -25,7 +25,7 @@ fn own_labels(alloc: Global, count: u32) -> Result<Vec<u32>, AllocError>
 
 /// Puts one label in the place of another.
 fn relabel(labels: &mut [u32], from: u32, to: u32)
-    ensures { labels.new ≡ map (replaced from to) labels.old }
+    ensures { labels.new ≡ map (replaced_label from to) labels.old }
 {
     for label in labels.iter_mut() {
         if *label == from {
@@ -39,7 +39,7 @@ fn join(labels: &mut Vec<u32>, one: u32, other: u32)
     requires one { one < length labels.old.items }
     requires other { other < length labels.old.items }
     ensures { labels.new.items
-        ≡ joined labels.old.items (slice_index labels.old.items one)
+        ≡ joined_labels labels.old.items (slice_index labels.old.items one)
         (slice_index labels.old.items other) }
 {
     let one_label = labels[one as usize];

@@ -1,8 +1,8 @@
 //! The numbers of webs.
 ghost use Rattle.std.specs.Prelude.{◌≡◌, ◌+◌, ◌<◌, ◌≤◌, ℕ, length, slice_index, IfOk};
-ghost use Rattle.dataflow.specs.Rows.{row};
+ghost use Rattle.dataflow.specs.Rows.{set_in_row};
 ghost use Rattle.mach_ir.specs.Sizes.{number_limit};
-ghost use Rattle.split.specs.Writes.{all_of};
+ghost use Rattle.split.specs.Writes.{listed_writes};
 ghost use Rattle.split.specs.Names.{new_number, AreNames, find_coming, or_name, name_of};
 
 use crate::writes::Writes;
@@ -29,7 +29,7 @@ pub fn names_of(
     free: u32,
 ) -> Result<Vec<u32>, AllocError>
     requires least { (w : ℕ) → w < length labels.now → slice_index labels.now w ≤ w }
-    requires room { free + length (all_of writes.now) < number_limit }
+    requires room { free + length (listed_writes writes.now) < number_limit }
     ensures { IfOk result (λ names. AreNames writes.now labels.now free names.items) }
 {
     let mut names = Vec::with_capacity(alloc, writes.all.len())?;
@@ -65,7 +65,7 @@ pub fn name_of(names: &[u32], number: u32, found: Option<u32>) -> u32
 
 /// The first of these writes that comes to the place.
 pub fn find_coming(rows: &Rows, place: usize, among: &[u32]) -> Option<u32>
-    ensures { result ≡ find_coming (row rows.now.rows.items place) among.now }
+    ensures { result ≡ find_coming (set_in_row rows.now.rows.items place) among.now }
 {
     for index in among {
         if rows.contains(place, *index) {

@@ -5,10 +5,10 @@ ghost use Rattle.mach_ir.specs.Formed.{WellFormed};
 ghost use Rattle.mach_ir.specs.Placed.{WellPlaced};
 ghost use Rattle.mach_ir.specs.Sizes.{number_limit};
 ghost use Rattle.liveness.specs.Labels.{AreLabelsOf};
-ghost use Rattle.liveness.specs.Nodes.{IsNode, AreNodes};
+ghost use Rattle.liveness.specs.Nodes.{IsLivenessNode, AreLivenessNodes};
 ghost use Rattle.split.specs.Writes.{AreWrites};
 ghost use Rattle.split_rules.specs.Order.{writes_of};
-ghost use Rattle.split.specs.Reach.{made_at, ended_by, write_uses, IsNodeAt, IsEntry, AreReaching};
+ghost use Rattle.split.specs.Reach.{made_at, ended_by, write_uses, IsNodeAt, IsReachingEntry, AreReaching};
 
 use crate::writes::Writes;
 use bs_words::List;
@@ -43,7 +43,7 @@ fn ended_by(alloc: Global, writes: &Writes, regs: &[Reg]) -> Result<List<u32>, A
 
 /// The node after the last instruction.
 fn last_node(alloc: Global, mach: &Mach, writes: &Writes) -> Place
-    ensures { IsNode mach.now (write_uses writes.now) [] result }
+    ensures { IsLivenessNode mach.now (write_uses writes.now) [] result }
 {
     let Edges { next, aside } = no_edges(alloc, mach);
     Place {
@@ -79,7 +79,7 @@ fn node_of(
 /// A node before the first place, where the entry's writes are made.
 fn entry_node(alloc: Global, mach: &Mach, writes: &Writes) -> Result<Place, AllocError>
     requires { length mach.now.code < 2 ^ 32 }
-    ensures { IfOk result (IsEntry mach.now writes.now) }
+    ensures { IfOk result (IsReachingEntry mach.now writes.now) }
 {
     let mut next = Vec::new(alloc);
     next.push(0)?;
@@ -103,7 +103,7 @@ fn nodes_of(
     requires labels { AreLabelsOf mach.now labels.now }
     requires fits { suc (length mach.now.code) < 2 ^ 32 }
     ensures { IfOk result (λ nodes.
-        AreNodes mach.now (write_uses writes.now) mach.now.code nodes.items) }
+        AreLivenessNodes mach.now (write_uses writes.now) mach.now.code nodes.items) }
 {
     let code = mach.code.as_slice();
     let end = code.len();

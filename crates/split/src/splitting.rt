@@ -5,7 +5,7 @@ ghost use Rattle.mach_ir.specs.Placed.{WellPlaced};
 ghost use Rattle.mach_ir.specs.Sizes.{HasRoom, number_limit};
 ghost use Rattle.mach_ir.specs.Walks.{IsRegister};
 ghost use Rattle.mach_ir.specs.declared.reg.Reg.{Reg};
-ghost use Rattle.split.specs.Names.{AreTables};
+ghost use Rattle.split.specs.Names.{AreSplitTables};
 ghost use Rattle.split_rules.specs.Order.{writes_of};
 ghost use Rattle.split_rules.specs.Split.{IsSplit, split_size};
 
@@ -25,7 +25,7 @@ fn tables_of(alloc: Global, mach: &Mach, free: u32) -> Result<Tables, AllocError
     requires room { free + length (writes_of mach.now) < number_limit }
     requires numbers { (r : Reg) → IsRegister mach.now r → r.number < free }
     ensures { IfOk result (λ tables. WellFormed mach.now → WellPlaced mach.now →
-        AreTables mach.now free tables) }
+        AreSplitTables mach.now free tables) }
 {
     let writes = Writes::of_function(alloc, mach, free)?;
     let rows = reach(alloc, mach, free, &writes)?;

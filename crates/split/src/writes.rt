@@ -4,7 +4,7 @@ ghost use Rattle.mach_ir.specs.Sizes.{number_limit};
 ghost use Rattle.mach_ir.specs.Walks.{IsRegister};
 ghost use Rattle.mach_ir.specs.declared.reg.Reg.{Reg};
 ghost use Rattle.split_rules.specs.Order.{open_writes, writes_of};
-ghost use Rattle.split.specs.Writes.{all_of, members, is_first, is_at, find_at, HasMember, IsGrouped, AreWrites};
+ghost use Rattle.split.specs.Writes.{listed_writes, writes_of_number, is_first_write, is_at, find_at, HasOnlyNewMember, IsGrouped, AreWrites};
 
 use mach_ir::{Mach, Reg};
 use split_rules::Write;
@@ -59,7 +59,7 @@ fn all_writes(alloc: Global, mach: &Mach) -> Result<Vec<Write>, AllocError>
 /// Adds a member to a group.
 fn add_member(groups: &mut Vec<Group>, number: u32, member: u32) -> Result<(), AllocError>
     requires { number < length groups.old.items }
-    ensures { IfOk result (λ _. HasMember groups.old.items groups.new.items number member) }
+    ensures { IfOk result (λ _. HasOnlyNewMember groups.old.items groups.new.items number member) }
 {
     let group = &mut groups[number as usize];
     group.members.push(member)?;
@@ -107,7 +107,7 @@ impl Writes {
 
     /// The indexes of the writes of the number.
     pub fn members(&self, number: u32) -> &[u32]
-        ensures { result.now ≡ members self.now number }
+        ensures { result.now ≡ writes_of_number self.now number }
     {
         match self.groups.get(number as usize) {
             None => &[],
@@ -117,7 +117,7 @@ impl Writes {
 
     /// Whether it is the index of the first write of the number.
     pub fn is_first(&self, number: u32, index: u32) -> bool
-        ensures { result ≡ is_first (members self.now number) index }
+        ensures { result ≡ is_first_write (writes_of_number self.now number) index }
     {
         match self.members(number).first() {
             None => false,
@@ -127,7 +127,7 @@ impl Writes {
 
     /// Whether so many instructions come after the write.
     fn is_at(&self, index: u32, left: u32) -> bool
-        ensures { result ≡ is_at (all_of self.now) index left }
+        ensures { result ≡ is_at (listed_writes self.now) index left }
     {
         match self.all.get(index as usize) {
             None => false,
@@ -137,7 +137,7 @@ impl Writes {
 
     /// The write of the number after which so many instructions come.
     pub fn find_at(&self, left: u32, number: u32) -> Option<u32>
-        ensures { result ≡ find_at (all_of self.now) left (members self.now number) }
+        ensures { result ≡ find_at (listed_writes self.now) left (writes_of_number self.now number) }
     {
         for index in self.members(number) {
             if self.is_at(*index, left) {

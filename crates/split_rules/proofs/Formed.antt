@@ -5,9 +5,9 @@ use Rattle.std.specs.Prelude.{slice_index_or}
 use Rattle.std.proofs.lemmas.List.Elements.{Contains-get_or, All-contains}
 use Rattle.std.proofs.lemmas.List.{length-map}
 use Rattle.bs_words.specs.declared.types.Loc.TheVariants as loc
-use Rattle.mach_ir.specs.Forms.{HasForm, results_of}
-use Rattle.mach_ir.specs.Formed.{comps, MarkHasForm, IsFormed, formed_op, formed_mark, AreDistinct, WellFormed}
-use Rattle.mach_ir.specs.Walks.{Stands, is_in_code}
+use Rattle.mach_ir.specs.Forms.{HasForm, results_of_type}
+use Rattle.mach_ir.specs.Formed.{comps, MarkHasForm, IsFormedInstruction, formed_op, formed_mark, AreDistinct, WellFormed}
+use Rattle.mach_ir.specs.Walks.{StandsAsInstr, is_in_code}
 use Rattle.mach_ir.specs.declared.reg.Reg.{Reg}
 use Rattle.mach_ir.specs.declared.mach.MachOp.{MachOp}
 use Rattle.mach_ir.specs.declared.mach.Instr.{Instr}
@@ -15,7 +15,7 @@ use Rattle.mach_ir.specs.declared.mach.Mach.{Mach}
 use Rattle.mach_laws.proofs.InPlace as text
 use Rattle.mach_laws.proofs.InPlace.{all_in}
 use Rattle.mach_laws.proofs.Places.{results_in, contains_of, stands_in}
-use Rattle.split_rules.specs.Renamed.{Naming, numbered, all_numbered, renamed_instr, renamed_code, renamed}
+use Rattle.split_rules.specs.Renamed.{Naming, register_renumbered, all_numbered, renamed_instr, renamed_code, renamed}
 use Rattle.split_rules.specs.Split.{IsNaming}
 use Rattle.split_rules.proofs.Text.{same_labels, same_comps, was_at, was_register, again, same_ops, as_expanded}
 
@@ -30,12 +30,12 @@ at_mapped f (x ∷ xs) (suc k) d z lt = at_mapped f xs k d z (omega (arith, lt))
 distinct_named : (f back : ℕ → ℕ) (rs : List Reg) → ((r : Reg) → Contains rs r → back (f r.number) ≡ r.number) → AreDistinct rs →
     AreDistinct (all_numbered f rs)
 distinct_named f back rs known h = λ i j d lt within.
-    let le : j < length rs = subst (λ n. j < n) (length-map rs (numbered f)) within in
+    let le : j < length rs = subst (λ n. j < n) (length-map rs (register_renumbered f)) within in
     let under : i < length rs = omega (arith, lt, le) in
     let one : Reg = slice_index_or rs i d in
     let other : Reg = slice_index_or rs j d in
-    let a : slice_index_or (all_numbered f rs) i d ≡ numbered f one = at_mapped (numbered f) rs i d d under in
-    let b : slice_index_or (all_numbered f rs) j d ≡ numbered f other = at_mapped (numbered f) rs j d d le in
+    let a : slice_index_or (all_numbered f rs) i d ≡ register_renumbered f one = at_mapped (register_renumbered f) rs i d d under in
+    let b : slice_index_or (all_numbered f rs) j d ≡ register_renumbered f other = at_mapped (register_renumbered f) rs j d d le in
     λ e.
     h i j d lt le
     (sym (known one (Contains-get_or rs i d under))
@@ -45,7 +45,7 @@ distinct_named f back rs known h = λ i j d lt within.
 module _ (names : Naming) where
   -- what holds of each instruction, of each renamed
   pub each_renamed : (P : Instr → Type 0) (code : List Instr) →
-      ((i : Instr) (next : List Instr) → Stands i next code → P (renamed_instr names (length next) i)) →
+      ((i : Instr) (next : List Instr) → StandsAsInstr i next code → P (renamed_instr names (length next) i)) →
       All P (renamed_code names code)
   each_renamed P code h = subst (All P) (sym (as_expanded names code)) (all_in (again names) code P h)
 
@@ -53,7 +53,7 @@ module _ (names : Naming) where
   pub record Was (code : List Instr) (j : Instr) : Type 0 where
     pub instr : Instr
     pub after : List Instr
-    pub stands : Stands instr after code
+    pub stands : StandsAsInstr instr after code
     pub same : renamed_instr names (length after) instr ≡ j
 
   pub was_instr : (code : List Instr) (j : Instr) → Contains (renamed_code names code) j → Was code j
@@ -62,7 +62,7 @@ module _ (names : Naming) where
       let w = was_at names code s.1 in
       record { instr = w.instr; after = w.after; stands = w.stands; same = w.same }
 
-  formed : {i : Instr} (k : ℕ) → IsFormed i → IsFormed (renamed_instr names k i)
+  formed : {i : Instr} (k : ℕ) → IsFormedInstruction i → IsFormedInstruction (renamed_instr names k i)
   formed k (formed_op {f = f} {args = args} {results = results} h) =
       formed_op
       (subst (λ cs. HasForm f cs (comps (all_numbered (names.write k) results))) (sym (same_comps names (names.read k) args))
@@ -93,8 +93,8 @@ module _ (m : Mach) (names : Naming) (is : IsNaming m names) (well : WellFormed 
             ∙ ap (λ n. record v.register { number = n }) e ∙ v.same;
         params = well.params;
         params_distinct = well.params_distinct;
-        instrs = each_renamed names IsFormed m.code
-            (λ i next s. formed names (length next) (All-contains IsFormed m.code i well.instrs (contains_of s)));
+        instrs = each_renamed names IsFormedInstruction m.code
+            (λ i next s. formed names (length next) (All-contains IsFormedInstruction m.code i well.instrs (contains_of s)));
         distinct = each_renamed names (λ (i : Instr). AreDistinct i.results) m.code
             (λ i next s.
             distinct_named (names.write (length next)) is.back i.results
@@ -102,7 +102,7 @@ module _ (m : Mach) (names : Naming) (is : IsNaming m names) (well : WellFormed 
             (All-contains (λ (i : Instr). AreDistinct i.results) m.code i well.distinct (contains_of s)));
         returns = λ i c e.
             let w = was_instr names m.code i c in
-            subst (λ (i : Instr). comps i.args ≡ results_of m.result) w.same
+            subst (λ (i : Instr). comps i.args ≡ results_of_type m.result) w.same
             (same_comps names (names.read (length w.after)) (w.instr).args
             ∙ well.returns w.instr (contains_of w.stands) (op_of names (length w.after) w.instr w.same e));
         labels_once = subst (λ ls. AllPairs (λ k l. k ≢ l) ls) (sym (same_labels names m.code)) well.labels_once;

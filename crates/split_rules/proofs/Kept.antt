@@ -9,10 +9,10 @@ use Rattle.bs_words.proofs.Lists.{head_same, tail_same}
 use Rattle.cmm_meaning.specs.State.{Doing}
 use Rattle.mach_ir.specs.Acts.{Around, Target, On, At, Landing, AtLabel, AtHandler, Replaces}
 use Rattle.mach_ir.specs.Formed.{WellFormed}
-use Rattle.mach_ir.specs.Runs.{Place, entered}
-use Rattle.mach_ir.specs.Meaning.{Held, State, File, put_all, clear, killed, written, with_held, values, past_frame, passes_frame, after_label, at_handler, code_at, tries_at, landing_code, start}
-use Rattle.mach_ir.specs.Walks.{Among, first, later, OneOf, targets, may_raise, goes, raises, Live, read, on, aside, LiveAcross, is_param, Stands, Writes}
-use Rattle.mach_ir.specs.Keeps.{ValsWritten, wrote_unless, Begins, Does}
+use Rattle.mach_ir.specs.Runs.{ActivationSetting, entry_around}
+use Rattle.mach_ir.specs.Meaning.{Held, State, File, put_all, clear_registers, killed, registers_written, with_held, values, past_frame, passes_frame, after_label, at_handler, code_at, tries_at, landing_code, mach_start}
+use Rattle.mach_ir.specs.Walks.{AmongRegisters, first, later, OneOf, targets, may_raise, goes, raises, Live, read, on, aside, LiveAcross, is_param, StandsAsInstr, Writes}
+use Rattle.mach_ir.specs.Keeps.{ValsWritten, wrote_unless, Begins, MachSimulation}
 use Rattle.mach_ir.specs.declared.reg.Reg.{Reg}
 use Rattle.mach_ir.specs.declared.mach.Instr.{Instr}
 use Rattle.mach_ir.specs.declared.mach.Mach.{Mach}
@@ -35,7 +35,7 @@ use Rattle.split_rules.proofs.Walked.{new, killed_same, killed_stays, result_bac
 
 -- ---- files
 
-values_same : (f' : ℕ → ℕ) (a b : File) (rs : List Reg) → ((n : ℕ) → Among n rs → a n ≡ b (f' n)) →
+values_same : (f' : ℕ → ℕ) (a b : File) (rs : List Reg) → ((n : ℕ) → AmongRegisters n rs → a n ≡ b (f' n)) →
     values a rs ≡ values b (all_numbered f' rs)
 values_same f' a b [] h = refl
 values_same f' a b (r ∷ rs) h =
@@ -62,8 +62,8 @@ module _ (m : Mach) (names : Naming) (is : IsNaming m names) (formed : WellForme
   -- what the second has just written, and holds a value, the first has written with that value
   abbrev WroteSame : Option Value → List Reg → List Reg → File → File → Type 0
   WroteSame raised ws us a b =
-      (x : ℕ) (u : Held) → Among x (wrote_unless raised us) → b x ≡ Some u →
-      Among (is.back x) (wrote_unless raised ws) × (a (is.back x) ≡ b x)
+      (x : ℕ) (u : Held) → AmongRegisters x (wrote_unless raised us) → b x ≡ Some u →
+      AmongRegisters (is.back x) (wrote_unless raised ws) × (a (is.back x) ≡ b x)
 
   agrees_by : (rest : List Instr) → Ending rest m.code → (a b : File) (y : Around) (ws us : List Reg) → Same rest a b →
       WroteSame y.raised ws us a b → Agrees m ws (at rest a y) → Agrees q us (at (renamed_code names rest) b y)
@@ -80,10 +80,10 @@ module _ (m : Mach) (names : Naming) (is : IsNaming m names) (formed : WellForme
       }
     where
       was_there : (w r : Reg) → is.back r.number ≡ w.number → (u : Held) →
-          Live q r.number (renamed_code names rest) ⊎ Among r.number (wrote_unless y.raised us) → b r.number ≡ Some u →
-          (Live m w.number rest ⊎ Among w.number (wrote_unless y.raised ws)) × (a w.number ≡ b r.number)
+          Live q r.number (renamed_code names rest) ⊎ AmongRegisters r.number (wrote_unless y.raised us) → b r.number ≡ Some u →
+          (Live m w.number rest ⊎ AmongRegisters w.number (wrote_unless y.raised ws)) × (a w.number ≡ b r.number)
       was_there w r e u l s =
-          subst (λ n. (Live m n rest ⊎ Among n (wrote_unless y.raised ws)) × (a n ≡ b r.number)) e
+          subst (λ n. (Live m n rest ⊎ AmongRegisters n (wrote_unless y.raised ws)) × (a n ≡ b r.number)) e
           (⊎_elim
           (λ v.
           let old = live_before m names is colour_fixed ending v in
@@ -91,7 +91,7 @@ module _ (m : Mach) (names : Naming) (is : IsNaming m names) (formed : WellForme
           (λ z. let h = wrote r.number u z s in (inr h.0, h.1)) l)
 
   silent_wrote : {i : Instr} {next : List Instr} → Ending (i ∷ next) m.code → (o : Option Value) (a b : File) →
-      IsSilent m i ⊎ IsRaised o → WroteSame o (written m i) (written q (made next i)) a b
+      IsSilent m i ⊎ IsRaised o → WroteSame o (registers_written m i) (registers_written q (made next i)) a b
   silent_wrote {i} {next} e None a b (inl s) x u z h =
       absurd (s (is.back x) (wrote_old m names is colour_fixed (stands_of e) z))
   silent_wrote e None a b (inr r) x u z h = elim r [ ]
@@ -140,7 +140,7 @@ module _ (m : Mach) (names : Naming) (is : IsNaming m names) (formed : WellForme
 
   -- ---- each instruction
 
-  module _ (c : Place) (Suit : Around → Around → Type 0) (i : Instr) (next : List Instr) (a b : File)
+  module _ (c : ActivationSetting) (Suit : Around → Around → Type 0) (i : Instr) (next : List Instr) (a b : File)
       (ending : Ending (i ∷ next) m.code) (same : Same (i ∷ next) a b) where
     abbrev Round : List Instr → Around → Around → File → File → Type 0
     Round = level.Level c m q (alone names) (keeps_marks names) is_code Same
@@ -160,7 +160,7 @@ module _ (m : Mach) (names : Naming) (is : IsNaming m names) (formed : WellForme
     abbrev killed_new : List Reg
     killed_new = killed q main
 
-    stands : Stands i next m.code
+    stands : StandsAsInstr i next m.code
     stands = stands_of ending
 
     still : (n x : ℕ) → Live m n (i ∷ next) → is.back x ≡ n → Stand x n (i ∷ next) → a' n ≡ b' x
@@ -168,20 +168,20 @@ module _ (m : Mach) (names : Naming) (is : IsNaming m names) (formed : WellForme
 
     -- ---- what is killed is the same
 
-    killed_old : {x : ℕ} → Among x killed_new → Among x (killed m i)
-    killed_old {x} z = subst (λ ks. Among x ks) (killed_same m names is colour_fixed next i) z
+    killed_old : {x : ℕ} → AmongRegisters x killed_new → AmongRegisters x (killed m i)
+    killed_old {x} z = subst (λ ks. AmongRegisters x ks) (killed_same m names is colour_fixed next i) z
 
-    killed_now : {x : ℕ} → Among x (killed m i) → Among x killed_new
-    killed_now {x} z = subst (λ ks. Among x ks) (sym (killed_same m names is colour_fixed next i)) z
+    killed_now : {x : ℕ} → AmongRegisters x (killed m i) → AmongRegisters x killed_new
+    killed_now {x} z = subst (λ ks. AmongRegisters x ks) (sym (killed_same m names is colour_fixed next i)) z
 
-    result_of : {x : ℕ} → Among x main.results → Among (is.back x) i.results
+    result_of : {x : ℕ} → AmongRegisters x main.results → AmongRegisters (is.back x) i.results
     result_of {x} z =
         let o = among_named write i.results z in
-        subst (λ n. Among n i.results)
+        subst (λ n. AmongRegisters n i.results)
         (sym (result_back m names is colour_fixed stands o.1 (length next)) ∙ ap is.back o.2) o.1
 
     abbrev Puts : List Value → File → Type 0
-    Puts vs d = PutsToo write is.back c.setting.end i.results vs (clear (killed m i) a') (clear killed_new b') d
+    Puts vs d = PutsToo write is.back c.setting.end i.results vs (clear_registers (killed m i) a') (clear_registers killed_new b') d
 
     after_same : (vs : List Value) (d : File) (p : Puts vs d) (t : Target) → OneOf t (targets i.op) →
         Same (code_at m.code next t) d p.file
@@ -193,18 +193,18 @@ module _ (m : Mach) (names : Naming) (is : IsNaming m names) (formed : WellForme
         (λ free. ⊎_elim (λ z. gone free z) (λ h. kept free h) (among_or_not n (killed m i)))
         (among_or_not n i.results)
       where
-        not_named : (Among n i.results → ⊥) → Among x main.results → ⊥
-        not_named free z = free (subst (λ n. Among n i.results) e (result_of z))
+        not_named : (AmongRegisters n i.results → ⊥) → AmongRegisters x main.results → ⊥
+        not_named free z = free (subst (λ n. AmongRegisters n i.results) e (result_of z))
 
-        gone : (Among n i.results → ⊥) → Among n (killed m i) → d n ≡ p.file x
+        gone : (AmongRegisters n i.results → ⊥) → AmongRegisters n (killed m i) → d n ≡ p.file x
         gone free z =
             let x_is : n ≡ x =
             sym (killed_stays m names is colour_fixed i (length next) z).0
             ∙ s next (from_write stands (right_among i.results (killed m i) z) (goes t o)) in
             p.others n free ∙ cleared (killed m i) a' n z
-            ∙ sym (p.others_new x (not_named free) ∙ cleared killed_new b' x (killed_now (subst (λ y. Among y (killed m i)) x_is z)))
+            ∙ sym (p.others_new x (not_named free) ∙ cleared killed_new b' x (killed_now (subst (λ y. AmongRegisters y (killed m i)) x_is z)))
 
-        kept : (Among n i.results → ⊥) → (Among n (killed m i) → ⊥) → d n ≡ p.file x
+        kept : (AmongRegisters n i.results → ⊥) → (AmongRegisters n (killed m i) → ⊥) → d n ≡ p.file x
         kept free h =
             let silent : Writes m i n → ⊥ = λ w. ⊎_elim free h (split_among n i.results (killed m i) w) in
             p.others n free ∙ not_cleared (killed m i) a' n h
@@ -213,10 +213,10 @@ module _ (m : Mach) (names : Naming) (is : IsNaming m names) (formed : WellForme
             ∙ not_cleared killed_new b' x
             (λ z.
             let old = killed_old z in
-            h (subst (λ y. Among y (killed m i)) (sym (killed_stays m names is colour_fixed i 0 old).1 ∙ e) old)))
+            h (subst (λ y. AmongRegisters y (killed m i)) (sym (killed_stays m names is colour_fixed i 0 old).1 ∙ e) old)))
 
     put_wrote : (vs : List Value) (d : File) (p : Puts vs d) (o : Option Value) →
-        WroteSame o (written m i) (written q main) d p.file
+        WroteSame o (registers_written m i) (registers_written q main) d p.file
     put_wrote vs d p None x u z h =
         ⊎_elim
         (λ r.
@@ -240,16 +240,16 @@ module _ (m : Mach) (names : Naming) (is : IsNaming m names) (formed : WellForme
     past_to vs d p y On o =
         general.on
         (λ w.
-        moved (λ code. Agrees q (written q main) (at code p.file y)) next
-        (agrees_by next (ending_next ending) d p.file y (written m i) (written q main) (after_same vs d p On o)
+        moved (λ code. Agrees q (registers_written q main) (at code p.file y)) next
+        (agrees_by next (ending_next ending) d p.file y (registers_written m i) (registers_written q main) (after_same vs d p On o)
         (put_wrote vs d p y.raised) w))
         general.passed (λ w. (refl, after_same vs d p On o))
     past_to vs d p y (At l) o =
         general.elsewhere refl
         (λ w. (
           (refl, after_same vs d p (At l) o),
-          subst (λ code. Agrees q (written q main) (at code p.file y)) (sym (same_label names l m.code))
-              (agrees_by (after_label l m.code) (ending_label l m.code) d p.file y (written m i) (written q main)
+          subst (λ code. Agrees q (registers_written q main) (at code p.file y)) (sym (same_label names l m.code))
+              (agrees_by (after_label l m.code) (ending_label l m.code) d p.file y (registers_written m i) (registers_written q main)
               (after_same vs d p (At l) o) (put_wrote vs d p y.raised) w),
         ))
 
@@ -264,10 +264,10 @@ module _ (m : Mach) (names : Naming) (is : IsNaming m names) (formed : WellForme
         general.Lands c m q (alone names) (keeps_marks names) is_code Suit Round i main next [] to y y a' b'
     lands to may y s w = (
       (refl, landed to may),
-      subst (λ code. Agrees q (written q main) (at code b' y))
+      subst (λ code. Agrees q (registers_written q main) (at code b' y))
           (sym (lands_same (i ∷ next) (main ∷ expand (alone names) next) to (tries_same i next)))
-          (agrees_by (landing_code m.code (i ∷ next) to) (ending_land to (i ∷ next) m.code) a' b' y (written m i)
-          (written q main) (landed to may) (silent_wrote ending y.raised a' b' s) w),
+          (agrees_by (landing_code m.code (i ∷ next) to) (ending_land to (i ∷ next) m.code) a' b' y (registers_written m i)
+          (registers_written q main) (landed to may) (silent_wrote ending y.raised a' b' s) w),
     )
 
     pushed : IsTry i.op → Same next a' b'
@@ -279,7 +279,7 @@ module _ (m : Mach) (names : Naming) (is : IsNaming m names) (formed : WellForme
     same_operation =
         record {
           goes = λ vs d e.
-              let p = put_twice write is.back c.setting.end i.results vs (clear (killed m i) a') (clear killed_new b') d
+              let p = put_twice write is.back c.setting.end i.results vs (clear_registers (killed m i) a') (clear_registers killed_new b') d
               (λ n z. result_back m names is colour_fixed stands z (length next)) e in
               (p.file, p.puts, λ y to o. past_to vs d p y to o);
           lands = λ y to l s. lands to l y s;
@@ -288,14 +288,14 @@ module _ (m : Mach) (names : Naming) (is : IsNaming m names) (formed : WellForme
             refl,
             λ y w. (
               (refl, pushed t),
-              moved (λ code. Agrees q (written q main) (at code b' y)) next
-                  (agrees_by next (ending_next ending) a' b' y (written m i) (written q main) (pushed t)
+              moved (λ code. Agrees q (registers_written q main) (at code b' y)) next
+                  (agrees_by next (ending_next ending) a' b' y (registers_written m i) (registers_written q main) (pushed t)
                   (silent_wrote ending y.raised a' b' (inl (try_silent m (form_of formed ending) t))) w),
             ),
           );
         }
 
-    read_same : (n : ℕ) → Among n i.args → a n ≡ b (names.read (length next) n)
+    read_same : (n : ℕ) → AmongRegisters n i.args → a n ≡ b (names.read (length next) n)
     read_same n z =
         same n (names.read (length next) n) (read z) (arg_back m names is colour_fixed stands z (length next))
         (λ from comes. sym (is.agree i next from n stands z comes))
@@ -318,7 +318,7 @@ module _ (m : Mach) (names : Naming) (is : IsNaming m names) (formed : WellForme
           same = same_operation;
         })
 
-  module _ (c : Place) where
+  module _ (c : ActivationSetting) where
     serves : (Suit : Around → Around → Type 0) → ((x y : Around) → x ≡ y → Suit x y) →
         level.Serves c m q (alone names) (keeps_marks names) is_code Same Suit
     serves Suit suits =
@@ -343,24 +343,24 @@ module _ (m : Mach) (names : Naming) (is : IsNaming m names) (formed : WellForme
         let r = number_among m.params z in
         let stays : is.back x ≡ x =
         subst (λ y. is.back y ≡ y) r.2
-        (ap is.back (sym (is.entry r.0.number (subst (λ y. Among y m.params) (sym r.2) z)))
+        (ap is.back (sym (is.entry r.0.number (subst (λ y. AmongRegisters y m.params) (sym r.2) z)))
         ∙ is.write_back r.0 (is_param r.1) (length m.code)) in
-        free (subst (λ y. Among y m.params) (sym stays ∙ b) z)) e))
+        free (subst (λ y. AmongRegisters y m.params) (sym stays ∙ b) z)) e))
         (among_or_not n m.params)
       where
-        unwritten : (rs : List Reg) (vs : List Value) (d : File) (n : ℕ) → (Among n rs → ⊥) →
+        unwritten : (rs : List Reg) (vs : List Value) (d : File) (n : ℕ) → (AmongRegisters n rs → ⊥) →
             put_all c.setting.end rs vs (λ n. None) ≡ Some d → d n ≡ None
         unwritten rs vs d n free e =
             (put_both c.setting.end rs vs (λ n. None) (λ n. None) d e).others n free
 
     pub does_renamed_at : (arguments : List Value) (memory : Memory) (doings : List Doing) (s : State) →
-        start c m arguments memory ≡ Some s → Begins c m q arguments memory doings s
+        mach_start c m arguments memory ≡ Some s → Begins c m q arguments memory doings s
     does_renamed_at =
         level.begins_at c m q refl
         (λ arguments memory a t n e proper.
-        level.follows_from c m q (alone names) (keeps_marks names) is_code Same serves a a (entered memory)
+        level.follows_from c m q (alone names) (keeps_marks names) is_code Same serves a a (entry_around memory)
         (at_entry arguments a e) n t proper)
 
   -- The function with other numbers does what it did.
-  pub does_renamed : Does m (renamed names m)
+  pub does_renamed : MachSimulation m (renamed names m)
   does_renamed = λ c arguments memory doings s e. does_renamed_at c arguments memory doings s e

@@ -6,7 +6,7 @@ use Rattle.std.specs.Prelude.{nat_eq}
 use Rattle.bs_words.specs.declared.types.Loc.{Loc}
 use Rattle.bs_words.specs.declared.types.Loc.TheVariants as loc
 use Rattle.bs_words.proofs.Lists.{first_in, later_in}
-use Rattle.mach_ir.specs.Walks.{Among, is_in_code, Stands, here, below, IsRegister}
+use Rattle.mach_ir.specs.Walks.{AmongRegisters, is_in_code, StandsAsInstr, here, below, IsRegister}
 use Rattle.mach_ir.specs.declared.reg.Reg.{Reg}
 use Rattle.mach_ir.specs.declared.mach.Instr.{Instr}
 use Rattle.mach_ir.specs.declared.mach.Mach.{Mach}
@@ -15,9 +15,9 @@ use Rattle.mach_ir.specs.Meaning.{killed}
 use Rattle.mach_laws.proofs.Among.{left_among, among_of}
 use Rattle.mach_laws.proofs.Places.{args_in, results_in}
 use Rattle.split_rules.specs.Order.{IsFirstOfWeb, IsByFirst, kept, given, IsNumberOfWeb}
-use Rattle.split_rules.specs.Renamed.{Naming, numbered, all_numbered, renamed_instr, renamed_code}
+use Rattle.split_rules.specs.Renamed.{Naming, register_renumbered, all_numbered, renamed_instr, renamed_code}
 use Rattle.split_rules.specs.Split.{IsNaming, AreByFirst, IsSplit}
-use Rattle.split_rules.specs.Writes.{Comes, IsWrite, by_instr}
+use Rattle.split_rules.specs.Writes.{WriteReaches, IsWrite, by_instr}
 use Rattle.split_rules.proofs.Result.{comes_write}
 
 module _ (m : Mach) where
@@ -54,16 +54,16 @@ module _ (m : Mach) where
         by (loc.Machine n) e = fixed (λ u. machine_open e u)
         by (loc.Slot n) e = fixed (λ u. slot_open e u)
 
-    read_is : (r : Reg) (i : Instr) (next : List Instr) → Stands i next m.code → Contains i.args r →
+    read_is : (r : Reg) (i : Instr) (next : List Instr) → StandsAsInstr i next m.code → Contains i.args r →
         a.read (length next) r.number ≡ b.read (length next) r.number
     read_is r i next s c = by (nat_eq (a.read (length next) r.number) (b.read (length next) r.number)) refl
       where
-        among : Among r.number i.args
+        among : AmongRegisters r.number i.args
         among = among_of r i.args c
 
         -- where a write comes, the numbers are its
         none : nat_eq (a.read (length next) r.number) (b.read (length next) r.number) ≡ false → (from : List Instr) →
-            Comes m r.number from (i ∷ next) → ⊥
+            WriteReaches m r.number from (i ∷ next) → ⊥
         none e from z =
             let same =
             na.agree i next from r.number s among z ∙ write_is r (is_in_code (args_in s c)) from (comes_write m z)
@@ -81,9 +81,9 @@ module _ (m : Mach) where
     regs_are f g [] same = refl
     regs_are f g (r ∷ rs) same =
         ap (λ n. (record r { number = n }) ∷ all_numbered f rs) (same r (first_in r rs))
-        ∙ ap (λ qs. numbered g r ∷ qs) (regs_are f g rs (λ q c. same q (later_in r q rs c)))
+        ∙ ap (λ qs. register_renumbered g r ∷ qs) (regs_are f g rs (λ q c. same q (later_in r q rs c)))
 
-    instr_is : (i : Instr) (next : List Instr) → Stands i next m.code →
+    instr_is : (i : Instr) (next : List Instr) → StandsAsInstr i next m.code →
         renamed_instr a (length next) i ≡ renamed_instr b (length next) i
     instr_is i next s =
         ap (λ xs. record i { args = xs; results = all_numbered (a.write (length next)) i.results })
@@ -94,7 +94,7 @@ module _ (m : Mach) where
         write_is r (is_in_code (results_in s c)) next
         (by_instr s (left_among i.results (killed m i) (among_of r i.results c)))))
 
-    code_is : (code : List Instr) → ((i : Instr) (next : List Instr) → Stands i next code → Stands i next m.code) →
+    code_is : (code : List Instr) → ((i : Instr) (next : List Instr) → StandsAsInstr i next code → StandsAsInstr i next m.code) →
         renamed_code a code ≡ renamed_code b code
     code_is [] there = refl
     code_is (i ∷ is) there =

@@ -4,7 +4,7 @@ use Rattle.std.specs.List.{Contains}
 use Rattle.bs_words.specs.declared.types.Loc.TheVariants as loc
 use Rattle.mach_ir.specs.Meaning.{killed}
 use Rattle.mach_ir.specs.Placed.{WellPlaced}
-use Rattle.mach_ir.specs.Walks.{Among, goes, raises, Leads, Raises, Writes, Live, read, on, aside, Stands, here, below}
+use Rattle.mach_ir.specs.Walks.{AmongRegisters, goes, raises, WalkStep, Raises, Writes, Live, read, on, aside, StandsAsInstr, here, below}
 use Rattle.mach_ir.specs.declared.reg.Reg.{Reg}
 use Rattle.mach_ir.specs.declared.mach.Instr.{Instr}
 use Rattle.mach_ir.specs.declared.mach.Mach.{Mach}
@@ -14,29 +14,29 @@ use Rattle.mach_laws.proofs.Walking.{ending_at}
 use Rattle.mach_laws.proofs.Among.{split_among, number_among}
 use Rattle.split_rules.specs.Renamed.{Naming, renamed_instr, renamed_code, renamed}
 use Rattle.split_rules.specs.Split.{IsNaming, JoinsExactly, IsSplit, IsOneWeb}
-use Rattle.split_rules.specs.Writes.{Comes, from_entry, from_write, past, past_raise, Chained, same, meets, IsWrite, by_entry, by_instr}
+use Rattle.split_rules.specs.Writes.{WriteReaches, from_entry, from_write, past, past_raise, Chained, same, meets, IsWrite, by_entry, by_instr}
 use Rattle.split_rules.proofs.Text.{same_at, same_handler, same_tries, was_at, was_register, named_among, among_named, param_back}
 use Rattle.split_rules.proofs.Walked.{new, wrote_new, wrote_old, killed_same, killed_stays, result_back}
 use Rattle.split_rules.proofs.Whole.{fixed_colours}
 
 module _ (m : Mach) where
   -- what comes to a code comes to one that the function ends with
-  pub comes_ends : {n : ℕ} {from rest : List Instr} → Comes m n from rest → Ending rest m.code
+  pub comes_ends : {n : ℕ} {from rest : List Instr} → WriteReaches m n from rest → Ending rest m.code
   comes_ends (from_entry a) = all
   comes_ends (from_write s a (goes t o)) = ending_at t (ending_of s)
   comes_ends (past c a (goes t o)) = ending_at t (comes_ends c)
   comes_ends (past_raise c (raises {l = l} b r)) = ending_from_handler l m.code
 
-  pub comes_write : {n : ℕ} {from rest : List Instr} → Comes m n from rest → IsWrite m n from
+  pub comes_write : {n : ℕ} {from rest : List Instr} → WriteReaches m n from rest → IsWrite m n from
   comes_write (from_entry a) = by_entry a
   comes_write (from_write s a l) = by_instr s a
   comes_write (past c a l) = comes_write c
   comes_write (past_raise c r) = comes_write c
 
-  module _ (names : Naming) (agree : (i : Instr) (next from : List Instr) (n : ℕ) → Stands i next m.code → Among n i.args →
-      Comes m n from (i ∷ next) → names.read (length next) n ≡ names.write (length from) n) where
+  module _ (names : Naming) (agree : (i : Instr) (next from : List Instr) (n : ℕ) → StandsAsInstr i next m.code → AmongRegisters n i.args →
+      WriteReaches m n from (i ∷ next) → names.read (length next) n ≡ names.write (length from) n) where
     -- two writes that come to where a register is live have one number
-    pub live_equal : {n : ℕ} {rest from mid : List Instr} → Live m n rest → Comes m n from rest → Comes m n mid rest →
+    pub live_equal : {n : ℕ} {rest from mid : List Instr} → Live m n rest → WriteReaches m n from rest → WriteReaches m n mid rest →
         names.write (length from) n ≡ names.write (length mid) n
     live_equal {n} {from = from} {mid = mid} (read {i = i} {next = next} a) c d =
         let s = stands_of (comes_ends c) in sym (agree i next from n s a c) ∙ agree i next mid n s a d
@@ -60,16 +60,16 @@ module _ (m : Mach) (names : Naming) (is : IsNaming m names) (placed : WellPlace
 
   -- ---- walks of the first are walks of the second
 
-  stands_there : {i : Instr} {next : List Instr} (code : List Instr) → Stands i next code →
-      Stands (renamed_instr names (length next) i) (renamed_code names next) (renamed_code names code)
+  stands_there : {i : Instr} {next : List Instr} (code : List Instr) → StandsAsInstr i next code →
+      StandsAsInstr (renamed_instr names (length next) i) (renamed_code names next) (renamed_code names code)
   stands_there (i ∷ is) here = here
   stands_there (j ∷ is) (below s) = below (stands_there is s)
   stands_there [] s = elim s [ ]
 
-  leads_there : {i : Instr} {next to : List Instr} → Leads m i next to →
-      Leads q (made next i) (renamed_code names next) (renamed_code names to)
+  leads_there : {i : Instr} {next to : List Instr} → WalkStep m i next to →
+      WalkStep q (made next i) (renamed_code names next) (renamed_code names to)
   leads_there {i} {next} (goes t o) =
-      subst (Leads q (made next i) (renamed_code names next)) (same_at names m.code next t) (goes t o)
+      subst (WalkStep q (made next i) (renamed_code names next)) (same_at names m.code next t) (goes t o)
 
   raises_there : {i : Instr} {next to : List Instr} → Raises m i next to →
       Raises q (made next i) (renamed_code names next) (renamed_code names to)
@@ -83,19 +83,19 @@ module _ (m : Mach) (names : Naming) (is : IsNaming m names) (placed : WellPlace
     unwritten {i} ending free w =
         free (subst (Writes m i) back (wrote_old m names is colour_fixed (stands_of ending) w))
 
-    live_there : {rest from : List Instr} → Live m n rest → Comes m n from rest → names.write (length from) n ≡ x →
+    live_there : {rest from : List Instr} → Live m n rest → WriteReaches m n from rest → names.write (length from) n ≡ x →
         Live q x (renamed_code names rest)
     live_there {from = from} (read {i = i} {next = next} a) c e =
         read
-        (subst (λ y. Among y (made next i).args) (is.agree i next from n (stands_of (comes_ends m c)) a c ∙ e)
+        (subst (λ y. AmongRegisters y (made next i).args) (is.agree i next from n (stands_of (comes_ends m c)) a c ∙ e)
         (named_among (names.read (length next)) i.args a))
     live_there (on w l v) c e = on (unwritten (comes_ends m c) w) (leads_there l) (live_there v (past c w l) e)
     live_there (aside r v) c e = aside (raises_there r) (live_there v (past_raise c r) e)
 
-    comes_there : {rest from : List Instr} → Comes m n from rest → names.write (length from) n ≡ x →
-        Comes q x (renamed_code names from) (renamed_code names rest)
+    comes_there : {rest from : List Instr} → WriteReaches m n from rest → names.write (length from) n ≡ x →
+        WriteReaches q x (renamed_code names from) (renamed_code names rest)
     comes_there (from_entry a) e =
-        from_entry (subst (λ y. Among y m.params) (sym (is.entry n a) ∙ e) a)
+        from_entry (subst (λ y. AmongRegisters y m.params) (sym (is.entry n a) ∙ e) a)
     comes_there (from_write {i = i} {next = next} s a l) e =
         from_write (stands_there m.code s)
         (subst (Writes q (made next i)) e (wrote_new m names is colour_fixed i next a)) (leads_there l)
@@ -125,7 +125,7 @@ module _ (m : Mach) (names : Naming) (is : IsNaming m names) (placed : WellPlace
       record {
         old = m.code;
         same_code = refl;
-        write = by_entry (subst (λ y. Among y m.params) (sym stays) a);
+        write = by_entry (subst (λ y. AmongRegisters y m.params) (sym stays) a);
         number = ap (names.write (length m.code)) stays ∙ is.entry x a;
       }
   was_write {x} (by_instr s w) =
@@ -138,7 +138,7 @@ module _ (m : Mach) (names : Naming) (is : IsNaming m names) (placed : WellPlace
         number = number_is o.instr o.after o.stands there;
       }
     where
-      number_is : (i : Instr) (next : List Instr) → Stands i next m.code → Writes q (made next i) x →
+      number_is : (i : Instr) (next : List Instr) → StandsAsInstr i next m.code → Writes q (made next i) x →
           names.write (length next) (is.back x) ≡ x
       number_is i next s w =
           ⊎_elim
@@ -148,7 +148,7 @@ module _ (m : Mach) (names : Naming) (is : IsNaming m names) (placed : WellPlace
           (ap is.back (sym k.2) ∙ result_back m names is colour_fixed s k.1 (length next))
           ∙ k.2)
           (λ a.
-          let k : Among x (killed m i) = subst (λ ks. Among x ks) (killed_same m names is colour_fixed next i) a in
+          let k : AmongRegisters x (killed m i) = subst (λ ks. AmongRegisters x ks) (killed_same m names is colour_fixed next i) a in
           let stays = killed_stays m names is colour_fixed i (length next) k in
           ap (names.write (length next)) stays.1 ∙ stays.0)
           (split_among x (made next i).results (killed q (made next i)) w)

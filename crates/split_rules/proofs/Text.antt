@@ -5,7 +5,7 @@ use Rattle.bs_words.specs.declared.types.Loc.TheVariants as loc
 use Rattle.mach_ir.specs.Acts.{Target, On, At}
 use Rattle.mach_ir.specs.Formed.{comps, labels_in}
 use Rattle.mach_ir.specs.Meaning.{after_label, from_handler, code_at, tries_at}
-use Rattle.mach_ir.specs.Walks.{Among, first, later, Stands, InCode, in_args, in_results, further, IsRegister, is_param, is_colour, is_in_code}
+use Rattle.mach_ir.specs.Walks.{AmongRegisters, first, later, StandsAsInstr, InCode, in_args, in_results, further, IsRegister, is_param, is_colour, is_in_code}
 use Rattle.mach_ir.specs.declared.reg.Reg.{Reg}
 use Rattle.mach_ir.specs.declared.mach.Instr.{Instr}
 use Rattle.mach_ir.specs.declared.mach.Mach.{Mach}
@@ -15,7 +15,7 @@ use Rattle.mach_laws.proofs.InPlace.{AreAlike, same_op, was_main}
 use Rattle.mach_laws.proofs.Places.{label_expand, handler_expand, tries_expand}
 use Rattle.mach_laws.proofs.Among.{among_of}
 use Rattle.places_rules.proofs.Lists.{was}
-use Rattle.split_rules.specs.Renamed.{Naming, numbered, all_numbered, renamed_instr, renamed_code, renamed}
+use Rattle.split_rules.specs.Renamed.{Naming, register_renumbered, all_numbered, renamed_instr, renamed_code, renamed}
 use Rattle.split_rules.specs.Split.{IsNaming}
 
 module _ (names : Naming) where
@@ -70,14 +70,14 @@ module _ (names : Naming) where
   pub record WasAt (i : Instr) (next code : List Instr) : Type 0 where
     pub instr : Instr
     pub after : List Instr
-    pub stands : Stands instr after code
+    pub stands : StandsAsInstr instr after code
     pub same : renamed_instr names (length after) instr ≡ i
     pub same_after : renamed_code names after ≡ next
 
-  pub was_at : {i : Instr} {next : List Instr} (code : List Instr) → Stands i next (renamed_code names code) →
+  pub was_at : {i : Instr} {next : List Instr} (code : List Instr) → StandsAsInstr i next (renamed_code names code) →
       WasAt i next code
   was_at {i} {next} code s =
-      let w = was_main again code i next (subst (Stands i next) (as_expanded code) s) in
+      let w = was_main again code i next (subst (StandsAsInstr i next) (as_expanded code) s) in
       record {
         instr = w.instr;
         after = w.next;
@@ -88,12 +88,12 @@ module _ (names : Naming) where
 
 -- ---- members by number
 
-pub named_among : {n : ℕ} (f : ℕ → ℕ) (rs : List Reg) → Among n rs → Among (f n) (all_numbered f rs)
+pub named_among : {n : ℕ} (f : ℕ → ℕ) (rs : List Reg) → AmongRegisters n rs → AmongRegisters (f n) (all_numbered f rs)
 named_among f [] a = elim a [ ]
 named_among f (r ∷ rs) (first e) = first (ap f e)
 named_among f (r ∷ rs) (later a) = later (named_among f rs a)
 
-pub among_named : {x : ℕ} (f : ℕ → ℕ) (rs : List Reg) → Among x (all_numbered f rs) → (n : ℕ) × Among n rs × (f n ≡ x)
+pub among_named : {x : ℕ} (f : ℕ → ℕ) (rs : List Reg) → AmongRegisters x (all_numbered f rs) → (n : ℕ) × AmongRegisters n rs × (f n ≡ x)
 among_named f [] a = elim a [ ]
 among_named f (r ∷ rs) (first e) = (r.number, first refl, e)
 among_named f (r ∷ rs) (later a) = let w = among_named f rs a in (w.0, later w.1, w.2)
@@ -113,12 +113,12 @@ module _ (m : Mach) (names : Naming) (is : IsNaming m names) where
   as_it_was : (r : Reg) → IsRegister m r → is.back r.number ≡ r.number → WasRegister r
   as_it_was r i b = record { register = r; among = i; same = refl; back = b; fixed = λ h. refl }
 
-  by_reading : (k : ℕ) (w r : Reg) → IsRegister m w → numbered (names.read k) w ≡ r → WasRegister r
+  by_reading : (k : ℕ) (w r : Reg) → IsRegister m w → register_renumbered (names.read k) w ≡ r → WasRegister r
   by_reading k w r i e =
       subst WasRegister e
       (record { register = w; among = i; same = refl; back = is.read_back w i k; fixed = λ h. is.read_fixed w i h k })
 
-  by_writing : (k : ℕ) (w r : Reg) → IsRegister m w → numbered (names.write k) w ≡ r → WasRegister r
+  by_writing : (k : ℕ) (w r : Reg) → IsRegister m w → register_renumbered (names.write k) w ≡ r → WasRegister r
   by_writing k w r i e =
       subst WasRegister e
       (record { register = w; among = i; same = refl; back = is.write_back w i k; fixed = λ h. is.write_fixed w i h k })
@@ -127,10 +127,10 @@ module _ (m : Mach) (names : Naming) (is : IsNaming m names) where
       WasRegister r
   was_in [] r known c = elim c [ ]
   was_in (i ∷ is) r known (in_args c) =
-      let w = was (numbered (names.read (length is))) i.args r c in
+      let w = was (register_renumbered (names.read (length is))) i.args r c in
       by_reading (length is) w.what r (known w.what (in_args w.among)) w.same
   was_in (i ∷ is) r known (in_results c) =
-      let w = was (numbered (names.write (length is))) i.results r c in
+      let w = was (register_renumbered (names.write (length is))) i.results r c in
       by_writing (length is) w.what r (known w.what (in_results w.among)) w.same
   was_in (i ∷ is) r known (further c) = was_in is r (λ w h. known w (further h)) c
 

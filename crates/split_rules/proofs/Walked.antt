@@ -4,7 +4,7 @@ use Rattle.std.specs.List.{Contains}
 use Rattle.bs_words.specs.declared.types.Loc.{Loc}
 use Rattle.bs_words.specs.declared.types.Loc.TheVariants as loc
 use Rattle.mach_ir.specs.Meaning.{Destroyed, Nothing, Temporaries, Everything, destroyed_by, is_destroyed, same_colour, is_at_one_of, killed_among, killed_by, killed}
-use Rattle.mach_ir.specs.Walks.{Among, goes, Leads, Raises, Writes, Live, read, on, aside, LiveAfter, after_step, LiveAcross, across_step, across_raise, is_colour, is_in_code, Stands, NoAddrLive, IsMove, is_move, Meets, at_write, at_params, Joined, one_way, other_way}
+use Rattle.mach_ir.specs.Walks.{AmongRegisters, goes, WalkStep, Raises, Writes, Live, read, on, aside, LiveAfter, after_step, LiveAcross, across_step, across_raise, is_colour, is_in_code, StandsAsInstr, NoAddrLive, IsMove, is_move, Meets, at_write, at_params, Joined, one_way, other_way}
 use Rattle.mach_ir.specs.declared.reg.Reg.{Reg}
 use Rattle.mach_ir.specs.declared.mach.Instr.{Instr}
 use Rattle.mach_ir.specs.declared.mach.Mach.{Mach}
@@ -15,7 +15,7 @@ use Rattle.mach_laws.proofs.Among.{left_among, right_among, split_among, number_
 use Rattle.mach_laws.proofs.Colouring.{of_killed_by}
 use Rattle.split_rules.specs.Renamed.{Naming, all_numbered, renamed_instr, renamed_code, renamed}
 use Rattle.split_rules.specs.Split.{IsNaming}
-use Rattle.split_rules.specs.Writes.{Comes, from_write, past, past_raise}
+use Rattle.split_rules.specs.Writes.{WriteReaches, from_write, past, past_raise}
 use Rattle.split_rules.proofs.Text.{again, same_ops, alone, as_expanded, was_at, was_register, named_among, among_named}
 
 -- ---- what is destroyed is known by places
@@ -53,7 +53,7 @@ module _ (m : Mach) (names : Naming) (is : IsNaming m names)
   killed_same next i = by_same (names.write (length next)) m.colours (destroyed_by i.op) i.results
 
   -- what is destroyed keeps its number
-  pub killed_stays : {n : ℕ} (i : Instr) (k : ℕ) → Among n (killed m i) → (names.write k n ≡ n) × (is.back n ≡ n)
+  pub killed_stays : {n : ℕ} (i : Instr) (k : ℕ) → AmongRegisters n (killed m i) → (names.write k n ≡ n) × (is.back n ≡ n)
   killed_stays {n} i k a =
       let r = number_among m.colours (of_killed_by n m.colours (destroyed_by i.op) i.results a) in
       let fixed = colour_fixed r.0 r.1 in
@@ -64,13 +64,13 @@ module _ (m : Mach) (names : Naming) (is : IsNaming m names)
             (ap is.back (sym (is.write_fixed r.0 (is_colour r.1) fixed k)) ∙ is.write_back r.0 (is_colour r.1) k),
       )
 
-  pub result_back : {n : ℕ} {i : Instr} {next : List Instr} → Stands i next m.code → Among n i.results → (k : ℕ) →
+  pub result_back : {n : ℕ} {i : Instr} {next : List Instr} → StandsAsInstr i next m.code → AmongRegisters n i.results → (k : ℕ) →
       is.back (names.write k n) ≡ n
   result_back {n} {i} s a k =
       let r = number_among i.results a in
       subst (λ n. is.back (names.write k n) ≡ n) r.2 (is.write_back r.0 (is_in_code (results_in s r.1)) k)
 
-  pub arg_back : {n : ℕ} {i : Instr} {next : List Instr} → Stands i next m.code → Among n i.args → (k : ℕ) →
+  pub arg_back : {n : ℕ} {i : Instr} {next : List Instr} → StandsAsInstr i next m.code → AmongRegisters n i.args → (k : ℕ) →
       is.back (names.read k n) ≡ n
   arg_back {n} {i} s a k =
       let r = number_among i.args a in
@@ -83,31 +83,31 @@ module _ (m : Mach) (names : Naming) (is : IsNaming m names)
       (λ a. left_among (new next i).results (killed q (new next i)) (named_among (names.write (length next)) i.results a))
       (λ a.
       right_among (new next i).results (killed q (new next i))
-      (subst (λ ks. Among (names.write (length next) n) ks) (sym (killed_same next i))
-      (subst (λ x. Among x (killed m i)) (sym (killed_stays i (length next) a).0) a)))
+      (subst (λ ks. AmongRegisters (names.write (length next) n) ks) (sym (killed_same next i))
+      (subst (λ x. AmongRegisters x (killed m i)) (sym (killed_stays i (length next) a).0) a)))
       (split_among n i.results (killed m i) w)
 
-  pub wrote_old : {x : ℕ} {i : Instr} {next : List Instr} → Stands i next m.code → Writes q (new next i) x →
+  pub wrote_old : {x : ℕ} {i : Instr} {next : List Instr} → StandsAsInstr i next m.code → Writes q (new next i) x →
       Writes m i (is.back x)
   wrote_old {x} {i} {next} s w =
       ⊎_elim
       (λ a.
       let o = among_named (names.write (length next)) i.results a in
       left_among i.results (killed m i)
-      (subst (λ n. Among n i.results)
+      (subst (λ n. AmongRegisters n i.results)
       (sym (result_back s o.1 (length next)) ∙ ap is.back o.2) o.1))
       (λ a.
-      let k : Among x (killed m i) = subst (λ ks. Among x ks) (killed_same next i) a in
-      right_among i.results (killed m i) (subst (λ n. Among n (killed m i)) (sym (killed_stays i 0 k).1) k))
+      let k : AmongRegisters x (killed m i) = subst (λ ks. AmongRegisters x ks) (killed_same next i) a in
+      right_among i.results (killed m i) (subst (λ n. AmongRegisters n (killed m i)) (sym (killed_stays i 0 k).1) k))
       (split_among x (new next i).results (killed q (new next i)) w)
 
   -- ---- walks
 
   -- this number stands for a register here: every write of it that comes here has it
   abbrev pub StandsFor : ℕ → ℕ → List Instr → Type 0
-  StandsFor x n rest = (from : List Instr) → Comes m n from rest → names.write (length from) n ≡ x
+  StandsFor x n rest = (from : List Instr) → WriteReaches m n from rest → names.write (length from) n ≡ x
 
-  pub stands_on : {x n : ℕ} {i : Instr} {next to : List Instr} → (Writes m i n → ⊥) → Leads m i next to → StandsFor x n to →
+  pub stands_on : {x n : ℕ} {i : Instr} {next to : List Instr} → (Writes m i n → ⊥) → WalkStep m i next to → StandsFor x n to →
       StandsFor x n (i ∷ next)
   stands_on w l s = λ from c. s from (past c w l)
 
@@ -116,7 +116,7 @@ module _ (m : Mach) (names : Naming) (is : IsNaming m names)
   stands_aside r s = λ from c. s from (past_raise c r)
 
   -- what it wrote is known by where it goes on
-  pub not_written : {x n : ℕ} {i : Instr} {next to : List Instr} → Stands i next m.code → Leads m i next to → StandsFor x n to →
+  pub not_written : {x n : ℕ} {i : Instr} {next to : List Instr} → StandsAsInstr i next m.code → WalkStep m i next to → StandsFor x n to →
       (Writes q (new next i) x → ⊥) → Writes m i n → ⊥
   not_written {x} {n} {i} {next} s l h free w =
       free (subst (Writes q (new next i)) (h next (from_write s w l)) (wrote_new i next w))
@@ -135,7 +135,7 @@ module _ (m : Mach) (names : Naming) (is : IsNaming m names)
         reads = λ x i next e a.
             let o = among_named (names.read (length next)) i.args a in
             let old : is.back x ≡ o.0 = ap is.back (sym o.2) ∙ arg_back (stands_of e) o.1 (length next) in
-            let among : Among (is.back x) i.args = subst (λ n. Among n i.args) (sym old) o.1 in
+            let among : AmongRegisters (is.back x) i.args = subst (λ n. AmongRegisters n i.args) (sym old) o.1 in
             record {
               live = read among;
               stands = λ from c.

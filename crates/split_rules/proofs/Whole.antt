@@ -6,7 +6,7 @@ use Rattle.bs_words.specs.declared.types.Loc.TheVariants as loc
 use Rattle.bs_words.proofs.Lists.{mapped}
 use Rattle.mach_ir.specs.Formed.{WellFormed}
 use Rattle.mach_ir.specs.Keeps.{Keeps, IsLoose, is_open, is_slot, NamesSymbol, NamesExternal, IsNamedIn}
-use Rattle.mach_ir.specs.Placed.{colours, IsPlaced, in_colour, in_slot, MayShare, WellPlaced}
+use Rattle.mach_ir.specs.Placed.{colour_numbers, HasColourOrSlot, in_colour, in_slot, MayShare, WellPlaced}
 use Rattle.mach_ir.specs.Seats.{AreSeated, places_of, mach_operand_seats, mach_result_seats, Seated}
 use Rattle.mach_ir.specs.Sizes.{operand_count, Size, HasSize}
 use Rattle.mach_ir.specs.Walks.{IsRegister, is_param, is_colour, is_in_code, InCode, in_args, in_results, further, Joined}
@@ -17,8 +17,8 @@ use Rattle.mach_ir.specs.declared.mach.Mach.{Mach}
 use Rattle.mach_laws.proofs.Places.{contains_of}
 use Rattle.places_rules.proofs.Open.{machine_open}
 use Rattle.places_rules.proofs.Lists.{was}
-use Rattle.split_rules.specs.Renamed.{Naming, numbered, all_numbered, renamed_code, renamed}
-use Rattle.split_rules.specs.Split.{IsNaming, IsDense, IsSplit, IsKept}
+use Rattle.split_rules.specs.Renamed.{Naming, register_renumbered, all_numbered, renamed_code, renamed}
+use Rattle.split_rules.specs.Split.{IsNaming, IsDense, IsSplit, IsSplitKept}
 use Rattle.split_rules.proofs.Formed.{was_instr, renamed_formed}
 use Rattle.split_rules.proofs.Kept.{does_renamed}
 use Rattle.split_rules.proofs.Text.{was_register, WasRegister}
@@ -32,7 +32,7 @@ same_places f (r ∷ rs) = ap (λ ls. r.loc ∷ ls) (same_places f rs)
 pub fixed_colours : (m : Mach) → WellPlaced m → (r : Reg) → Contains m.colours r → r.loc ≢ loc.Unset
 fixed_colours m well r c = λ e.
     let l = mapped (λ (r : Reg). r.loc) m.colours r c in
-    let w = was loc.Machine colours r.loc (subst (λ ls. Contains ls r.loc) ((well.colours).each) l) in
+    let w = was loc.Machine colour_numbers r.loc (subst (λ ls. Contains ls r.loc) ((well.colours).each) l) in
     machine_open (sym w.same) e
 
 module _ (m : Mach) (names : Naming) (is : IsNaming m names) (formed : WellFormed m) (well : WellPlaced m) where
@@ -93,7 +93,7 @@ module _ (m : Mach) (names : Naming) (is : IsNaming m names) (formed : WellForme
 
   -- ---- places
 
-  placed_now : (w r : Reg) → w.loc ≡ r.loc → w.origin ≡ r.origin → IsPlaced w → IsPlaced r
+  placed_now : (w r : Reg) → w.loc ≡ r.loc → w.origin ≡ r.origin → HasColourOrSlot w → HasColourOrSlot r
   placed_now w r e o (in_colour n c h) = in_colour n c (sym e ∙ h)
   placed_now w r e o (in_slot h) = in_slot (sym e ∙ h ∙ ap loc.Slot o)
 
@@ -167,9 +167,9 @@ module _ (m : Mach) (names : Naming) (is : IsNaming m names) (formed : WellForme
   same_count [] = refl
   same_count (i ∷ is) =
       ap (λ n. n + length (all_numbered (names.write (length is)) i.results) + operand_count (renamed_code names is))
-      (length-map i.args (numbered (names.read (length is))))
+      (length-map i.args (register_renumbered (names.read (length is))))
       ∙ ap (λ n. length i.args + n + operand_count (renamed_code names is))
-      (length-map i.results (numbered (names.write (length is))))
+      (length-map i.results (register_renumbered (names.write (length is))))
       ∙ ap (λ n. length i.args + length i.results + n) (same_count is)
 
   module _ (dense : IsDense m names) (s : Size) (h : HasSize m s) where
@@ -183,11 +183,11 @@ module _ (m : Mach) (names : Naming) (is : IsNaming m names) (formed : WellForme
         InCode r (renamed_code names code) → r.number < limit
     below_in [] known r c = elim c [ ]
     below_in (i ∷ is) known r (in_args c) =
-        let w = was (numbered (names.read (length is))) i.args r c in
+        let w = was (register_renumbered (names.read (length is))) i.args r c in
         subst (λ n. n < limit) (ap (λ (r : Reg). r.number) w.same)
         (dense.read s h w.what (known w.what (in_args w.among)) (length is))
     below_in (i ∷ is) known r (in_results c) =
-        let w = was (numbered (names.write (length is))) i.results r c in
+        let w = was (register_renumbered (names.write (length is))) i.results r c in
         subst (λ n. n < limit) (ap (λ (r : Reg). r.number) w.same)
         (dense.write s h w.what (known w.what (in_results w.among)) (length is))
     below_in (i ∷ is) known r (further c) = below_in is (λ w d. known w (further d)) r c
@@ -208,9 +208,9 @@ module _ (m : Mach) (names : Naming) (is : IsNaming m names) (formed : WellForme
           labels = h.labels;
         }
 
-pub split_kept : (m q : Mach) → WellFormed m → WellPlaced m → IsSplit m q → IsKept m q
+pub split_kept : (m q : Mach) → WellFormed m → WellPlaced m → IsSplit m q → IsSplitKept m q
 split_kept m q formed well split =
-    subst (IsKept m) (sym split.is)
+    subst (IsSplitKept m) (sym split.is)
     (record {
       keeps = renamed_keeps m split.names split.naming formed well;
       formed = renamed_formed m split.names split.naming formed (colour_fixed m split.names split.naming formed well);

@@ -5,7 +5,7 @@ use Rattle.mach_ir.specs.declared.mach.Instr.{Instr}
 use Rattle.mach_ir.specs.declared.mach.Mach.{Mach}
 use Rattle.split_rules.specs.Writes.{Chained}
 use Rattle.split_rules.specs.declared.writes.Write.{Write}
-use Rattle.mach_ir.specs.Places.{is_open}
+use Rattle.mach_ir.specs.Places.{is_unset_location}
 
 abbrev pub write_of : ℕ → Reg → Write
 write_of k r = record { left = k; number = r.number }
@@ -13,7 +13,7 @@ write_of k r = record { left = k; number = r.number }
 -- those among these registers, before so many instructions
 abbrev pub open_writes : ℕ → List Reg → List Write
 open_writes k [] = []
-open_writes k (r ∷ rs) = cond (is_open r.loc) (write_of k r ∷ open_writes k rs) (open_writes k rs)
+open_writes k (r ∷ rs) = cond (is_unset_location r.loc) (write_of k r ∷ open_writes k rs) (open_writes k rs)
 
 abbrev pub code_writes : List Instr → List Write
 code_writes [] = []

@@ -10,11 +10,11 @@ pub record Naming : Type 0 where
   pub read : ℕ → ℕ → ℕ
   pub write : ℕ → ℕ → ℕ
 
-abbrev pub numbered : (ℕ → ℕ) → Reg → Reg
-numbered f r = record r { number = f r.number }
+abbrev pub register_renumbered : (ℕ → ℕ) → Reg → Reg
+register_renumbered f r = record r { number = f r.number }
 
 abbrev pub all_numbered : (ℕ → ℕ) → List Reg → List Reg
-all_numbered f rs = map (numbered f) rs
+all_numbered f rs = map (register_renumbered f) rs
 
 abbrev pub renamed_instr : Naming → ℕ → Instr → Instr
 renamed_instr names k i =

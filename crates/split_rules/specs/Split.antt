@@ -6,19 +6,19 @@ use Rattle.mach_ir.specs.Keeps.{Keeps}
 use Rattle.mach_ir.specs.Placed.{WellPlaced}
 use Rattle.mach_ir.specs.Seats.{Seated}
 use Rattle.mach_ir.specs.Sizes.{Size, HasSize}
-use Rattle.mach_ir.specs.Walks.{Among, Stands, IsRegister, NoAddrLive}
+use Rattle.mach_ir.specs.Walks.{AmongRegisters, StandsAsInstr, IsRegister, NoAddrLive}
 use Rattle.mach_ir.specs.declared.reg.Reg.{Reg}
 use Rattle.mach_ir.specs.declared.mach.Instr.{Instr}
 use Rattle.mach_ir.specs.declared.mach.Mach.{Mach}
 use Rattle.split_rules.specs.Order.{IsNumberOfWeb}
 use Rattle.split_rules.specs.Renamed.{Naming, renamed}
-use Rattle.split_rules.specs.Writes.{Comes, Chained, IsWrite}
+use Rattle.split_rules.specs.Writes.{WriteReaches, Chained, IsWrite}
 
 -- What numbers owe for a function to do what it did.
 pub record IsNaming (m : Mach) (names : Naming) : Type 0 where
   -- an operand has the number of each write that comes to it
-  pub agree : (i : Instr) (next from : List Instr) (n : ℕ) → Stands i next m.code →
-      Among n i.args → Comes m n from (i ∷ next) →
+  pub agree : (i : Instr) (next from : List Instr) (n : ℕ) → StandsAsInstr i next m.code →
+      AmongRegisters n i.args → WriteReaches m n from (i ∷ next) →
       names.read (length next) n ≡ names.write (length from) n
   -- a new number is that of one old register
   pub back : ℕ → ℕ
@@ -30,7 +30,7 @@ pub record IsNaming (m : Mach) (names : Naming) : Type 0 where
       names.read k r.number ≡ r.number
   pub write_fixed : (r : Reg) → IsRegister m r → r.loc ≢ loc.Unset → (k : ℕ) →
       names.write k r.number ≡ r.number
-  pub entry : (n : ℕ) → Among n m.params → names.write (length m.code) n ≡ n
+  pub entry : (n : ℕ) → AmongRegisters n m.params → names.write (length m.code) n ≡ n
 
 -- Writes of an open register have one number exactly where they are joined.
 pub record JoinsExactly (m : Mach) (names : Naming) : Type 0 where
@@ -54,8 +54,8 @@ pub record AreByFirst (m : Mach) (names : Naming) : Type 0 where
   pub least : (b : ℕ) → ((r : Reg) → IsRegister m r → r.number < b) → free ≤ b
   pub written : (r : Reg) → IsRegister m r → r.loc ≡ loc.Unset → (from : List Instr) →
       IsWrite m r.number from → IsNumberOfWeb m free r.number from (names.write (length from) r.number)
-  pub unwritten : (i : Instr) (next : List Instr) (n : ℕ) → Stands i next m.code → Among n i.args →
-      ((from : List Instr) → Comes m n from (i ∷ next) → ⊥) → names.read (length next) n ≡ n
+  pub unwritten : (i : Instr) (next : List Instr) (n : ℕ) → StandsAsInstr i next m.code → AmongRegisters n i.args →
+      ((from : List Instr) → WriteReaches m n from (i ∷ next) → ⊥) → names.read (length next) n ≡ n
 
 -- Nothing but numbers of open registers has changed, writes have one number exactly where they are
 -- joined, and which number is known by the first of them.
@@ -80,7 +80,7 @@ abbrev pub split_size : ℕ → Size → Size
 split_size parameters s = record s { registers = s.registers + (s.operands + parameters) }
 
 -- What a split function keeps.
-pub record IsKept (p q : Mach) : Type 0 where
+pub record IsSplitKept (p q : Mach) : Type 0 where
   pub keeps : Keeps p q
   pub formed : WellFormed q
   pub placed : WellPlaced q

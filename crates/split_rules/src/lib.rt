@@ -17,13 +17,13 @@ ghost use Rattle.std.specs.Prelude.{◌≡◌};
 ghost use Rattle.mach_ir.specs.Formed.{WellFormed};
 ghost use Rattle.mach_ir.specs.Placed.{WellPlaced};
 ghost use Rattle.mach_ir.specs.declared.mach.Mach.{Mach};
-ghost use Rattle.split_rules.specs.Split.{IsSplit, IsKept, IsOneWeb};
+ghost use Rattle.split_rules.specs.Split.{IsSplit, IsSplitKept, IsOneWeb};
 
 pub use writes::Write;
 
 /// Law: a split function is kept.
 pub fn a_split_is_kept()
-    ensures { (m q : Mach) → WellFormed m → WellPlaced m → IsSplit m q → IsKept m q }
+    ensures { (m q : Mach) → WellFormed m → WellPlaced m → IsSplit m q → IsSplitKept m q }
 {}
 
 /// Law: in a split function all writes of an open register are joined.

@@ -18,19 +18,19 @@ use Rattle.lin_ir.specs.declared.lin.Flow.TheVariants as flow
 use Rattle.lin_ir.specs.declared.lin.LinOp.TheVariants as lin
 use Rattle.lin_ir.specs.declared.lin.Line.{Line}
 use Rattle.lin_ir.specs.declared.lin.Lin.{Lin}
-use Rattle.rv_isa.specs.Registers.{number}
+use Rattle.rv_isa.specs.Registers.{register_number}
 use Rattle.rv_isa.specs.declared.register.Register.TheVariants.{T1, A0, S2}
-use Rattle.stage_examples.specs.Registers.{move, constant, computes, load, store, allocate, calls, raise, gives, header, before}
+use Rattle.stage_examples.specs.Registers.{move_operation, constant_operation, computes, load_operation, store_operation, allocate, example_call, raise, return_operation, header, minus_eight}
 
-abbrev pub spot : Loc → Comp → Spot
-spot l c = record { loc = l; comp = c }
+abbrev pub spot_of_location : Loc → Comp → Spot
+spot_of_location l c = record { loc = l; comp = c }
 
 -- a0, where arguments, results and raised values are
-abbrev pub a0 : Loc
-a0 = loc.Machine (number A0)
+abbrev pub location_of_a0 : Loc
+location_of_a0 = loc.Machine (register_number A0)
 
 abbrev pub s2 : Loc
-s2 = loc.Machine (number S2)
+s2 = loc.Machine (register_number S2)
 
 abbrev pub line : Op → List Spot → List Spot → Line
 line f args results = record { op = lin.Op f; args = args; results = results }
@@ -38,100 +38,100 @@ line f args results = record { op = lin.Op f; args = args; results = results }
 abbrev pub goes : Flow → List Spot → List Spot → Line
 goes f args results = record { op = lin.Flow f; args = args; results = results }
 
-abbrev pub function : List Line → Lin
-function code =
+abbrev pub linear_example : List Line → Lin
+linear_example code =
     record {
       name = codes "g";
-      params = spot a0 comp.Int ∷ [];
+      params = spot_of_location location_of_a0 comp.Int ∷ [];
       result = ret.Comp comp.Int;
       slots = 2;
       code = code;
     }
 
 -- frame points that name nothing, but for one, with so many lines after it, that names a location
-abbrev pub nothing : NamedAt
-nothing left = []
+abbrev pub names_nothing : NamedAt
+names_nothing left = []
 
-abbrev pub only : ℕ → Loc → NamedAt
-only n l left = cond (nat_eq left n) (l ∷ []) []
+abbrev pub named_only_at : ℕ → Loc → NamedAt
+named_only_at n l left = cond (nat_eq left n) (l ∷ []) []
 
 -- the sum of the numbers up to n
 abbrev pub sum : Lin
 sum =
-    function
-    (line (constant 0) [] (spot s2 comp.Int ∷ [])
+    linear_example
+    (line (constant_operation 0) [] (spot_of_location s2 comp.Int ∷ [])
     ∷ goes (flow.Label 1) [] []
-    ∷ goes (flow.Branch (test.Signed compare.Le (right.Constant 0)) 2) (spot a0 comp.Int ∷ []) []
-    ∷ line (computes operator.Add right.Register) (spot s2 comp.Int ∷ spot a0 comp.Int ∷ [])
-    (spot s2 comp.Int ∷ [])
-    ∷ line (computes operator.Sub (right.Constant 1)) (spot a0 comp.Int ∷ [])
-    (spot a0 comp.Int ∷ [])
+    ∷ goes (flow.Branch (test.Signed compare.Le (right.Constant 0)) 2) (spot_of_location location_of_a0 comp.Int ∷ []) []
+    ∷ line (computes operator.Add right.Register) (spot_of_location s2 comp.Int ∷ spot_of_location location_of_a0 comp.Int ∷ [])
+    (spot_of_location s2 comp.Int ∷ [])
+    ∷ line (computes operator.Sub (right.Constant 1)) (spot_of_location location_of_a0 comp.Int ∷ [])
+    (spot_of_location location_of_a0 comp.Int ∷ [])
     ∷ goes (flow.Exit 1) [] []
     ∷ goes (flow.Label 2) [] []
-    ∷ line move (spot s2 comp.Int ∷ []) (spot a0 comp.Int ∷ [])
-    ∷ line gives (spot a0 comp.Int ∷ []) [] ∷ [])
+    ∷ line move_operation (spot_of_location s2 comp.Int ∷ []) (spot_of_location location_of_a0 comp.Int ∷ [])
+    ∷ line return_operation (spot_of_location location_of_a0 comp.Int ∷ []) [] ∷ [])
 
 -- a block at s2, whole
 abbrev pub block : List Line
 block =
-    line allocate [] (spot s2 comp.Val ∷ [])
-    ∷ line (constant header) [] (spot (loc.Machine (number T1)) comp.Int ∷ [])
-    ∷ line (store chunk.Int before)
-    (spot s2 comp.Val ∷ spot (loc.Machine (number T1)) comp.Int ∷ []) []
-    ∷ line (store chunk.Val 0) (spot s2 comp.Val ∷ spot a0 comp.Int ∷ []) []
-    ∷ line (store chunk.Val 8) (spot s2 comp.Val ∷ spot a0 comp.Int ∷ []) [] ∷ []
+    line allocate [] (spot_of_location s2 comp.Val ∷ [])
+    ∷ line (constant_operation header) [] (spot_of_location (loc.Machine (register_number T1)) comp.Int ∷ [])
+    ∷ line (store_operation chunk.Int minus_eight)
+    (spot_of_location s2 comp.Val ∷ spot_of_location (loc.Machine (register_number T1)) comp.Int ∷ []) []
+    ∷ line (store_operation chunk.Val 0) (spot_of_location s2 comp.Val ∷ spot_of_location location_of_a0 comp.Int ∷ []) []
+    ∷ line (store_operation chunk.Val 8) (spot_of_location s2 comp.Val ∷ spot_of_location location_of_a0 comp.Int ∷ []) [] ∷ []
 
 -- it is kept in a slot over a call, and its second cell is given
 abbrev pub keeps_block : Lin
 keeps_block =
-    function
+    linear_example
     (block
-    ++ (line move (spot s2 comp.Val ∷ []) (spot (loc.Slot 1) comp.Val ∷ [])
-    ∷ line calls (spot a0 comp.Int ∷ []) (spot a0 comp.Int ∷ [])
-    ∷ line (load chunk.Val 8) (spot (loc.Slot 1) comp.Val ∷ []) (spot a0 comp.Val ∷ [])
-    ∷ line gives (spot a0 comp.Val ∷ []) [] ∷ []))
+    ++ (line move_operation (spot_of_location s2 comp.Val ∷ []) (spot_of_location (loc.Slot 1) comp.Val ∷ [])
+    ∷ line example_call (spot_of_location location_of_a0 comp.Int ∷ []) (spot_of_location location_of_a0 comp.Int ∷ [])
+    ∷ line (load_operation chunk.Val 8) (spot_of_location (loc.Slot 1) comp.Val ∷ []) (spot_of_location location_of_a0 comp.Val ∷ [])
+    ∷ line return_operation (spot_of_location location_of_a0 comp.Val ∷ []) [] ∷ []))
 
 -- a word is kept so
 abbrev pub keeps_word : Lin
 keeps_word =
-    function
-    (line move (spot a0 comp.Int ∷ []) (spot (loc.Slot 1) comp.Int ∷ [])
-    ∷ line calls (spot a0 comp.Int ∷ []) (spot a0 comp.Int ∷ [])
-    ∷ line gives (spot (loc.Slot 1) comp.Int ∷ []) [] ∷ [])
+    linear_example
+    (line move_operation (spot_of_location location_of_a0 comp.Int ∷ []) (spot_of_location (loc.Slot 1) comp.Int ∷ [])
+    ∷ line example_call (spot_of_location location_of_a0 comp.Int ∷ []) (spot_of_location location_of_a0 comp.Int ∷ [])
+    ∷ line return_operation (spot_of_location (loc.Slot 1) comp.Int ∷ []) [] ∷ [])
 
 -- the block is read as an int
 abbrev pub hides_pointer : Lin
-hides_pointer = function (block ++ (line gives (spot s2 comp.Int ∷ []) [] ∷ []))
+hides_pointer = linear_example (block ++ (line return_operation (spot_of_location s2 comp.Int ∷ []) [] ∷ []))
 
 -- in a try, whose handler gives what was raised
 abbrev pub guarded : List Line → Lin
 guarded body =
-    function
+    linear_example
     (goes (flow.PushTrap 1) [] []
     ∷ (body
     ++ (goes flow.PopTrap [] []
-    ∷ line gives (spot a0 comp.Int ∷ []) []
+    ∷ line return_operation (spot_of_location location_of_a0 comp.Int ∷ []) []
     ∷ goes (flow.Label 1) [] []
-    ∷ goes flow.EnterTrap [] (spot a0 comp.Val ∷ [])
-    ∷ line gives (spot a0 comp.Val ∷ []) [] ∷ [])))
+    ∷ goes flow.EnterTrap [] (spot_of_location location_of_a0 comp.Val ∷ [])
+    ∷ line return_operation (spot_of_location location_of_a0 comp.Val ∷ []) [] ∷ [])))
 
 abbrev pub guards_call : Lin
-guards_call = guarded (line calls (spot a0 comp.Int ∷ []) (spot a0 comp.Int ∷ []) ∷ [])
+guards_call = guarded (line example_call (spot_of_location location_of_a0 comp.Int ∷ []) (spot_of_location location_of_a0 comp.Int ∷ []) ∷ [])
 
 abbrev pub guards_raise : Lin
 guards_raise =
     guarded
-    (line move (spot a0 comp.Int ∷ []) (spot a0 comp.Val ∷ [])
-    ∷ line raise (spot a0 comp.Val ∷ []) [] ∷ [])
+    (line move_operation (spot_of_location location_of_a0 comp.Int ∷ []) (spot_of_location location_of_a0 comp.Val ∷ [])
+    ∷ line raise (spot_of_location location_of_a0 comp.Val ∷ []) [] ∷ [])
 
 -- the handler reads what a register held in the body
 abbrev pub reads_register : Lin
 reads_register =
-    function
+    linear_example
     (goes (flow.PushTrap 1) [] []
-    ∷ line move (spot a0 comp.Int ∷ []) (spot s2 comp.Int ∷ [])
-    ∷ line move (spot a0 comp.Int ∷ []) (spot a0 comp.Val ∷ [])
-    ∷ line raise (spot a0 comp.Val ∷ []) []
+    ∷ line move_operation (spot_of_location location_of_a0 comp.Int ∷ []) (spot_of_location s2 comp.Int ∷ [])
+    ∷ line move_operation (spot_of_location location_of_a0 comp.Int ∷ []) (spot_of_location location_of_a0 comp.Val ∷ [])
+    ∷ line raise (spot_of_location location_of_a0 comp.Val ∷ []) []
     ∷ goes (flow.Label 1) [] []
-    ∷ goes flow.EnterTrap [] (spot a0 comp.Val ∷ [])
-    ∷ line gives (spot s2 comp.Int ∷ []) [] ∷ [])
+    ∷ goes flow.EnterTrap [] (spot_of_location location_of_a0 comp.Val ∷ [])
+    ∷ line return_operation (spot_of_location s2 comp.Int ∷ []) [] ∷ [])

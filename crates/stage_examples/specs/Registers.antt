@@ -27,25 +27,25 @@ use Rattle.mach_ir.specs.declared.mach.Mark.{Mark}
 use Rattle.mach_ir.specs.declared.mach.Mark.TheVariants as mark
 use Rattle.mach_ir.specs.declared.mach.Test.TheVariants as test
 use Rattle.mach_ir.specs.declared.reg.Reg.{Reg}
-use Rattle.rv_isa.specs.Registers.{number}
+use Rattle.rv_isa.specs.Registers.{register_number}
 use Rattle.rv_isa.specs.declared.register.Register.TheVariants.{A1, S2}
 
 -- ---- operations of both languages
 
-abbrev pub move : Op
-move = op.Pure (pure.Copy copy.Move)
+abbrev pub move_operation : Op
+move_operation = op.Pure (pure.Copy copy.Move)
 
-abbrev pub constant : ℕ → Op
-constant w = op.Pure (pure.Constant w)
+abbrev pub constant_operation : ℕ → Op
+constant_operation w = op.Pure (pure.Constant w)
 
 abbrev pub computes : IntOp → Right → Op
 computes f r = op.Pure (pure.Operator f r)
 
-abbrev pub load : Chunk → ℕ → Op
-load k offset = op.Access (access.Load k offset)
+abbrev pub load_operation : Chunk → ℕ → Op
+load_operation k offset = op.Access (access.Load k offset)
 
-abbrev pub store : Chunk → ℕ → Op
-store k offset = op.Access (access.Store k offset)
+abbrev pub store_operation : Chunk → ℕ → Op
+store_operation k offset = op.Access (access.Store k offset)
 
 -- a scanned block of two cells
 abbrev pub header : ℕ
@@ -55,15 +55,15 @@ abbrev pub allocate : Op
 allocate = op.Access (access.Alloc (record { header = header; cells = 2 } ∷ []))
 
 -- a call of the function of one int, which gives an int
-abbrev pub calls : Op
-calls = op.Calling (calling.Call (callee.Symbol (codes "f")) (ret.Comp comp.Int))
+abbrev pub example_call : Op
+example_call = op.Calling (calling.Call (callee.Symbol (codes "f")) (ret.Comp comp.Int))
 
 abbrev pub tail_calls : Op
 tail_calls = op.Calling (calling.TailCall (callee.Symbol (codes "f")) (ret.Comp comp.Int))
 
 -- a frame call with no argument, which gives a val
-abbrev pub calls_out : Op
-calls_out =
+abbrev pub example_frame_call : Op
+example_frame_call =
     op.Calling (calling.External
     (record { name = codes "gc"; params = []; result = ret.Comp comp.Val }) true)
 
@@ -71,15 +71,15 @@ abbrev pub raise : Op
 raise = op.Leaving leaving.Raise
 
 -- of an index that is a register
-abbrev pub checkbound : Op
-checkbound = op.Leaving (leaving.Checkbound right.Register)
+abbrev pub register_checkbound : Op
+register_checkbound = op.Leaving (leaving.Checkbound right.Register)
 
-abbrev pub gives : Op
-gives = op.Leaving leaving.Return
+abbrev pub return_operation : Op
+return_operation = op.Leaving leaving.Return
 
 -- offset -8
-abbrev pub before : ℕ
-before = 0xFFFFFFFFFFFFFFF8
+abbrev pub minus_eight : ℕ
+minus_eight = 0xFFFFFFFFFFFFFFF8
 
 -- ---- registers
 
@@ -97,19 +97,19 @@ addr n = at n comp.Addr loc.Unset
 
 -- registers that are at a1, which an external call destroys, and at s2, which it keeps
 abbrev pub at_a1 : Reg
-at_a1 = at 20 comp.Int (loc.Machine (number A1))
+at_a1 = at 20 comp.Int (loc.Machine (register_number A1))
 
 abbrev pub at_s2 : Reg
-at_s2 = at 21 comp.Int (loc.Machine (number S2))
+at_s2 = at 21 comp.Int (loc.Machine (register_number S2))
 
 abbrev pub instr : Op → List Reg → List Reg → Instr
 instr f args results = record { op = mach.Op f; args = args; results = results }
 
-abbrev pub marked : Mark → List Reg → List Reg → Instr
-marked f args results = record { op = mach.Mark f; args = args; results = results }
+abbrev pub mark_instruction : Mark → List Reg → List Reg → Instr
+mark_instruction f args results = record { op = mach.Mark f; args = args; results = results }
 
-abbrev pub function : List Reg → List Instr → Mach
-function params code =
+abbrev pub mach_example : List Reg → List Instr → Mach
+mach_example params code =
     record {
       name = codes "g";
       params = params;
@@ -124,77 +124,77 @@ function params code =
 -- the sum of the numbers up to n: a loop is a catch to which an exit goes back
 abbrev pub sum : Mach
 sum =
-    function (int 0 ∷ [])
-    (instr (constant 0) [] (int 1 ∷ [])
-    ∷ marked mark.Catch [] []
-    ∷ marked (mark.Exit 1 0) [] []
-    ∷ marked (mark.With 1 2) [] []
-    ∷ marked (mark.If (test.Signed compare.Gt (right.Constant 0)) 3) (int 0 ∷ []) []
+    mach_example (int 0 ∷ [])
+    (instr (constant_operation 0) [] (int 1 ∷ [])
+    ∷ mark_instruction mark.Catch [] []
+    ∷ mark_instruction (mark.Exit 1 0) [] []
+    ∷ mark_instruction (mark.With 1 2) [] []
+    ∷ mark_instruction (mark.If (test.Signed compare.Gt (right.Constant 0)) 3) (int 0 ∷ []) []
     ∷ instr (computes operator.Add right.Register) (int 1 ∷ int 0 ∷ []) (int 1 ∷ [])
     ∷ instr (computes operator.Sub (right.Constant 1)) (int 0 ∷ []) (int 0 ∷ [])
-    ∷ marked (mark.Exit 1 0) [] []
-    ∷ marked (mark.End 3) [] []
-    ∷ marked (mark.End 2) [] []
-    ∷ instr gives (int 1 ∷ []) [] ∷ [])
+    ∷ mark_instruction (mark.Exit 1 0) [] []
+    ∷ mark_instruction (mark.End 3) [] []
+    ∷ mark_instruction (mark.End 2) [] []
+    ∷ instr return_operation (int 1 ∷ []) [] ∷ [])
 
 -- in a try, whose handler gives what was raised
 abbrev pub guarded : List Instr → Mach
 guarded body =
-    function (int 0 ∷ [])
-    (marked (mark.Try 1) [] []
+    mach_example (int 0 ∷ [])
+    (mark_instruction (mark.Try 1) [] []
     ∷ (body
-    ++ (marked (mark.Leave 1 2) [] []
-    ∷ marked (mark.Handler 1) [] (val 3 ∷ [])
-    ∷ instr gives (val 3 ∷ []) []
-    ∷ marked (mark.End 2) [] []
-    ∷ instr gives (int 1 ∷ []) [] ∷ [])))
+    ++ (mark_instruction (mark.Leave 1 2) [] []
+    ∷ mark_instruction (mark.Handler 1) [] (val 3 ∷ [])
+    ∷ instr return_operation (val 3 ∷ []) []
+    ∷ mark_instruction (mark.End 2) [] []
+    ∷ instr return_operation (int 1 ∷ []) [] ∷ [])))
 
 abbrev pub guards_call : Mach
-guards_call = guarded (instr calls (int 0 ∷ []) (int 1 ∷ []) ∷ [])
+guards_call = guarded (instr example_call (int 0 ∷ []) (int 1 ∷ []) ∷ [])
 
 abbrev pub guards_raise : Mach
-guards_raise = guarded (instr move (int 0 ∷ []) (val 2 ∷ []) ∷ instr raise (val 2 ∷ []) [] ∷ [])
+guards_raise = guarded (instr move_operation (int 0 ∷ []) (val 2 ∷ []) ∷ instr raise (val 2 ∷ []) [] ∷ [])
 
 abbrev pub guards_bound : Mach
 guards_bound =
     guarded
-    (instr (constant 3) [] (int 2 ∷ [])
-    ∷ instr checkbound (int 2 ∷ int 0 ∷ []) []
-    ∷ instr move (int 0 ∷ []) (int 1 ∷ []) ∷ [])
+    (instr (constant_operation 3) [] (int 2 ∷ [])
+    ∷ instr register_checkbound (int 2 ∷ int 0 ∷ []) []
+    ∷ instr move_operation (int 0 ∷ []) (int 1 ∷ []) ∷ [])
 
 abbrev pub guards_frame_call : Mach
 guards_frame_call =
     guarded
-    (instr calls_out [] (val 2 ∷ [])
-    ∷ instr move (val 2 ∷ []) (int 1 ∷ []) ∷ [])
+    (instr example_frame_call [] (val 2 ∷ [])
+    ∷ instr move_operation (val 2 ∷ []) (int 1 ∷ []) ∷ [])
 
 -- a block, its header, its cells
 abbrev pub headed : List Instr
 headed =
-    instr (constant header) [] (int 2 ∷ [])
-    ∷ instr (store chunk.Int before) (val 1 ∷ int 2 ∷ []) [] ∷ []
+    instr (constant_operation header) [] (int 2 ∷ [])
+    ∷ instr (store_operation chunk.Int minus_eight) (val 1 ∷ int 2 ∷ []) [] ∷ []
 
-abbrev pub filled : List Instr
-filled =
-    instr (store chunk.Val 0) (val 1 ∷ int 0 ∷ []) []
-    ∷ instr (store chunk.Val 8) (val 1 ∷ int 0 ∷ []) [] ∷ []
+abbrev pub filled_block : List Instr
+filled_block =
+    instr (store_operation chunk.Val 0) (val 1 ∷ int 0 ∷ []) []
+    ∷ instr (store_operation chunk.Val 8) (val 1 ∷ int 0 ∷ []) [] ∷ []
 
 abbrev pub block : List Instr → List Instr → List Instr → Mach
 block before_all parts after =
-    function (int 0 ∷ [])
+    mach_example (int 0 ∷ [])
     (before_all ++ (instr allocate [] (val 1 ∷ []) ∷ (parts ++ after)))
 
 -- its second cell is given
 abbrev pub reads_back : List Instr
 reads_back =
-    instr (load chunk.Val 8) (val 1 ∷ []) (val 4 ∷ [])
-    ∷ instr gives (val 4 ∷ []) [] ∷ []
+    instr (load_operation chunk.Val 8) (val 1 ∷ []) (val 4 ∷ [])
+    ∷ instr return_operation (val 4 ∷ []) [] ∷ []
 
 abbrev pub keeps_block : Mach
-keeps_block = block [] (headed ++ filled) reads_back
+keeps_block = block [] (headed ++ filled_block) reads_back
 
 abbrev pub has_no_header : Mach
-has_no_header = block [] filled reads_back
+has_no_header = block [] filled_block reads_back
 
 abbrev pub has_no_cells : Mach
 has_no_cells = block [] headed reads_back
@@ -202,8 +202,8 @@ has_no_cells = block [] headed reads_back
 abbrev pub other_header : Mach
 other_header =
     block []
-    (instr (constant 1024) [] (int 2 ∷ [])
-    ∷ instr (store chunk.Int before) (val 1 ∷ int 2 ∷ []) [] ∷ filled)
+    (instr (constant_operation 1024) [] (int 2 ∷ [])
+    ∷ instr (store_operation chunk.Int minus_eight) (val 1 ∷ int 2 ∷ []) [] ∷ filled_block)
     reads_back
 
 -- An address in the block, before and after a call.
@@ -213,47 +213,47 @@ address =
 
 abbrev pub reads_at_address : List Instr
 reads_at_address =
-    instr (load chunk.Val 0) (addr 5 ∷ []) (val 4 ∷ [])
-    ∷ instr gives (val 4 ∷ []) [] ∷ []
+    instr (load_operation chunk.Val 0) (addr 5 ∷ []) (val 4 ∷ [])
+    ∷ instr return_operation (val 4 ∷ []) [] ∷ []
 
 abbrev pub address_over_call : Mach
 address_over_call =
-    block [] (headed ++ filled)
-    (address ∷ instr calls (int 0 ∷ []) (int 6 ∷ []) ∷ reads_at_address)
+    block [] (headed ++ filled_block)
+    (address ∷ instr example_call (int 0 ∷ []) (int 6 ∷ []) ∷ reads_at_address)
 
 abbrev pub address_after_call : Mach
 address_after_call =
-    block [] (headed ++ filled)
-    (instr calls (int 0 ∷ []) (int 6 ∷ []) ∷ address ∷ reads_at_address)
+    block [] (headed ++ filled_block)
+    (instr example_call (int 0 ∷ []) (int 6 ∷ []) ∷ address ∷ reads_at_address)
 
 -- a pointer in an int register
 abbrev pub hides_pointer : Mach
 hides_pointer =
-    block [] (headed ++ filled)
-    (instr move (val 1 ∷ []) (int 6 ∷ []) ∷ instr gives (int 6 ∷ []) [] ∷ [])
+    block [] (headed ++ filled_block)
+    (instr move_operation (val 1 ∷ []) (int 6 ∷ []) ∷ instr return_operation (int 6 ∷ []) [] ∷ [])
 
 -- a value over an external call
 abbrev pub over_call_out : Reg → Mach
 over_call_out r =
-    function (int 0 ∷ [])
-    (instr move (int 0 ∷ []) (r ∷ [])
-    ∷ instr calls_out [] (val 2 ∷ [])
-    ∷ instr gives (r ∷ []) [] ∷ [])
+    mach_example (int 0 ∷ [])
+    (instr move_operation (int 0 ∷ []) (r ∷ [])
+    ∷ instr example_frame_call [] (val 2 ∷ [])
+    ∷ instr return_operation (r ∷ []) [] ∷ [])
 
 abbrev pub reads_unwritten : Mach
-reads_unwritten = function (int 0 ∷ []) (instr gives (int 1 ∷ []) [] ∷ [])
+reads_unwritten = mach_example (int 0 ∷ []) (instr return_operation (int 1 ∷ []) [] ∷ [])
 
 abbrev pub calls_last : Mach
-calls_last = function (int 0 ∷ []) (instr tail_calls (int 0 ∷ []) [] ∷ [])
+calls_last = mach_example (int 0 ∷ []) (instr tail_calls (int 0 ∷ []) [] ∷ [])
 
 -- index 0 and 2 to 10, index 1 to 20
 abbrev pub chooses : Mach
 chooses =
-    function (int 0 ∷ [])
-    (marked (mark.Switch (1 ∷ 2 ∷ 1 ∷ [])) (int 0 ∷ []) []
-    ∷ marked (mark.Case (0 ∷ 2 ∷ []) 1 3) [] []
-    ∷ instr (constant 10) [] (int 1 ∷ [])
-    ∷ marked (mark.Case (1 ∷ []) 2 3) [] []
-    ∷ instr (constant 20) [] (int 1 ∷ [])
-    ∷ marked (mark.End 3) [] []
-    ∷ instr gives (int 1 ∷ []) [] ∷ [])
+    mach_example (int 0 ∷ [])
+    (mark_instruction (mark.Switch (1 ∷ 2 ∷ 1 ∷ [])) (int 0 ∷ []) []
+    ∷ mark_instruction (mark.Case (0 ∷ 2 ∷ []) 1 3) [] []
+    ∷ instr (constant_operation 10) [] (int 1 ∷ [])
+    ∷ mark_instruction (mark.Case (1 ∷ []) 2 3) [] []
+    ∷ instr (constant_operation 20) [] (int 1 ∷ [])
+    ∷ mark_instruction (mark.End 3) [] []
+    ∷ instr return_operation (int 1 ∷ []) [] ∷ [])

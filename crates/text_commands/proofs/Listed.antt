@@ -11,7 +11,7 @@ use Rattle.file_compile.specs.Listed.{AreFunctionTexts, IsImageText, image_text,
 use Rattle.image_form.specs.Image.{AreTables}
 use Rattle.image_form.specs.Tables.{Tables}
 use Rattle.layout_rules.specs.TooLarge.{first_too_large}
-use Rattle.made_functions.specs.Files.{IsMadeFor}
+use Rattle.made_functions.specs.Files.{AreTablesMadeFor}
 use Rattle.choices.specs.Defaults.{defaults}
 use Rattle.stages.specs.declared.stage.Stage.{Stage}
 use Rattle.text_commands.proofs.Passing.{only_made}
@@ -22,7 +22,7 @@ use Rattle.text_commands.specs.Listing.{ListsImage, ListsImageAt}
 use Rattle.text_commands.specs.Trial.{IsTrial}
 
 -- the image that is made for the text's file, where it fits, is that of the text
-pub image_of : (text : List ℕ) (file : FileTree) → IsFileOf text file → All (λ b. b < 256) text → (image : Tables) → AreTables image → IsMadeFor defaults file image →
+pub image_of : (text : List ℕ) (file : FileTree) → IsFileOf text file → All (λ b. b < 256) text → (image : Tables) → AreTables image → AreTablesMadeFor defaults file image →
     first_too_large image ≡ None → IsImageOf text image
 image_of text file is are image tables made fits = record {
   file = file;
@@ -38,7 +38,7 @@ image_of text file is are image tables made fits = record {
 
 -- it, and the outcome of a run of a function of the file
 pub tried : (check : CheckTree) (text : List ℕ) (file : FileTree) → IsFileOf text file → All (λ b. b < 256) text → (image : Tables) → AreTables image →
-    IsMadeFor defaults file image → first_too_large image ≡ None → (entry : ℕ) (args answers outcome : List ℕ) → IsCall check file entry args answers →
+    AreTablesMadeFor defaults file image → first_too_large image ≡ None → (entry : ℕ) (args answers outcome : List ℕ) → IsCall check file entry args answers →
     outcome ≡ cmm_outcome_text (cmm_run file (layout_of image) entry args answers check.fuel) → IsTrial check text image outcome
 unfolding image_of
 tried check text file is are image tables made fits entry args answers outcome call told = record {

@@ -8,15 +8,15 @@ use Rattle.correctness.specs.Bounds.{IsRoomy}
 use Rattle.file_compile.proofs.Promised.{roomy_fits}
 use Rattle.image_form.specs.Tables.{Tables}
 use Rattle.layout_rules.specs.TooLarge.{first_too_large}
-use Rattle.made_functions.specs.Files.{IsMadeFor}
+use Rattle.made_functions.specs.Files.{AreTablesMadeFor}
 use Rattle.choices.specs.Defaults.{defaults}
 use Rattle.file_promise.proofs.Once.{made_for_once}
 use Rattle.text_commands.specs.Compile.{IsOnlyMadeFor, IsTooLarge}
 
-pub only_made : (file : FileTree) (image : Tables) → IsMadeFor defaults file image → IsOnlyMadeFor file image
+pub only_made : (file : FileTree) (image : Tables) → AreTablesMadeFor defaults file image → IsOnlyMadeFor file image
 only_made file image made = record { made = made; only = λ other m. made_for_once file other image m made }
 
-module _ (text : List ℕ) (file : FileTree) (large : Large) (is : IsFileOf text file) (of : (t : Tables) × (IsMadeFor defaults file t × (first_too_large t ≡ Some large))) where
+module _ (text : List ℕ) (file : FileTree) (large : Large) (is : IsFileOf text file) (of : (t : Tables) × (AreTablesMadeFor defaults file t × (first_too_large t ≡ Some large))) where
   pub not_roomy : IsRoomy file → ⊥
   not_roomy roomy = none-some large (sym (roomy_fits text file is of.0 of.1.0 roomy) ∙ of.1.1)
 

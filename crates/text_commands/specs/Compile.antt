@@ -10,14 +10,14 @@ use Rattle.made_functions.specs.Exact.{IsExact}
 use Rattle.image_form.specs.Image.{AreTables}
 use Rattle.image_form.specs.Tables.{Tables}
 use Rattle.layout_rules.specs.TooLarge.{first_too_large}
-use Rattle.made_functions.specs.Files.{IsMadeFor}
+use Rattle.made_functions.specs.Files.{AreTablesMadeFor}
 use Rattle.choices.specs.Defaults.{defaults}
 
 -- This image is made for the file, and no other.
 pub record IsOnlyMadeFor (file : FileTree) (image : Tables) : Type 0 where
   -- each function through all passes, and all of them laid out
-  pub made : IsMadeFor defaults file image
-  pub only : (other : Tables) → IsMadeFor defaults file other → other ≡ image
+  pub made : AreTablesMadeFor defaults file image
+  pub only : (other : Tables) → AreTablesMadeFor defaults file other → other ≡ image
 
 -- The text has a file, and this is the image that is made for it: it is correct for the file, asks for
 -- allocations only in need, is as small as the file asks, and its frame descriptors are exact.

@@ -19,12 +19,12 @@ kind_text ShiftRange = codes "ShiftRange"
 kind_text SwitchRange = codes "SwitchRange"
 kind_text BadCall = codes "BadCall"
 
-abbrev pub end_text : Outcome → List ℕ
-end_text (Returned value) = returned_text value
-end_text (Raised value) = codes "raised " ++ obs_text value
-end_text (Asks call) = codes "asks " ++ made_text call
-end_text More = codes "more"
-end_text (Improper kind) = codes "improper " ++ kind_text kind
+abbrev pub run_outcome_text : Outcome → List ℕ
+run_outcome_text (Returned value) = returned_text value
+run_outcome_text (Raised value) = codes "raised " ++ obs_text value
+run_outcome_text (Asks call) = codes "asks " ++ made_text call
+run_outcome_text More = codes "more"
+run_outcome_text (Improper kind) = codes "improper " ++ kind_text kind
 
 -- a word and a number on a line
 abbrev pub need_text : List ℕ → ℕ → List ℕ
@@ -32,7 +32,7 @@ need_text name number = name ++ (codes " " ++ (decimal number ++ codes "\n"))
 
 -- a line for each external call that was made, and one for how the run ended
 abbrev pub cmm_outcome_text : Run → List ℕ
-cmm_outcome_text run = calls_text run.calls ++ (end_text run.outcome ++ codes "\n")
+cmm_outcome_text run = calls_text run.calls ++ (run_outcome_text run.outcome ++ codes "\n")
 
 -- that, and then the bytes of stack and heap that the run needs, and the units of fuel that it spent of so many
 abbrev pub check_text : ℕ → Run → List ℕ

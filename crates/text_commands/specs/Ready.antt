@@ -6,16 +6,16 @@ use Rattle.command_line.specs.Command.{CheckTree}
 use Rattle.image_form.specs.Image.{AreTables}
 use Rattle.image_form.specs.Tables.{Tables}
 use Rattle.layout_rules.specs.TooLarge.{first_too_large}
-use Rattle.made_functions.specs.Files.{IsMadeFor}
+use Rattle.made_functions.specs.Files.{AreTablesMadeFor}
 use Rattle.choices.specs.Defaults.{defaults}
 use Rattle.text_commands.specs.Arguments.{IsCall}
 
 -- The text has this file, the words ask for this call of one of its functions, and this is the image that is made for
 -- the file, of which no section passes its limit.
-pub record IsReady (check : CheckTree) (text : List ℕ) (file : FileTree) (entry : ℕ) (args answers : List ℕ)
+pub record IsRunReady (check : CheckTree) (text : List ℕ) (file : FileTree) (entry : ℕ) (args answers : List ℕ)
     (image : Tables) : Type 0 where
   pub is_file : IsFileOf text file
   pub call : IsCall check file entry args answers
   pub is_image : AreTables image
-  pub made : IsMadeFor defaults file image
+  pub made : AreTablesMadeFor defaults file image
   pub fits : first_too_large image ≡ None

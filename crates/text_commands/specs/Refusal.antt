@@ -18,10 +18,10 @@ pub record SpellsImageOf (text bytes : List ℕ) : Type 0 where
   pub spelled : bytes ≡ tables_bytes image
 
 -- why a text has no image
-abbrev pub IsRefusalOf : List ℕ → Refusal → Type 0
-IsRefusalOf text (Fault told) = HasFault text told
-IsRefusalOf text (TooLarge large) = IsTooLarge text large
-IsRefusalOf text OutOfMemory = ⊤
+abbrev pub IsTextRefusal : List ℕ → Refusal → Type 0
+IsTextRefusal text (Fault told) = HasFault text told
+IsTextRefusal text (TooLarge large) = IsTooLarge text large
+IsTextRefusal text OutOfMemory = ⊤
 
 -- what is answered where the text has no file
 abbrev pub refusal_of_front : FrontError → Refusal

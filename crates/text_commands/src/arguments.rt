@@ -2,7 +2,7 @@
 ghost use Rattle.std.specs.Prelude.{◌≡◌, IfOk, option_map};
 ghost use Rattle.bs_words.specs.Contents.{contents};
 ghost use Rattle.cmm_data.specs.Symbols.{value_in};
-ghost use Rattle.text_commands.specs.Arguments.{word_of, words_of};
+ghost use Rattle.text_commands.specs.Arguments.{word_of_argument, words_of_arguments};
 
 use bs_words::{List, Value};
 use cmm_data::SymbolTable;
@@ -11,7 +11,7 @@ use std::alloc::{AllocError, Global};
 
 /// The word of an argument or an answer: a symbol is one of static data.
 fn word_of(table: &SymbolTable<'_>, arg: &Arg) -> Option<u64>
-    ensures { result ≡ word_of (value_in table.now) arg.now }
+    ensures { result ≡ word_of_argument (value_in table.now) arg.now }
 {
     match arg {
         Arg::Word(word) => Some(*word),
@@ -29,7 +29,7 @@ pub(crate) fn words_of(
     args: &List<Arg>,
 ) -> Result<Option<Vec<u64>>, AllocError>
     ensures { IfOk result (λ words.
-        option_map (λ w. w.items) words ≡ words_of (value_in table.now) (contents args.now)) }
+        option_map (λ w. w.items) words ≡ words_of_arguments (value_in table.now) (contents args.now)) }
 {
     let mut words = Vec::new(alloc);
     for arg in args.as_slice() {

@@ -1,7 +1,7 @@
 //! Compiling a text.
 ghost use Rattle.std.specs.Prelude.{◌≡◌, ◌≤◌, IfOk, IfErr};
 ghost use Rattle.bs_words.specs.Contents.{contents};
-ghost use Rattle.text_commands.specs.Refusal.{SpellsImageOf, IsRefusalOf, refusal_of_front, refusal_of_build};
+ghost use Rattle.text_commands.specs.Refusal.{SpellsImageOf, IsTextRefusal, refusal_of_front, refusal_of_build};
 ghost use Rattle.text_commands.specs.declared.compile.Refusal.TheVariants.{OutOfMemory};
 
 use bs_fault::{BuildError, Fault, FrontError, Large};
@@ -74,7 +74,7 @@ pub fn compile_text<R: Threads + Sync, G: Gate + Sync>(
     requires some_jobs { 1 ≤ jobs }
     requires few_jobs { jobs ≤ 64 }
     ensures image { IfOk result (λ bytes. SpellsImageOf text.now (contents bytes)) }
-    ensures refused { IfErr result (λ r. IsRefusalOf text.now r) }
+    ensures refused { IfErr result (λ r. IsTextRefusal text.now r) }
 {
     let checked = front(alloc, text)?;
     let image = compile(rt, alloc, &checked, jobs, gate)?;

@@ -2,9 +2,9 @@
 ghost use Rattle.std.specs.Prelude.{◌≡◌, map, IfOk};
 ghost use Rattle.bs_words.specs.Contents.{contents};
 ghost use Rattle.eval_frames.specs.Views.{call_view, outcome_view, eval_view};
-ghost use Rattle.mach_ir.specs.Pages.{Adds};
+ghost use Rattle.mach_ir.specs.Pages.{AddsText};
 ghost use Rattle.rv_machine.specs.Text.{obs_text, shown_text, made_text, calls_text, returned_text};
-ghost use Rattle.text_commands.specs.Lines.{kind_text, end_text, need_text, check_text, cmm_outcome_text};
+ghost use Rattle.text_commands.specs.Lines.{kind_text, run_outcome_text, need_text, check_text, cmm_outcome_text};
 
 use bs_words::{Call, Kind, List, Obs};
 use cmm_eval::{Eval, Outcome};
@@ -34,7 +34,7 @@ pub(crate) fn outcome_of(alloc: Global, eval: &Eval) -> Result<List<u8>, AllocEr
 
 /// An observation: a word as a signed decimal, or a block by its serial.
 fn put_obs(page: &mut Page, obs: Obs) -> Result<(), AllocError>
-    ensures { IfOk result (λ _. Adds page.old page.new (obs_text obs)) }
+    ensures { IfOk result (λ _. AddsText page.old page.new (obs_text obs)) }
 {
     match obs {
         Obs::Word(word) => page.put_word(word),
@@ -47,7 +47,7 @@ fn put_obs(page: &mut Page, obs: Obs) -> Result<(), AllocError>
 
 /// Each observation after a space.
 fn put_shown(page: &mut Page, shown: &[Obs]) -> Result<(), AllocError>
-    ensures { IfOk result (λ _. Adds page.old page.new (shown_text shown.now)) }
+    ensures { IfOk result (λ _. AddsText page.old page.new (shown_text shown.now)) }
 {
     for obs in shown {
         page.put(b" ")?;
@@ -58,7 +58,7 @@ fn put_shown(page: &mut Page, shown: &[Obs]) -> Result<(), AllocError>
 
 /// An external call: its name, and what its arguments showed.
 fn put_made(page: &mut Page, call: &Call) -> Result<(), AllocError>
-    ensures { IfOk result (λ _. Adds page.old page.new (made_text (call_view call.now))) }
+    ensures { IfOk result (λ _. AddsText page.old page.new (made_text (call_view call.now))) }
 {
     page.put(call.name.as_bytes())?;
     put_shown(page, call.args.as_slice())
@@ -66,7 +66,7 @@ fn put_made(page: &mut Page, call: &Call) -> Result<(), AllocError>
 
 /// A line for each external call.
 fn put_calls(page: &mut Page, calls: &[Call]) -> Result<(), AllocError>
-    ensures { IfOk result (λ _. Adds page.old page.new (calls_text (map call_view calls.now))) }
+    ensures { IfOk result (λ _. AddsText page.old page.new (calls_text (map call_view calls.now))) }
 {
     for call in calls {
         page.put(b"call ")?;
@@ -77,7 +77,7 @@ fn put_calls(page: &mut Page, calls: &[Call]) -> Result<(), AllocError>
 }
 
 fn put_returned(page: &mut Page, value: Option<Obs>) -> Result<(), AllocError>
-    ensures { IfOk result (λ _. Adds page.old page.new (returned_text value)) }
+    ensures { IfOk result (λ _. AddsText page.old page.new (returned_text value)) }
 {
     match value {
         None => page.put(b"returned"),
@@ -90,7 +90,7 @@ fn put_returned(page: &mut Page, value: Option<Obs>) -> Result<(), AllocError>
 
 /// How the run ended.
 fn put_end(page: &mut Page, outcome: &Outcome) -> Result<(), AllocError>
-    ensures { IfOk result (λ _. Adds page.old page.new (end_text (outcome_view outcome.now))) }
+    ensures { IfOk result (λ _. AddsText page.old page.new (run_outcome_text (outcome_view outcome.now))) }
 {
     match outcome {
         Outcome::Returned(value) => put_returned(page, *value),
@@ -113,7 +113,7 @@ fn put_end(page: &mut Page, outcome: &Outcome) -> Result<(), AllocError>
 /// A line for each external call, and one for how the run ended.
 fn put_outcome(page: &mut Page, eval: &Eval) -> Result<(), AllocError>
     ensures { IfOk result (λ _.
-        Adds page.old page.new (cmm_outcome_text (eval_view eval.now))) }
+        AddsText page.old page.new (cmm_outcome_text (eval_view eval.now))) }
 {
     put_calls(page, eval.calls.as_slice())?;
     put_end(page, &eval.outcome)?;
@@ -122,7 +122,7 @@ fn put_outcome(page: &mut Page, eval: &Eval) -> Result<(), AllocError>
 
 /// A word and a number on a line.
 fn put_need(page: &mut Page, name: &[u8], number: u64) -> Result<(), AllocError>
-    ensures { IfOk result (λ _. Adds page.old page.new (need_text name.now number)) }
+    ensures { IfOk result (λ _. AddsText page.old page.new (need_text name.now number)) }
 {
     page.put(name)?;
     page.put(b" ")?;

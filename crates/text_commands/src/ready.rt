@@ -8,7 +8,7 @@ ghost use Rattle.correctness.specs.Setting.{layout_of};
 ghost use Rattle.image_form.specs.Image.{IsImage};
 ghost use Rattle.image_form.specs.Tables.{tables};
 ghost use Rattle.text_commands.specs.CheckRefusal.{IsCheckRefusal};
-ghost use Rattle.text_commands.specs.Ready.{IsReady};
+ghost use Rattle.text_commands.specs.Ready.{IsRunReady};
 
 use crate::call::{FileCall, call_of};
 use crate::check::CheckRefusal;
@@ -50,7 +50,7 @@ pub fn made_ready<R: Threads + Sync, G: Gate + Sync>(
     gate: &G,
 ) -> Result<Ready, CheckRefusal>
     ensures ready { IfOk result (λ r.
-        IsReady (check_view check.now) text.now (file_view r.checked) r.call.entry
+        IsRunReady (check_view check.now) text.now (file_view r.checked) r.call.entry
         r.call.args.items r.call.answers.items (tables r.image)) }
     ensures placed { IfOk result (λ r. HasPlace (file_view r.checked)) }
     ensures is_image { IfOk result (λ r. IsImage r.image) }

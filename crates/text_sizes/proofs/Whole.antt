@@ -9,7 +9,7 @@ use Rattle.cmm_grammar.specs.Spelling.{AreItems, none, more, nesting}
 use Rattle.cmm_reader.specs.Text.{ReadsAs}
 use Rattle.cmm_reader.specs.Text as said
 use Rattle.cmm_front.specs.FileOf.{IsFileOf}
-use Rattle.text_sizes.specs.Held.{IsHeld}
+use Rattle.text_sizes.specs.Held.{IsSizeHeld}
 use Rattle.text_sizes.proofs.Bytes.{weights_count, weights_fit}
 use Rattle.text_sizes.proofs.Names.{items_few}
 
@@ -30,7 +30,7 @@ tokens_few _ _ _ (more d i items xs ys h g) =
     let others = tokens_few d items ys g in
     omega (arith, here, others, length-append xs ys)
 
-read_held : (text : List ℕ) (file : FileTree) → ReadsAs text (Ok file) → IsHeld text file
+read_held : (text : List ℕ) (file : FileTree) → ReadsAs text (Ok file) → IsSizeHeld text file
 read_held text _ (said.file tokens items short cut are faultless) =
     let fit = weights_fit 0 text tokens None cut in
     let count = weights_count tokens in
@@ -39,5 +39,5 @@ read_held text _ (said.file tokens items short cut are faultless) =
     record { short = short; tokens = omega (arith, fit, count, few); names = omega (arith, fit, bytes) }
 
 -- what each text holds
-pub text_held : (text : List ℕ) (file : FileTree) → IsFileOf text file → IsHeld text file
+pub text_held : (text : List ℕ) (file : FileTree) → IsFileOf text file → IsSizeHeld text file
 text_held text file is = read_held text file is.read

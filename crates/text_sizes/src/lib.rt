@@ -8,7 +8,7 @@ ghost use Rattle.std.specs.Prelude.{ℕ, ◌≤◌, List, Contains};
 ghost use Rattle.cmm_front.specs.FileOf.{IsFileOf};
 ghost use Rattle.cmm_tree.specs.Tree.{FunctionTree, FileTree, functions};
 ghost use Rattle.correctness.specs.Measures.{tries};
-ghost use Rattle.text_sizes.specs.Held.{IsHeld};
+ghost use Rattle.text_sizes.specs.Held.{IsSizeHeld};
 
 /// Law: at most 250 tries nest in a function of a text, since parentheses nest no deeper.
 pub fn tries_nest_little()
@@ -18,5 +18,5 @@ pub fn tries_nest_little()
 
 /// Law: a text has bytes enough for its tokens, its external calls and its symbols.
 pub fn texts_hold_little()
-    ensures { (text : List ℕ) (file : FileTree) → IsFileOf text file → IsHeld text file }
+    ensures { (text : List ℕ) (file : FileTree) → IsFileOf text file → IsSizeHeld text file }
 {}

@@ -6,7 +6,7 @@ use Rattle.mach_ir.specs.Walks.{OneOf}
 use Rattle.lin_ir.specs.Formed.{goes_to, labels_in, is_exit, GoesDown}
 use Rattle.lin_ir.specs.Meaning.{after_label, code_at}
 use Rattle.lin_ir.specs.Walks as walks
-use Rattle.lin_ir.specs.Walks.{targets, Reached, Leads, Raises}
+use Rattle.lin_ir.specs.Walks.{targets, Reached, LineWalkStep, Raises}
 use Rattle.lin_ir.specs.declared.lin.Line.{Line}
 use Rattle.lin_ir.specs.declared.lin.Lin.{Lin}
 use Rattle.linear_rules.specs.Forward.{GoesForward}
@@ -35,7 +35,7 @@ module _ (m : Lin) (once : AllPairs (λ k l. k ≢ l) (labels_in m.code)) (forwa
       target i next On w inside o = omega arith
       target i next (At l) w inside o = fewer_after l w (in_of l (labels_in next) (forward.labels i next (tail_stands w) inside l (goes_to o)))
 
-      step : (i : Line) (next to : List Line) (tries left : List ℕ) → Reached m (i ∷ next) tries → is_exit i.op ≡ false → Leads m i next tries to left →
+      step : (i : Line) (next to : List Line) (tries left : List ℕ) → Reached m (i ∷ next) tries → is_exit i.op ≡ false → LineWalkStep m i next tries to left →
           length to < suc (length next)
       step i next _ tries _ r inside (walks.goes t o) = target i next t (reached_tail m r) inside o
 

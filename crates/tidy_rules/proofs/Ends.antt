@@ -2,7 +2,7 @@
 use Rattle.std.proofs.Common.{◌≡◌, ◌≢◌, ℕ, ◌≤◌, Bool, true, false, cond, nat_eq, ◌⊎◌, ⊎_elim, List, [], ◌∷◌, ◌++◌, length, refl, sym, ap, ◌∙◌, subst, arith}
 use Rattle.std.proofs.lemmas.Bool.{true≢false, eq-eqb, eqb-true}
 use Rattle.std.specs.List.{AllPairs}
-use Rattle.lin_ir.specs.Formed.{label_of, labels_in, bare}
+use Rattle.lin_ir.specs.Formed.{label_of, labels_in, bare_flow}
 use Rattle.lin_ir.specs.Meaning.{has_label, after_label}
 use Rattle.lin_ir.specs.declared.lin.Flow.TheVariants as flow
 use Rattle.lin_ir.specs.declared.lin.LinOp.{LinOp}
@@ -62,7 +62,7 @@ later_after l {ys} (tail_more {j = j} {zs = zs} t) once z = by (has_label l j.op
     by false e u = u
 
 -- right after a label that occurs once is what is after it
-pub at_label : (l : ℕ) {js zs : List Line} → Tail (bare (flow.Label l) ∷ js) zs → AllPairs Differ (labels_in zs) → after_label l zs ≡ js
+pub at_label : (l : ℕ) {js zs : List Line} → Tail (bare_flow (flow.Label l) ∷ js) zs → AllPairs Differ (labels_in zs) → after_label l zs ≡ js
 at_label l {js} w once = later_after l w once is_first ∙ ap (λ b. cond b js (after_label l js)) (eq-eqb l l refl)
 
 one_in : (l k : ℕ) → IsIn l (k ∷ []) → nat_eq k l ≡ true

@@ -14,11 +14,11 @@ use Rattle.bs_words.specs.declared.values.Value.TheVariants as value
 use Rattle.bs_words.proofs.Lists.{none_in}
 use Rattle.mach_ir.specs.Acts.{Around, Target}
 use Rattle.mach_ir.specs.Meaning.{is_destroyed}
-use Rattle.mach_ir.specs.Runs.{Place, Step, Tally}
-use Rattle.mach_ir.specs.Keeps.{Alike}
+use Rattle.mach_ir.specs.Runs.{ActivationSetting, Step, Tally}
+use Rattle.mach_ir.specs.Keeps.{RunsAlike}
 use Rattle.mach_ir.specs.Walks.{OneOf}
-use Rattle.lin_ir.specs.Formed.{FlowHasForm, label_form, jump_form, exit_form, branch_form, switch_form, push_form, pop_form, enter_form, IsFormed, formed_op, formed_flow, is_colour, is_slot, IsLocation, is_home, is_spare, Locates, WellFormed}
-use Rattle.lin_ir.specs.Meaning.{NamedAt, State, Locations, same_loc, put, put_if, put_all, clear, destroyed_by, with_held, as_type, values, is_named, is_val, are_vals, unless_pointer, unless_misnamed, past_frame, passes_frame, code_at, after_label, on_act, lin_act}
+use Rattle.lin_ir.specs.Formed.{FlowHasForm, label_form, jump_form, exit_form, branch_form, switch_form, push_form, pop_form, enter_form, IsFormedLine, formed_op, formed_flow, is_colour, is_slot, IsLocation, is_home, is_spare, Locates, WellFormed}
+use Rattle.lin_ir.specs.Meaning.{NamedAt, State, Locations, same_loc, assign_spot, put_if, put_all, clear_destroyed, destroyed_by, with_held, as_type, values, is_named_location, holds_val, are_vals, unless_pointer, unless_misnamed, past_frame, passes_frame, code_at, after_label, on_act, lin_act}
 use Rattle.lin_ir.specs.Meaning as poison
 use Rattle.lin_ir.specs.Walks as walks
 use Rattle.lin_ir.specs.Walks.{Writes, Reached, at_entry, by_step, by_raise, Live, read, on, aside, LiveAcross, across_step, across_raise}
@@ -29,7 +29,7 @@ use Rattle.lin_ir.specs.declared.lin.Line.{Line}
 use Rattle.lin_ir.specs.declared.lin.Lin.{Lin}
 use Rattle.lin_ir.specs.declared.lin.Spot.{Spot}
 use Rattle.linear_rules.specs.Kept as kept
-use Rattle.linear_rules.specs.Kept.{step, ValsHeld, Proper}
+use Rattle.linear_rules.specs.Kept.{lossless_line_step, ValsHeld, Proper}
 use Rattle.linear_rules.specs.Keeps.{NamesReached, NoAddrReached}
 use Rattle.linear_rules.proofs.Homes.{IsIn, is_first, is_later, in_of, contains_of, all_vals, named_of}
 use Rattle.linear_rules.proofs.Marks.{all_in}
@@ -51,7 +51,7 @@ no_comps switch_form e = refl
 no_comps pop_form e = refl
 no_comps enter_form e = absurd (true≢false (sym e))
 
-bare_writes : {i : Line} → IsFormed i → is_bare i.op ≡ true → (l : Loc) → Writes i l → ⊥
+bare_writes : {i : Line} → IsFormedLine i → is_bare i.op ≡ true → (l : Loc) → Writes i l → ⊥
 bare_writes (formed_op h) e l w = true≢false (sym e)
 bare_writes (formed_flow {f = f} {results = results} h) e l w =
     ⊎_elim (λ y. none_in (record { loc = l; comp = y.0 })
@@ -120,15 +120,15 @@ module _ (end : ℕ) (f g : Locations) where
       by true (Some h) t u e ih =
           let y = ih h u in
           record {
-            file = put s v y.file;
+            file = assign_spot s v y.file;
             puts = ap (λ b. put_if b s v (put_all end ss vs g)) t ∙ ap (put_if true s v) y.puts;
-            each = λ l fixed. subst (λ (x : Locations). Written (s ∷ ss) x (put s v y.file) l) (same_Some (put s v h) f' e)
+            each = λ l fixed. subst (λ (x : Locations). Written (s ∷ ss) x (assign_spot s v y.file) l) (same_Some (assign_spot s v h) f' e)
                 (at_loc h y.file l fixed (same_loc s.loc l) refl (y.each l fixed));
           }
 
 -- ---- the relation
 
-module _ (c : Place) (m : Lin) (well : WellFormed m) (safe : NoAddrReached m) (named : NamedAt) (exact : NamesReached m named) where
+module _ (c : ActivationSetting) (m : Lin) (well : WellFormed m) (safe : NoAddrReached m) (named : NamedAt) (exact : NamesReached m named) where
   abbrev end : ℕ
   end = c.setting.end
 
@@ -252,8 +252,8 @@ module _ (c : Place) (m : Lin) (well : WellFormed m) (safe : NoAddrReached m) (n
         poisoned_none true o e = e
         poisoned_none false o e = ap unless_pointer e
 
-        unnamed : passes_frame i.op ≡ true → is_named l names ≡ false → (o : Option Value) → f l ≡ o → g l ≡ o → (b : Bool) → b ≡ false →
-            (cond b (g l) (unless_pointer (g l)) ≡ f l) ⊎ Lost l f (λ k. cond (is_named k names) (g k) (unless_pointer (g k)))
+        unnamed : passes_frame i.op ≡ true → is_named_location l names ≡ false → (o : Option Value) → f l ≡ o → g l ≡ o → (b : Bool) → b ≡ false →
+            (cond b (g l) (unless_pointer (g l)) ≡ f l) ⊎ Lost l f (λ k. cond (is_named_location k names) (g k) (unless_pointer (g k)))
             (λ t. LiveAcross m l t i next a.tries)
         unnamed t n o u w true q = absurd (true≢false q)
         unnamed t n None u w false q = inl (ap unless_pointer w ∙ sym u)
@@ -270,10 +270,10 @@ module _ (c : Place) (m : Lin) (well : WellFormed m) (safe : NoAddrReached m) (n
               addr = λ v. safe.none i next a.tries reached t l v;
             })
 
-        kept_or_not : passes_frame i.op ≡ true → g l ≡ f l → (b : Bool) → is_named l names ≡ b → OutAt l true
+        kept_or_not : passes_frame i.op ≡ true → g l ≡ f l → (b : Bool) → is_named_location l names ≡ b → OutAt l true
         kept_or_not t e true n = inl (ap (λ b. cond b (g l) (unless_pointer (g l))) n ∙ e)
         kept_or_not t e false n =
-            subst (λ b. (cond b (g l) (unless_pointer (g l)) ≡ f l) ⊎ Lost l f (λ k. cond (is_named k names) (g k) (unless_pointer (g k)))
+            subst (λ b. (cond b (g l) (unless_pointer (g l)) ≡ f l) ⊎ Lost l f (λ k. cond (is_named_location k names) (g k) (unless_pointer (g k)))
             (λ t. LiveAcross m l t i next a.tries)) (sym n)
             (unnamed t n (f l) refl e false refl)
 
@@ -290,12 +290,12 @@ module _ (c : Place) (m : Lin) (well : WellFormed m) (safe : NoAddrReached m) (n
                   (across_here v);
             })) w
         by true t w =
-            ⊎_elim (λ e. kept_or_not t e (is_named l names) refl)
+            ⊎_elim (λ e. kept_or_not t e (is_named_location l names) refl)
             (λ q. inr (record {
               serial = q.serial;
               offset = q.offset;
               held = q.held;
-              lost = poisoned_none (is_named l names) (g l) q.lost;
+              lost = poisoned_none (is_named_location l names) (g l) q.lost;
               val = λ v. q.val (across_here v);
               addr = λ v. q.addr (across_here v);
             })) w
@@ -323,7 +323,7 @@ module _ (c : Place) (m : Lin) (well : WellFormed m) (safe : NoAddrReached m) (n
         bare_near to b n o e =
             rel (subst (Reached m (code_at m.code next to)) (sym e) (by_step reached (walks.goes to o)))
             (near_to (code_at m.code next to) b.tries f g' (λ l. (refl, refl))
-            (λ l t v. across_step (λ w. bare_writes (all_in IsFormed well.forms inside) n l w) (walks.goes to o)
+            (λ l t v. across_step (λ w. bare_writes (all_in IsFormedLine well.forms inside) n l w) (walks.goes to o)
             (subst (Live m l t (code_at m.code next to)) e v)))
 
         aside_near : (h : ℕ) (b : Around) → walks.may_raise i.op ≡ true → a.tries ≡ h ∷ b.tries → Rel (at (after_label h m.code) f b)
@@ -334,17 +334,17 @@ module _ (c : Place) (m : Lin) (well : WellFormed m) (safe : NoAddrReached m) (n
             (λ l t v. subst (LiveAcross m l t i next) (sym e) (across_raise (walks.raises raise) v)))
 
         wrote_both : (vs : List Value) (to : Target) (b : Around) (f' : Locations) → OneOf to (walks.targets i.op) → b.tries ≡ walks.tries_after i.op a.tries →
-            put_all end i.results vs (clear (destroyed_by i.op) f) ≡ Some f' →
-            (k : Locations) × (put_all end i.results vs (clear (destroyed_by i.op) g') ≡ Some k) × Rel (at (code_at m.code next to) f' b)
+            put_all end i.results vs (clear_destroyed (destroyed_by i.op) f) ≡ Some f' →
+            (k : Locations) × (put_all end i.results vs (clear_destroyed (destroyed_by i.op) g') ≡ Some k) × Rel (at (code_at m.code next to) f' b)
             (at (code_at m.code next to) k b)
         wrote_both vs to b f' o e u =
-            let y = put_both end (clear (destroyed_by i.op) f) (clear (destroyed_by i.op) g') i.results vs f' u in (
+            let y = put_both end (clear_destroyed (destroyed_by i.op) f) (clear_destroyed (destroyed_by i.op) g') i.results vs f' u in (
               y.file,
               y.puts,
               rel (subst (Reached m (code_at m.code next to)) (sym e) (by_step reached (walks.goes to o))) (λ l fixed. after l fixed y.file (y.each l fixed)),
             )
           where
-            left : (l : Loc) → l ≢ loc.Unset → (k : Locations) → (f' l ≡ clear (destroyed_by i.op) f l) → (k l ≡ clear (destroyed_by i.op) g' l) →
+            left : (l : Loc) → l ≢ loc.Unset → (k : Locations) → (f' l ≡ clear_destroyed (destroyed_by i.op) f l) → (k l ≡ clear_destroyed (destroyed_by i.op) g' l) →
                 ((t : Comp) → IsIn (spot l t) i.results → ⊥) →
                 (d : Bool) → is_destroyed (destroyed_by i.op) l ≡ d → NearAt (λ l t. Live m l t (code_at m.code next to) b.tries) f' k l
             left l fixed k p q out true d = inl (q ∙ ap (λ b. cond b None (g' l)) d ∙ sym (ap (λ b. cond b None (f l)) d) ∙ sym p)
@@ -367,7 +367,7 @@ module _ (c : Place) (m : Lin) (well : WellFormed m) (safe : NoAddrReached m) (n
                 back : (t : Comp) → Live m l t (code_at m.code next to) b.tries → LiveAcross m l t i next a.tries
                 back t v = across_step (λ w. free w) (walks.goes to o) (subst (Live m l t (code_at m.code next to)) e v)
 
-            after : (l : Loc) → l ≢ loc.Unset → (k : Locations) → Written end (clear (destroyed_by i.op) f) (clear (destroyed_by i.op) g') i.results f' k l →
+            after : (l : Loc) → l ≢ loc.Unset → (k : Locations) → Written end (clear_destroyed (destroyed_by i.op) f) (clear_destroyed (destroyed_by i.op) g') i.results f' k l →
                 NearAt (λ l t. Live m l t (code_at m.code next to) b.tries) f' k l
             after l fixed k w = ⊎_elim (λ x. inl (sym x)) (λ x. left l fixed k x.0 x.1 x.2 (is_destroyed (destroyed_by i.op) l) refl) w
 
@@ -375,13 +375,13 @@ module _ (c : Place) (m : Lin) (well : WellFormed m) (safe : NoAddrReached m) (n
     points : ValsHeld c m (at (i ∷ next) f a) → passes_frame i.op ≡ true → are_vals end names g ≡ true
     points vals t = all_vals end names g (λ l z. by l z)
       where
-        by : (l : Loc) → IsIn l names → is_val end (g l) ≡ true
+        by : (l : Loc) → IsIn l names → holds_val end (g l) ≡ true
         by l z =
             let v = (exact.exact i next a.tries reached t l).0 (contains_of z) in
             let fixed : l ≢ loc.Unset = live_fixed (across_here v) (reached_tail m reached) in
-            ⊎_elim (λ e. ap (is_val end) e ∙ vals.held i next refl t l v) (λ q. absurd (q.val (across_here v))) (near l fixed)
+            ⊎_elim (λ e. ap (holds_val end) e ∙ vals.held i next refl t l v) (λ q. absurd (q.val (across_here v))) (near l fixed)
 
-    answers : ValsHeld c m (at (i ∷ next) f a) → Answer (at (i ∷ next) g a) (step c m (at (i ∷ next) f a))
+    answers : ValsHeld c m (at (i ∷ next) f a) → Answer (at (i ∷ next) g a) (lossless_line_step c m (at (i ∷ next) f a))
     answers vals = by (values end f i.args) refl
       where
         checked : not (passes_frame i.op) || are_vals end names g ≡ true
@@ -400,7 +400,7 @@ module _ (c : Place) (m : Lin) (well : WellFormed m) (safe : NoAddrReached m) (n
               read (contains_of z),
             )) vs e
 
-        by : (o : Option (List Value)) → values end f i.args ≡ o → Answer (at (i ∷ next) g a) (kept.on_values c m i next f a o)
+        by : (o : Option (List Value)) → values end f i.args ≡ o → Answer (at (i ∷ next) g a) (kept.on_lossless_line_values c m i next f a o)
         by None e = stuck
         by (Some vs) e =
             steps tt
@@ -415,14 +415,14 @@ module _ (c : Place) (m : Lin) (well : WellFormed m) (safe : NoAddrReached m) (n
       around_same : (s u : State) → Rel s u → s.around ≡ u.around
       around_same s u (rel r e) = refl
 
-      next_same : (s u : State) → Rel s u → ValsHeld c m s → Answer u (step c m s)
+      next_same : (s u : State) → Rel s u → ValsHeld c m s → Answer u (lossless_line_step c m s)
       next_same s u (rel {is = []} r near) vals = stuck
       next_same s u (rel {is = i ∷ next} {f = f} {g = g} {a = a} r near) vals = answers i next f g a r near vals
 
   -- A run that is nowhere stuck where nothing is lost is one that reads no poison.
   pub reads_no_poison : (n : ℕ) (f : Locations) (a : Around) (y : Tally) → a.tries ≡ [] → Proper c m n (record { rest = m.code; file = f; around = a }) y →
-      (k : ℕ) × Alike SameRound (kept.run c m n (record { rest = m.code; file = f; around = a }) y)
-      (poison.run c named m k (record { rest = m.code; file = f; around = a }) y)
+      (k : ℕ) × RunsAlike SameRound (kept.run_of_lowered c m n (record { rest = m.code; file = f; around = a }) y)
+      (poison.run_of_linear c named m k (record { rest = m.code; file = f; around = a }) y)
   reads_no_poison n f a y e proper =
       let b = simulates c m second AnyState SameRound Rel closed n (at m.code f a) (at m.code f a) y
       (rel (subst (Reached m m.code) (sym e) at_entry) (λ l fixed. inl refl)) proper in

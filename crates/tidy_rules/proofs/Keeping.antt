@@ -5,24 +5,24 @@ use Rattle.bs_words.specs.declared.types.Comp.{Comp}
 use Rattle.bs_words.specs.declared.types.Loc.{Loc}
 use Rattle.bs_words.specs.declared.values.Value.{Value}
 use Rattle.mach_ir.specs.Acts.{Around}
-use Rattle.mach_ir.specs.Runs.{Place, Tally, Run, entered}
+use Rattle.mach_ir.specs.Runs.{ActivationSetting, Tally, RunProgress, entry_around}
 use Rattle.mach_ir.specs.Meaning as mach
-use Rattle.mach_ir.specs.Keeps.{Ahead, Trails, Alike, both_running, both_asking, both_ended}
+use Rattle.mach_ir.specs.Keeps.{Ahead, Trails, RunsAlike, both_running, both_asking, both_ended}
 use Rattle.mach_ir.specs.Walks as mach_walks
 use Rattle.mach_ir.specs.declared.mach.Mach.{Mach}
 use Rattle.mach_ir.proofs.Keeping.{alike_then}
 use Rattle.lin_ir.specs.Descriptors.{NamesLives}
 use Rattle.lin_ir.specs.Formed.{WellFormed}
 use Rattle.lin_ir.specs.Keeps as named_kept
-use Rattle.lin_ir.specs.Keeps.{NoLess, SuitRound, Keeps}
+use Rattle.lin_ir.specs.Keeps.{NoLess, SuitRound, LinearKeeps}
 use Rattle.lin_ir.proofs.Keeping.{ahead_no_less}
 use Rattle.lin_ir.specs.Meaning as poison
-use Rattle.lin_ir.specs.Meaning.{NamedAt, State, Locations, passes_frame, put_all, begun, start}
-use Rattle.lin_ir.specs.Walks.{Stands, Traps, by_walk, unreached, Reached, LiveAt, LiveAcross}
+use Rattle.lin_ir.specs.Meaning.{NamedAt, State, Locations, passes_frame, put_all, begin_linear, linear_start}
+use Rattle.lin_ir.specs.Walks.{StandsAsLine, Traps, by_walk, unreached, Reached, LiveAt, LiveAcross}
 use Rattle.lin_ir.specs.declared.lin.Line.{Line}
 use Rattle.lin_ir.specs.declared.lin.Lin.{Lin}
 use Rattle.linear_rules.specs.Kept as kept
-use Rattle.linear_rules.specs.Kept.{Comes, Does}
+use Rattle.linear_rules.specs.Kept.{LosslessComes, LoweringSimulation}
 use Rattle.linear_rules.specs.Keeps.{NamesReached, NoAddrReached, OneTraps, KeepsReached}
 use Rattle.linear_rules.proofs.Lowering.{no_addr_live}
 use Rattle.linear_rules.proofs.Walked.{reached_stands}
@@ -39,17 +39,17 @@ use Rattle.tidy_rules.proofs.Exact.{reads_no_poison}
 -- ---- one after the other
 
 module _ (Suit : Around → Around → Type 0) where
-  suits_on : {S : Type 0} {At : S → Around} {r : Run S} {x y : Run State} → Alike (λ s (u : State). Suit (At s) u.around) r x → Alike SameRound x y → Alike
+  suits_on : {S : Type 0} {At : S → Around} {r : RunProgress S} {x y : RunProgress State} → RunsAlike (λ s (u : State). Suit (At s) u.around) r x → RunsAlike SameRound x y → RunsAlike
       (λ s (u : State). Suit (At s) u.around) r y
   suits_on {At = At} one two = alike_then (λ a b d suit same. subst (Suit (At a)) same suit) one two
 
-  comes_on : {c : Place} {m r : Lin} {s u : State} {t : Tally} {x : Run mach.State} → Comes (SuitRound Suit) x c m s t →
-      ((n : ℕ) → kept.Proper c m n s t → Comes SameRound (kept.run c m n s t) c r u t) → Comes (SuitRound Suit) x c r u t
+  comes_on : {c : ActivationSetting} {m r : Lin} {s u : State} {t : Tally} {x : RunProgress mach.State} → LosslessComes (SuitRound Suit) x c m s t →
+      ((n : ℕ) → kept.Proper c m n s t → LosslessComes SameRound (kept.run_of_lowered c m n s t) c r u t) → LosslessComes (SuitRound Suit) x c r u t
   comes_on one two =
       let y = two one.steps one.proper in
       record { steps = y.steps; alike = suits_on {At = λ (s : mach.State). s.around} one.alike y.alike; proper = y.proper }
 
-does_on : (p : Mach) (m r : Lin) → Does p m → lin_keeps.Does SameRound m r → Does p r
+does_on : (p : Mach) (m r : Lin) → LoweringSimulation p m → lin_keeps.TidySimulation SameRound m r → LoweringSimulation p r
 does_on p m r one two c arguments memory doings s e =
     let u = one c arguments memory doings s e in
     let v = two c arguments memory doings u.state u.begins in
@@ -82,11 +82,11 @@ keeps_tidied one regular (then_turns t l) = keeps_on (keeps_tidied one regular t
 -- ---- with names
 
 -- the state in which a function begins
-record Entered (c : Place) (m : Lin) (memory : Memory) (s : State) : Type 0 where
+record Entered (c : ActivationSetting) (m : Lin) (memory : Memory) (s : State) : Type 0 where
   file : Locations
-  same : s ≡ record { rest = m.code; file = file; around = entered memory }
+  same : s ≡ record { rest = m.code; file = file; around = entry_around memory }
 
-entered_in : (c : Place) (m : Lin) (arguments : List Value) (memory : Memory) (s : State) → start c m arguments memory ≡ Some s → Entered c m memory s
+entered_in : (c : ActivationSetting) (m : Lin) (arguments : List Value) (memory : Memory) (s : State) → linear_start c m arguments memory ≡ Some s → Entered c m memory s
 entered_in c m arguments memory s e = by (put_all c.setting.end m.params arguments (λ l. None)) e
   where
     no_state : None ≡ Some s → ⊥
@@ -95,38 +95,38 @@ entered_in c m arguments memory s e = by (put_all c.setting.end m.params argumen
     same_state : (x : State) → Some x ≡ Some s → s ≡ x
     same_state x e = cc
 
-    by : (o : Option Locations) → begun m memory o ≡ Some s → Entered c m memory s
+    by : (o : Option Locations) → begin_linear m memory o ≡ Some s → Entered c m memory s
     by None e = absurd (no_state e)
-    by (Some f) e = record { file = f; same = same_state (record { rest = m.code; file = f; around = entered memory }) e }
+    by (Some f) e = record { file = f; same = same_state (record { rest = m.code; file = f; around = entry_around memory }) e }
 
-module _ (Suit : Around → Around → Type 0) (c : Place) (m : Lin) (well : WellFormed m) (safe : NoAddrReached m) (named : NamedAt)
+module _ (Suit : Around → Around → Type 0) (c : ActivationSetting) (m : Lin) (well : WellFormed m) (safe : NoAddrReached m) (named : NamedAt)
     (exact : NamesReached m named) where
-  comes_named : {memory : Memory} {u : State} {t : Tally} {x : Run mach.State} → Entered c m memory u → Comes (SuitRound Suit) x c m u t →
-      named_kept.Comes Suit x c named m u t
+  comes_named : {memory : Memory} {u : State} {t : Tally} {x : RunProgress mach.State} → Entered c m memory u → LosslessComes (SuitRound Suit) x c m u t →
+      named_kept.LinearComes Suit x c named m u t
   comes_named {memory} {u} {t} {x} enter one =
-      let start_at : State = record { rest = m.code; file = enter.file; around = entered memory } in
-      let b = reads_no_poison c m well safe named exact one.steps enter.file (entered memory) t refl
+      let start_at : State = record { rest = m.code; file = enter.file; around = entry_around memory } in
+      let b = reads_no_poison c m well safe named exact one.steps enter.file (entry_around memory) t refl
       (subst (λ (s : State). kept.Proper c m one.steps s t) enter.same one.proper) in
       record {
         steps = b.0;
-        alike = subst (λ (s : State). Alike (SuitRound Suit) x (poison.run c named m b.0 s t)) (sym enter.same)
+        alike = subst (λ (s : State). RunsAlike (SuitRound Suit) x (poison.run_of_linear c named m b.0 s t)) (sym enter.same)
             (suits_on Suit {At = λ (s : mach.State). s.around}
-            (subst (λ (s : State). Alike (SuitRound Suit) x (kept.run c m one.steps s t)) enter.same one.alike) b.1);
+            (subst (λ (s : State). RunsAlike (SuitRound Suit) x (kept.run_of_lowered c m one.steps s t)) enter.same one.alike) b.1);
       }
 
 -- what suits a wider relation
-alike_wider : {S U : Type 0} {A B : S → U → Type 0} {r : Run S} {q : Run U} → ((s : S) (u : U) → A s u → B s u) → Alike A r q →
-    Alike B r q
+alike_wider : {S U : Type 0} {A B : S → U → Type 0} {r : RunProgress S} {q : RunProgress U} → ((s : S) (u : U) → A s u → B s u) → RunsAlike A r q →
+    RunsAlike B r q
 alike_wider f (both_running {s = s} {u = u} h) = both_running (f s u h)
 alike_wider f both_asking = both_asking
 alike_wider f both_ended = both_ended
 
-no_less_named : {x : Run mach.State} {c : Place} {named : NamedAt} {m : Lin} {u : State} {t : Tally} → named_kept.Comes Ahead x c named m u t →
-    named_kept.Comes NoLess x c named m u t
+no_less_named : {x : RunProgress mach.State} {c : ActivationSetting} {named : NamedAt} {m : Lin} {u : State} {t : Tally} → named_kept.LinearComes Ahead x c named m u t →
+    named_kept.LinearComes NoLess x c named m u t
 no_less_named one = record { steps = one.steps; alike = alike_wider (λ a b h. ahead_no_less a.around b.around h) one.alike }
 
 -- With exact names it does the same, and so reads no poison.
-pub does_named : (p : Mach) (m : Lin) → WellFormed m → NoAddrReached m → (named : NamedAt) → NamesReached m named → Does p m → named_kept.Does p m named
+pub does_named : (p : Mach) (m : Lin) → WellFormed m → NoAddrReached m → (named : NamedAt) → NamesReached m named → LoweringSimulation p m → named_kept.LinearSimulation p m named
 does_named p m well safe named exact does c arguments memory doings s e =
     let u = does c arguments memory doings s e in
     let enter = entered_in c m arguments memory u.state u.begins in
@@ -161,8 +161,8 @@ names_reached m traps named exact =
 -- A Linear function that keeps a Mach function where nothing is lost keeps it with exact names, where each of its frame
 -- points is reached, and no addr is live after one of the Mach function.
 pub keeps_named : (p : Mach) (m : Lin) → KeepsReached p m → WellFormed m → OneTraps m →
-    ((i : Line) (next : List Line) → Stands i next m.code → passes_frame i.op ≡ true → (tries : List ℕ) × Reached m (i ∷ next) tries) →
-    mach_walks.NoAddrLive p → (named : NamedAt) → NamesLives m named → Keeps p m named
+    ((i : Line) (next : List Line) → StandsAsLine i next m.code → passes_frame i.op ≡ true → (tries : List ℕ) × Reached m (i ∷ next) tries) →
+    mach_walks.NoAddrLive p → (named : NamedAt) → NamesLives m named → LinearKeeps p m named
 keeps_named p m keeps well traps points safe named exact =
     record {
       name = keeps.name;

@@ -7,10 +7,10 @@ use Rattle.bs_words.specs.declared.types.Loc.{Loc}
 use Rattle.bs_words.proofs.Lists.{none_in, in_cons, head_same, tail_same, none_there}
 use Rattle.mach_ir.specs.Acts.{Target, On, At}
 use Rattle.mach_ir.specs.Walks.{OneOf, this, other}
-use Rattle.lin_ir.specs.Formed.{IsSelfMove, is_self_move, bare}
+use Rattle.lin_ir.specs.Formed.{IsSelfMove, is_self_move, bare_flow}
 use Rattle.lin_ir.specs.Meaning.{has_label, after_label, code_at, passes_frame}
 use Rattle.lin_ir.specs.Walks as walks
-use Rattle.lin_ir.specs.Walks.{targets, may_raise, tries_after, Writes, Stands, Reached, at_entry, by_step, by_raise, Live, read, on, aside, LiveAcross, across_step, across_raise}
+use Rattle.lin_ir.specs.Walks.{targets, may_raise, tries_after, Writes, StandsAsLine, Reached, at_entry, by_step, by_raise, Live, read, on, aside, LiveAcross, across_step, across_raise}
 use Rattle.lin_ir.specs.declared.lin.Flow.{Flow}
 use Rattle.lin_ir.specs.declared.lin.Flow.TheVariants as flow
 use Rattle.lin_ir.specs.declared.lin.LinOp.{LinOp}
@@ -21,7 +21,7 @@ use Rattle.lin_ir.specs.declared.lin.Spot.{Spot}
 use Rattle.linear_rules.proofs.Homes.{IsIn, is_first, is_later}
 use Rattle.linear_rules.proofs.Walked.{Tail, tail_all, tail_next, tail_stands, reached_tail}
 use Rattle.linear_rules.specs.Keeps.{NoAddrReached, OneTraps}
-use Rattle.tidy_rules.specs.Leaving.{is_landing, LabelsBetween, none_between, label_between, IsUseless, unreached, unread, skipped, without, with_code}
+use Rattle.tidy_rules.specs.Leaving.{is_landing, LabelsBetween, none_between, label_between, IsUseless, unreached, unread, skipped, without_lines, with_code}
 
 -- ---- moves of a location to itself
 
@@ -72,14 +72,14 @@ raise_landing (lin.Flow f) e = absurd (true≢false (sym e))
 
 -- ---- lines with no operands
 
-bare_unread : (f : Flow) (l : Loc) (t : Comp) {A : Type 0} → walks.ReadsAs l t (bare f) → A
+bare_unread : (f : Flow) (l : Loc) (t : Comp) {A : Type 0} → walks.ReadsLocationAs l t (bare_flow f) → A
 bare_unread f l t x = absurd (none_in (record { loc = l; comp = t }) x)
 
-pub jump_unwritten : (k : ℕ) (l : Loc) → Writes (bare (flow.Jump k)) l → ⊥
+pub jump_unwritten : (k : ℕ) (l : Loc) → Writes (bare_flow (flow.Jump k)) l → ⊥
 jump_unwritten k l w = ⊎_elim (λ y. none_in (record { loc = l; comp = y.0 }) y.1) (λ e. true≢false (sym e)) w
 
 -- what is live before labels is live after them
-label_live : {m : Lin} {k : ℕ} {l : Loc} {t : Comp} {next : List Line} {tries : List ℕ} → Live m l t (bare (flow.Label k) ∷ next) tries → Live m l t next tries
+label_live : {m : Lin} {k : ℕ} {l : Loc} {t : Comp} {next : List Line} {tries : List ℕ} → Live m l t (bare_flow (flow.Label k) ∷ next) tries → Live m l t next tries
 label_live {k = k} {l = l} {t = t} (read x) = bare_unread (flow.Label k) l t x
 label_live (on free (walks.goes On o) v) = v
 label_live (on free (walks.goes (At j) (other o)) v) = elim o [ ]
@@ -93,8 +93,8 @@ labels_live (label_between p) v = labels_live p (label_live v)
 
 pub data Comes (m : Lin) : List Line → List ℕ → Type 0 where
   there : {code : List Line} {tries : List ℕ} → Reached m code tries → Comes m code tries
-  before : {l : ℕ} {next : List Line} {tries : List ℕ} → Tail (bare (flow.Label l) ∷ next) m.code → Comes m next tries → Comes m
-      (bare (flow.Label l) ∷ next) tries
+  before : {l : ℕ} {next : List Line} {tries : List ℕ} → Tail (bare_flow (flow.Label l) ∷ next) m.code → Comes m next tries → Comes m
+      (bare_flow (flow.Label l) ∷ next) tries
 
 pub comes_tail : {m : Lin} {code : List Line} {tries : List ℕ} → Comes m code tries → Tail code m.code
 comes_tail {m} (there r) = reached_tail m r
@@ -118,7 +118,7 @@ comes_past : {m : Lin} {a b : List Line} {tries : List ℕ} → LabelsBetween a 
 comes_past none_between w c = c
 comes_past (label_between p) w c = before w (comes_past p (tail_next w) c)
 
-label_moves : {m : Lin} {l : ℕ} {next : List Line} {tries : List ℕ} → Reached m (bare (flow.Label l) ∷ next) tries → Reached m next tries
+label_moves : {m : Lin} {l : ℕ} {next : List Line} {tries : List ℕ} → Reached m (bare_flow (flow.Label l) ∷ next) tries → Reached m next tries
 label_moves r = by_step r (walks.goes On this)
 
 comes_as : {m : Lin} {code : List Line} {tries others : List ℕ} → OneTraps m → Comes m code tries → Reached m code others → tries ≡ others
@@ -130,9 +130,9 @@ comes_same traps c (there s) = comes_as traps c s
 comes_same traps (there r) (before w d) = sym (comes_as traps d (label_moves r))
 comes_same traps (before w c) (before x d) = comes_same traps c d
 
-module _ (m : Lin) (goes : ℕ → Bool) (each : (i : Line) (next : List Line) → Stands i next m.code → goes (length next) ≡ true → IsUseless m i next) where
+module _ (m : Lin) (goes : ℕ → Bool) (each : (i : Line) (next : List Line) → StandsAsLine i next m.code → goes (length next) ≡ true → IsUseless m i next) where
   abbrev pub K : List Line → List Line
-  K = without goes
+  K = without_lines goes
 
   abbrev pub rest : Lin
   rest = with_code m (K m.code)
@@ -190,7 +190,7 @@ module _ (m : Lin) (goes : ℕ → Bool) (each : (i : Line) (next : List Line) �
                 (subst (λ ts. Live m l t next ts) (sym (g.tries tries)) w);
           }
       gone (skipped {l = k} same past) e ih =
-          let r : Reached m (bare (flow.Jump k) ∷ next) tries = subst (λ x. Reached m (x ∷ next) tries) same
+          let r : Reached m (bare_flow (flow.Jump k) ∷ next) tries = subst (λ x. Reached m (x ∷ next) tries) same
           (comes_line c (ap (λ (i : Line). is_landing i.op) same)) in
           let y = ih (comes_past past (tail_next (comes_tail c)) (there (by_step r (walks.goes (At k) this)))) e in
           record {

@@ -3,10 +3,10 @@ use Rattle.std.proofs.Common.{◌≡◌, ℕ, suc, ◌<◌, ◌≤◌, Bool, tru
 use Rattle.std.proofs.lemmas.Bool.{true≢false, leb-true, le-leb}
 use Rattle.mach_ir.specs.Acts.{On, At}
 use Rattle.mach_ir.specs.Walks.{OneOf, this}
-use Rattle.lin_ir.specs.Formed.{IsSelfMove, is_self_move, is_exit, is_label, GoesDown, bare}
+use Rattle.lin_ir.specs.Formed.{IsSelfMove, is_self_move, is_exit, is_label, GoesDown, bare_flow}
 use Rattle.lin_ir.specs.Meaning.{after_label, code_at}
 use Rattle.lin_ir.specs.Walks as walks
-use Rattle.lin_ir.specs.Walks.{targets, Stands, Reached, by_step, by_raise, Leads, Raises}
+use Rattle.lin_ir.specs.Walks.{targets, StandsAsLine, Reached, by_step, by_raise, LineWalkStep, Raises}
 use Rattle.lin_ir.specs.declared.lin.Flow.TheVariants as flow
 use Rattle.lin_ir.specs.declared.lin.LinOp.{LinOp}
 use Rattle.lin_ir.specs.declared.lin.LinOp.TheVariants as lin
@@ -43,7 +43,7 @@ pub between_tail : {a b : List Line} → LabelsBetween a b → Tail b a
 between_tail none_between = tail_all
 between_tail (label_between p) = tail_more (between_tail p)
 
-module _ (m : Lin) (goes : ℕ → Bool) (each : (i : Line) (next : List Line) → Stands i next m.code → goes (length next) ≡ true → IsUseless m i next) where
+module _ (m : Lin) (goes : ℕ → Bool) (each : (i : Line) (next : List Line) → StandsAsLine i next m.code → goes (length next) ≡ true → IsUseless m i next) where
   abbrev L : List Line → List Line
   L = K m goes each
 
@@ -69,7 +69,7 @@ module _ (m : Lin) (goes : ℕ → Bool) (each : (i : Line) (next : List Line) �
 
   between_solid : {a b : List Line} → LabelsBetween a b → solid a ≡ solid b
   between_solid none_between = refl
-  between_solid (label_between {l = k} {next = next} p) = solid_past (goes (length next)) next (bare (flow.Label k)) refl refl ∙ between_solid p
+  between_solid (label_between {l = k} {next = next} p) = solid_past (goes (length next)) next (bare_flow (flow.Label k)) refl refl ∙ between_solid p
 
   fewer : {a b : List Line} → Tail a b → length (L a) ≤ length (L b)
   fewer {a} tail_all = omega arith
@@ -126,8 +126,8 @@ module _ (m : Lin) (goes : ℕ → Bool) (each : (i : Line) (next : List Line) �
             let le = ih next (walks.tries_after i.op tries) tail_all (by_step r (walks.goes On g.on)) in
             omega (arith, lower, le)
         gone (skipped {l = k} same past) ih =
-            let x : Reached m (bare (flow.Jump k) ∷ next) tries = subst (λ x. Reached m (x ∷ next) tries) same r in
-            let lower = down.steps (bare (flow.Jump k)) next (after_label k m.code) tries tries x refl refl (walks.goes (At k) this) in
+            let x : Reached m (bare_flow (flow.Jump k) ∷ next) tries = subst (λ x. Reached m (x ∷ next) tries) same r in
+            let lower = down.steps (bare_flow (flow.Jump k)) next (after_label k m.code) tries tries x refl refl (walks.goes (At k) this) in
             let le = ih (after_label k m.code) tries (between_tail past) (by_step x (walks.goes (At k) this)) in
             let e : down.order (solid next) ≡ down.order (solid (after_label k m.code)) = ap down.order (between_solid past) in
             omega (arith, lower, le, e)
@@ -195,7 +195,7 @@ module _ (m : Lin) (goes : ℕ → Bool) (each : (i : Line) (next : List Line) �
     }
       where
         step : (j : Line) (js to : List Line) (tries left : List ℕ) → Reached R (j ∷ js) tries → is_exit j.op ≡ false → is_label j.op ≡ false →
-            Leads R j js tries to left → order (length to) < order (suc (length js))
+            LineWalkStep R j js tries to left → order (length to) < order (suc (length js))
         step j js _ tries _ r inside mark (walks.goes t o) =
             let x = source_line m goes each r in
             let w = comes_tail x.reached in

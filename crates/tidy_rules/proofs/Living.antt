@@ -4,7 +4,7 @@ use Rattle.bs_words.specs.declared.types.Comp.{Comp}
 use Rattle.bs_words.specs.declared.types.Loc.{Loc}
 use Rattle.lin_ir.specs.Formed.{IsHome}
 use Rattle.lin_ir.specs.Walks as walks
-use Rattle.lin_ir.specs.Walks.{Stands, LiveAt, LiveAcross, across_step, across_raise}
+use Rattle.lin_ir.specs.Walks.{StandsAsLine, LiveAt, LiveAcross, across_step, across_raise}
 use Rattle.lin_ir.specs.declared.lin.Line.{Line}
 use Rattle.lin_ir.specs.declared.lin.Lin.{Lin}
 use Rattle.lin_ir.specs.declared.lin.Spot.{Spot}
@@ -24,5 +24,5 @@ module _ (m : Lin) (homes : All (λ (i : Line). AtHomes m i.args × AtHomes m i.
   across_home w (across_raise (walks.raises {h = h} e) v) = read_home (live_read m v (tail_label h m.code))
 
   -- what is live after a frame point is a colour or a slot
-  pub live_home : {l : Loc} {t : Comp} {i : Line} {next : List Line} → Stands i next m.code → LiveAt m l t i next → IsHome m l
+  pub live_home : {l : Loc} {t : Comp} {i : Line} {next : List Line} → StandsAsLine i next m.code → LiveAt m l t i next → IsHome m l
   live_home s v = across_home (stands_tail s) v.across

@@ -9,16 +9,16 @@ use Rattle.bs_words.specs.declared.types.Loc.{Loc}
 use Rattle.bs_words.specs.declared.values.Value.{Value}
 use Rattle.bs_words.proofs.Lists.{none_in, head_same, tail_same, none_there}
 use Rattle.cmm_meaning.specs.State.{Doing}
-use Rattle.mach_ir.specs.Acts.{Around, Target, On, At, truth_of, branches}
+use Rattle.mach_ir.specs.Acts.{Around, Target, On, At, truth_of, goes_by_test}
 use Rattle.mach_ir.specs.Meaning.{is_destroyed}
-use Rattle.mach_ir.specs.Runs.{Place, Step, Pays}
+use Rattle.mach_ir.specs.Runs.{ActivationSetting, Step, Pays}
 use Rattle.mach_ir.specs.Walks.{OneOf, this, other}
 use Rattle.mach_ir.specs.declared.mach.MachOp.{MachOp}
 use Rattle.mach_ir.specs.declared.op.Op.{Op}
 use Rattle.mach_ir.specs.declared.mach.Test.{Test}
-use Rattle.lin_ir.specs.Formed.{is_exit, label_of, lin_operand_seats, lin_result_seats, bare}
+use Rattle.lin_ir.specs.Formed.{is_exit, label_of, lin_operand_seats, lin_result_seats, bare_flow}
 use Rattle.lin_ir.specs.Keeps.{IsNamedIn}
-use Rattle.lin_ir.specs.Meaning.{State, Locations, put_all, clear, values, destroyed_by, lin_act, on_act, wrote, has_label, after_label, code_at, passes_frame, start}
+use Rattle.lin_ir.specs.Meaning.{State, Locations, put_all, clear_destroyed, values, destroyed_by, lin_act, on_act, wrote, has_label, after_label, code_at, passes_frame, linear_start}
 use Rattle.lin_ir.specs.Walks as walks
 use Rattle.lin_ir.specs.Walks.{targets, may_raise, tries_after, Writes, Reached, at_entry, by_step, by_raise, Live, read, on, aside, LiveAcross, across_step, across_raise}
 use Rattle.lin_ir.specs.declared.lin.Flow.{Flow}
@@ -30,11 +30,11 @@ use Rattle.lin_ir.specs.declared.lin.Lin.{Lin}
 use Rattle.lin_ir.specs.declared.lin.Spot.{Spot}
 use Rattle.linear_rules.specs.Keeps.{NoAddrReached}
 use Rattle.linear_rules.specs.Kept as kept
-use Rattle.linear_rules.specs.Kept.{step, ValsHeld}
+use Rattle.linear_rules.specs.Kept.{lossless_line_step, ValsHeld}
 use Rattle.linear_rules.proofs.Homes.{IsIn, is_first, is_later, in_of, contains_of}
-use Rattle.tidy_rules.specs.Keeps.{SameRound, Begins, KeepsLin}
+use Rattle.tidy_rules.specs.Keeps.{SameRound, TidyBegins, KeepsLin}
 use Rattle.tidy_rules.specs.Leaving.{LabelsBetween, none_between, label_between, with_code}
-use Rattle.tidy_rules.specs.Redirecting.{goes_by, redirected, redirect, GoesOnTo, itself, and_on, ExitsTo, by_exit, Redirects}
+use Rattle.tidy_rules.specs.Redirecting.{exit_or_jump, redirected_operation, redirect, GoesOnTo, itself, and_on, ExitsTo, by_exit, RedirectsTargets}
 use Rattle.tidy_rules.proofs.Turns.{turns}
 use Rattle.tidy_rules.proofs.Simulate.{Arrives, both_continue, both_pay, first_stuck, Answers, stays, stuck, steps, Closed, Leads, acts, begins_alike}
 use Rattle.tidy_rules.proofs.Leaving.{jump_unwritten}
@@ -43,7 +43,7 @@ use Rattle.tidy_rules.proofs.Leaving.{jump_unwritten}
 
 -- what is the same of jumps and exits is the same of what a jump becomes
 pub jump_same : {X : Type 0} (h : LinOp → X) (x : X) → ((l : ℕ) → h (lin.Flow (flow.Jump l)) ≡ x) → ((l : ℕ) → h (lin.Flow (flow.Exit l)) ≡ x) →
-    (o : Option ℕ) (l : ℕ) → h (lin.Flow (goes_by o l)) ≡ x
+    (o : Option ℕ) (l : ℕ) → h (lin.Flow (exit_or_jump o l)) ≡ x
 jump_same h x jumps exits None l = jumps l
 jump_same h x jumps exits (Some n) l = exits n
 
@@ -53,7 +53,7 @@ pub record IsBlind {X : Type 0} (h : LinOp → X) : Type 0 where
   pub exit : (l : ℕ) → h (lin.Flow (flow.Exit l)) ≡ h (lin.Flow (flow.Jump 0))
   pub branch : (test : Test) (k l : ℕ) → h (lin.Flow (flow.Branch test k)) ≡ h (lin.Flow (flow.Branch test l))
 
-pub same_said : {X : Type 0} (h : LinOp → X) → IsBlind h → (to : ℕ → ℕ) (exits : ℕ → Option ℕ) (f : LinOp) → h (redirected to exits f) ≡ h f
+pub same_said : {X : Type 0} (h : LinOp → X) → IsBlind h → (to : ℕ → ℕ) (exits : ℕ → Option ℕ) (f : LinOp) → h (redirected_operation to exits f) ≡ h f
 same_said h is to exits (lin.Op f) = refl
 same_said h is to exits (lin.Flow (flow.Label k)) = refl
 same_said h is to exits (lin.Flow (flow.Jump k)) = jump_same h _ is.jump is.exit (exits k) (to k) ∙ sym (is.jump k)
@@ -64,26 +64,26 @@ same_said h is to exits (lin.Flow (flow.PushTrap k)) = refl
 same_said h is to exits (lin.Flow flow.PopTrap) = refl
 same_said h is to exits (lin.Flow flow.EnterTrap) = refl
 
-pub same_destroyed : (to : ℕ → ℕ) (exits : ℕ → Option ℕ) (f : LinOp) → destroyed_by (redirected to exits f) ≡ destroyed_by f
+pub same_destroyed : (to : ℕ → ℕ) (exits : ℕ → Option ℕ) (f : LinOp) → destroyed_by (redirected_operation to exits f) ≡ destroyed_by f
 same_destroyed = same_said destroyed_by (record { jump = λ l. refl; exit = λ l. refl; branch = λ test k l. refl })
 
-pub same_tries : (ts : List ℕ) (to : ℕ → ℕ) (exits : ℕ → Option ℕ) (f : LinOp) → tries_after (redirected to exits f) ts ≡ tries_after f ts
+pub same_tries : (ts : List ℕ) (to : ℕ → ℕ) (exits : ℕ → Option ℕ) (f : LinOp) → tries_after (redirected_operation to exits f) ts ≡ tries_after f ts
 same_tries ts = same_said (λ f. tries_after f ts) (record { jump = λ l. refl; exit = λ l. refl; branch = λ test k l. refl })
 
-pub same_raise : (to : ℕ → ℕ) (exits : ℕ → Option ℕ) (f : LinOp) → may_raise (redirected to exits f) ≡ may_raise f
+pub same_raise : (to : ℕ → ℕ) (exits : ℕ → Option ℕ) (f : LinOp) → may_raise (redirected_operation to exits f) ≡ may_raise f
 same_raise = same_said may_raise (record { jump = λ l. refl; exit = λ l. refl; branch = λ test k l. refl })
 
-pub same_frame : (to : ℕ → ℕ) (exits : ℕ → Option ℕ) (f : LinOp) → passes_frame (redirected to exits f) ≡ passes_frame f
+pub same_frame : (to : ℕ → ℕ) (exits : ℕ → Option ℕ) (f : LinOp) → passes_frame (redirected_operation to exits f) ≡ passes_frame f
 same_frame = same_said passes_frame (record { jump = λ l. refl; exit = λ l. refl; branch = λ test k l. refl })
 
-pub same_label : (l : ℕ) (to : ℕ → ℕ) (exits : ℕ → Option ℕ) (f : LinOp) → has_label l (redirected to exits f) ≡ has_label l f
+pub same_label : (l : ℕ) (to : ℕ → ℕ) (exits : ℕ → Option ℕ) (f : LinOp) → has_label l (redirected_operation to exits f) ≡ has_label l f
 same_label l = same_said (has_label l) (record { jump = λ k. refl; exit = λ k. refl; branch = λ test j k. refl })
 
-pub same_leaves : (to : ℕ → ℕ) (exits : ℕ → Option ℕ) (f : LinOp) → walks.leaves (redirected to exits f) ≡ walks.leaves f
+pub same_leaves : (to : ℕ → ℕ) (exits : ℕ → Option ℕ) (f : LinOp) → walks.leaves (redirected_operation to exits f) ≡ walks.leaves f
 same_leaves = same_said walks.leaves (record { jump = λ l. refl; exit = λ l. refl; branch = λ test k l. refl })
 
 -- a line that becomes no exit was none
-pub exit_was : (to : ℕ → ℕ) (exits : ℕ → Option ℕ) (f : LinOp) → is_exit (redirected to exits f) ≡ false → is_exit f ≡ false
+pub exit_was : (to : ℕ → ℕ) (exits : ℕ → Option ℕ) (f : LinOp) → is_exit (redirected_operation to exits f) ≡ false → is_exit f ≡ false
 exit_was to exits (lin.Op f) e = refl
 exit_was to exits (lin.Flow (flow.Label k)) e = refl
 exit_was to exits (lin.Flow (flow.Jump k)) e = refl
@@ -94,13 +94,13 @@ exit_was to exits (lin.Flow (flow.PushTrap k)) e = refl
 exit_was to exits (lin.Flow flow.PopTrap) e = refl
 exit_was to exits (lin.Flow flow.EnterTrap) e = refl
 
-pub same_labels : (to : ℕ → ℕ) (exits : ℕ → Option ℕ) (f : LinOp) → label_of (redirected to exits f) ≡ label_of f
+pub same_labels : (to : ℕ → ℕ) (exits : ℕ → Option ℕ) (f : LinOp) → label_of (redirected_operation to exits f) ≡ label_of f
 same_labels = same_said label_of (record { jump = λ l. refl; exit = λ l. refl; branch = λ test k l. refl })
 
-pub same_operands : (to : ℕ → ℕ) (exits : ℕ → Option ℕ) (f : LinOp) → lin_operand_seats (redirected to exits f) ≡ lin_operand_seats f
+pub same_operands : (to : ℕ → ℕ) (exits : ℕ → Option ℕ) (f : LinOp) → lin_operand_seats (redirected_operation to exits f) ≡ lin_operand_seats f
 same_operands = same_said lin_operand_seats (record { jump = λ l. refl; exit = λ l. refl; branch = λ test k l. refl })
 
-pub same_results : (to : ℕ → ℕ) (exits : ℕ → Option ℕ) (f : LinOp) → lin_result_seats (redirected to exits f) ≡ lin_result_seats f
+pub same_results : (to : ℕ → ℕ) (exits : ℕ → Option ℕ) (f : LinOp) → lin_result_seats (redirected_operation to exits f) ≡ lin_result_seats f
 same_results = same_said lin_result_seats (record { jump = λ l. refl; exit = λ l. refl; branch = λ test k l. refl })
 
 -- ---- labels and jumps
@@ -108,8 +108,8 @@ same_results = same_said lin_result_seats (record { jump = λ l. refl; exit = λ
 -- control goes from the first code to the second by them alone
 pub data Quiet (m : Lin) : List Line → List Line → Type 0 where
   is_there : {to : List Line} → Quiet m to to
-  by_label : {l : ℕ} {next to : List Line} → Quiet m next to → Quiet m (bare (flow.Label l) ∷ next) to
-  by_jump : {l : ℕ} {next to : List Line} → Quiet m (after_label l m.code) to → Quiet m (bare (flow.Jump l) ∷ next) to
+  by_label : {l : ℕ} {next to : List Line} → Quiet m next to → Quiet m (bare_flow (flow.Label l) ∷ next) to
+  by_jump : {l : ℕ} {next to : List Line} → Quiet m (after_label l m.code) to → Quiet m (bare_flow (flow.Jump l) ∷ next) to
 
 quiet_then : {m : Lin} {a b d : List Line} → Quiet m a b → Quiet m b d → Quiet m a d
 quiet_then is_there q = q
@@ -129,7 +129,7 @@ quiet_reached is_there r = r
 quiet_reached (by_label p) r = quiet_reached p (by_step r (walks.goes On this))
 quiet_reached (by_jump {l = l} p) r = quiet_reached p (by_step r (walks.goes (At l) this))
 
-pub label_unwritten : (k : ℕ) (l : Loc) → Writes (bare (flow.Label k)) l → ⊥
+pub label_unwritten : (k : ℕ) (l : Loc) → Writes (bare_flow (flow.Label k)) l → ⊥
 label_unwritten k l w = ⊎_elim (λ y. none_in (record { loc = l; comp = y.0 }) y.1) (λ e. true≢false (sym e)) w
 
 quiet_live : {m : Lin} {l : Loc} {t : Comp} {a b : List Line} {tries : List ℕ} → Quiet m a b → Live m l t b tries → Live m l t a tries
@@ -142,13 +142,13 @@ quiet_live {l = l} (by_jump {l = k} p) v = on (jump_unwritten k l) (walks.goes (
 -- from the first code control goes by labels and jumps to the second, or it takes one exit on the way
 pub data Round (m : Lin) (a b : List Line) : Type 0 where
   quietly : Quiet m a b → Round m a b
-  with_exit : {l : ℕ} {next : List Line} → Quiet m a (bare (flow.Exit l) ∷ next) → Quiet m (after_label l m.code) b → Round m a b
+  with_exit : {l : ℕ} {next : List Line} → Quiet m a (bare_flow (flow.Exit l) ∷ next) → Quiet m (after_label l m.code) b → Round m a b
 
 round_reached : {m : Lin} {a b : List Line} {tries : List ℕ} → Round m a b → Reached m a tries → Reached m b tries
 round_reached (quietly p) r = quiet_reached p r
 round_reached (with_exit {l = l} p q) r = quiet_reached q (by_step (quiet_reached p r) (walks.goes (At l) this))
 
-exit_unwritten : (k : ℕ) (l : Loc) → Writes (bare (flow.Exit k)) l → ⊥
+exit_unwritten : (k : ℕ) (l : Loc) → Writes (bare_flow (flow.Exit k)) l → ⊥
 exit_unwritten k l w = ⊎_elim (λ y. none_in (record { loc = l; comp = y.0 }) y.1) (λ e. true≢false (sym e)) w
 
 round_live : {m : Lin} {l : Loc} {t : Comp} {a b : List Line} {tries : List ℕ} → Round m a b → Live m l t b tries → Live m l t a tries
@@ -157,7 +157,7 @@ round_live {l = l} (with_exit {l = k} p q) v = quiet_live p (on (exit_unwritten 
 
 -- from where it comes to an exit by labels and jumps it goes on to the label
 pub data Leaves (m : Lin) (a : List Line) (n : ℕ) : Type 0 where
-  leaves : {l : ℕ} {next : List Line} → Quiet m a (bare (flow.Exit l) ∷ next) → Quiet m (after_label l m.code) (after_label n m.code) → Leaves m a n
+  leaves : {l : ℕ} {next : List Line} → Quiet m a (bare_flow (flow.Exit l) ∷ next) → Quiet m (after_label l m.code) (after_label n m.code) → Leaves m a n
 
 leaves_to : {m : Lin} {l n : ℕ} → ExitsTo m l n → Leaves m (after_label l m.code) n
 leaves_to (by_exit g p h) = leaves (quiet_then (quiet_to g) (quiet_labels p)) (quiet_to h)
@@ -214,12 +214,12 @@ module _ (m : Lin) (to : ℕ → ℕ) (exits : ℕ → Option ℕ) (each : (l : 
         (At (to l));
   }
 
-  pub was : (f : LinOp) (next : List Line) (t : Target) → OneOf t (targets (redirected to exits f)) → Was f next t
+  pub was : (f : LinOp) (next : List Line) (t : Target) → OneOf t (targets (redirected_operation to exits f)) → Was f next t
   was (lin.Op f) next t o = same_target (lin.Op f) next t o
   was (lin.Flow (flow.Label k)) next t o = same_target (lin.Flow (flow.Label k)) next t o
   was (lin.Flow (flow.Jump k)) next t o = by (exits k) refl t o
     where
-      by : (x : Option ℕ) → exits k ≡ x → (t : Target) → OneOf t (targets (lin.Flow (goes_by x (to k)))) → Was (lin.Flow (flow.Jump k)) next t
+      by : (x : Option ℕ) → exits k ≡ x → (t : Target) → OneOf t (targets (lin.Flow (exit_or_jump x (to k)))) → Was (lin.Flow (flow.Jump k)) next t
       by None e t this = label_target next k this
       by None e t (other o) = elim o [ ]
       by (Some n) e t this = record {
@@ -306,7 +306,7 @@ module _ (m : Lin) (to : ℕ → ℕ) (exits : ℕ → Option ℕ) (each : (l : 
       inl_of : (t : Comp) × Contains i.results (record { loc = l; comp = t }) → Writes (redirect to exits i) l
       inl_of y = inl y
 
-      inr_of : is_destroyed (destroyed_by (redirected to exits i.op)) l ≡ true → Writes (redirect to exits i) l
+      inr_of : is_destroyed (destroyed_by (redirected_operation to exits i.op)) l ≡ true → Writes (redirect to exits i) l
       inr_of d = inr d
 
   pub live_before : {l : Loc} {t : Comp} {js : List Line} {tries : List ℕ} → Live turned l t js tries → (is : List Line) → T is ≡ js → Live m l t is tries
@@ -362,7 +362,7 @@ module _ (m : Lin) (to : ℕ → ℕ) (exits : ℕ → Option ℕ) (each : (l : 
 
   -- ---- runs
 
-  module _ (c : Place) where
+  module _ (c : ActivationSetting) where
     abbrev at : List Line → Locations → Around → State
     at is f a = record { rest = is; file = f; around = a }
 
@@ -374,16 +374,16 @@ module _ (m : Lin) (to : ℕ → ℕ) (exits : ℕ → Option ℕ) (each : (l : 
           values c.setting.end f args ≡ Some [] → Rel (at is f a) (at (record { op = lin.Flow (flow.Exit n); args = args; results = results } ∷ js) f a)
 
     abbrev Answer : State → Step State → Type 0
-    Answer = Answers c m (step c turned) (ValsHeld c turned) SameRound Rel
+    Answer = Answers c m (lossless_line_step c turned) (ValsHeld c turned) SameRound Rel
 
     abbrev Arrive : Step State → Step State → Type 0
-    Arrive = Arrives c m (step c turned) (ValsHeld c turned) SameRound Rel
+    Arrive = Arrives c m (lossless_line_step c turned) (ValsHeld c turned) SameRound Rel
 
     module _ (f : LinOp) (args results : List Spot) (next : List Line) (g : Locations) (a : Around) where
       abbrev i : Line
       i = record { op = f; args = args; results = results }
 
-      leads : Reached m (i ∷ next) a.tries → Leads c m (step c turned) (ValsHeld c turned) SameRound Rel turned i next (T next) g g a.tries
+      leads : Reached m (i ∷ next) a.tries → Leads c m (lossless_line_step c turned) (ValsHeld c turned) SameRound Rel turned i next (T next) g g a.tries
       leads reached =
           record {
             on = λ vs t b g' o e u. (
@@ -399,7 +399,7 @@ module _ (m : Lin) (to : ℕ → ℕ) (exits : ℕ → Option ℕ) (each : (l : 
       -- where it is not redirected
       same_line : Reached m (i ∷ next) a.tries → (vs : List Value) → Arrive (on_act c m i next g a (lin_act c.setting f vs a))
           (on_act c turned i (T next) g a (lin_act c.setting f vs a))
-      same_line reached vs = acts c m (step c turned) (ValsHeld c turned) SameRound Rel turned i next (T next) g g a (leads reached) (lin_act c.setting f vs a)
+      same_line reached vs = acts c m (lossless_line_step c turned) (ValsHeld c turned) SameRound Rel turned i next (T next) g g a (leads reached) (lin_act c.setting f vs a)
           (turns c.setting f vs a)
 
     -- to a label, and to where that leads
@@ -427,14 +427,14 @@ module _ (m : Lin) (to : ℕ → ℕ) (exits : ℕ → Option ℕ) (each : (l : 
     line_turned : (f : LinOp) (args results : List Spot) (next : List Line) (g : Locations) (a : Around) → StaysJump f → Reached m
         (record { op = f; args = args; results = results } ∷ next) a.tries → (vs : List Value) →
         Arrive (on_act c m (record { op = f; args = args; results = results }) next g a (lin_act c.setting f vs a))
-        (on_act c turned (record { op = redirected to exits f; args = args; results = results }) (T next) g a (lin_act c.setting (redirected to exits f) vs a))
+        (on_act c turned (record { op = redirected_operation to exits f; args = args; results = results }) (T next) g a (lin_act c.setting (redirected_operation to exits f) vs a))
     line_turned (lin.Op f) args results next g a jumps r vs = same_line (lin.Op f) args results next g a r vs
     line_turned (lin.Flow (flow.Label k)) args results next g a jumps r vs = same_line (lin.Flow (flow.Label k)) args results next g a r vs
     line_turned (lin.Flow (flow.Jump k)) args results next g a jumps r vs =
         subst (λ o. Arrive
         (on_act c m (record { op = lin.Flow (flow.Jump k); args = args; results = results }) next g a (lin_act c.setting (lin.Flow (flow.Jump k)) vs a))
-        (on_act c turned (record { op = lin.Flow (goes_by o (to k)); args = args; results = results }) (T next) g a
-        (lin_act c.setting (lin.Flow (goes_by o (to k))) vs a)))
+        (on_act c turned (record { op = lin.Flow (exit_or_jump o (to k)); args = args; results = results }) (T next) g a
+        (lin_act c.setting (lin.Flow (exit_or_jump o (to k))) vs a)))
         (sym (jumps k refl)) (jump_turned k args results next g a r vs)
     line_turned (lin.Flow (flow.Exit k)) args results next g a jumps r [] =
         both_pay (rel (by_step r (walks.goes (At k) this)) (quiet_to (each k)) (target_turned [] (At (to k))))
@@ -442,8 +442,8 @@ module _ (m : Lin) (to : ℕ → ℕ) (exits : ℕ → Option ℕ) (each : (l : 
     line_turned (lin.Flow (flow.Branch test k)) args results next g a jumps r vs = by (truth_of (sizes a.memory) test vs)
       where
         by : (o : Option Bool) → Arrive
-            (on_act c m (record { op = lin.Flow (flow.Branch test k); args = args; results = results }) next g a (branches a (At k) On o))
-            (on_act c turned (record { op = lin.Flow (flow.Branch test (to k)); args = args; results = results }) (T next) g a (branches a (At (to k)) On o))
+            (on_act c m (record { op = lin.Flow (flow.Branch test k); args = args; results = results }) next g a (goes_by_test a (At k) On o))
+            (on_act c turned (record { op = lin.Flow (flow.Branch test (to k)); args = args; results = results }) (T next) g a (goes_by_test a (At (to k)) On o))
         by None = first_stuck
         by (Some true) = goes_label k a (by_step r (walks.goes (At k) (other this))) _
         by (Some false) = goes_next next a (by_step r (walks.goes On this)) _
@@ -478,17 +478,17 @@ module _ (m : Lin) (to : ℕ → ℕ) (exits : ℕ → Option ℕ) (each : (l : 
     -- a jump that became an exit waits for the first to come to its own
     jump_waits : (k n : ℕ) → exits k ≡ Some n → (args results : List Spot) (next : List Line) (g : Locations) (a : Around) →
         Reached m (jump_line k args results ∷ next) a.tries →
-        Answer (at (exit_line n args results ∷ T next) g a) (step c m (at (jump_line k args results ∷ next) g a))
+        Answer (at (exit_line n args results ∷ T next) g a) (lossless_line_step c m (at (jump_line k args results ∷ next) g a))
     jump_waits k n e args results next g a r = by (values c.setting.end g args) refl
       where
         by : (o : Option (List Value)) → values c.setting.end g args ≡ o → Answer (at (exit_line n args results ∷ T next) g a)
-            (kept.on_values c m (jump_line k args results) next g a o)
+            (kept.on_lossless_line_values c m (jump_line k args results) next g a o)
         by None u = stuck
         by (Some (v ∷ vs)) u = stuck
         by (Some []) u = wrote_by results
           where
             wrote_by : (rs : List Spot) → Answer (at (exit_line n args results ∷ T next) g a)
-                (wrote (after_label k m.code) a (put_all c.setting.end rs [] (clear (destroyed_by (lin.Flow (flow.Jump k))) g)))
+                (wrote (after_label k m.code) a (put_all c.setting.end rs [] (clear_destroyed (destroyed_by (lin.Flow (flow.Jump k))) g)))
             wrote_by [] = stays (rel_leaves (by_step r (walks.goes (At k) this)) (leaves_to (out k n e)) u)
             wrote_by (s ∷ ss) = stuck
 
@@ -516,26 +516,26 @@ module _ (m : Lin) (to : ℕ → ℕ) (exits : ℕ → Option ℕ) (each : (l : 
     becomes (lin.Flow flow.EnterTrap) = its_like (other_flow refl)
 
     turned_line : (i : Line) (next : List Line) (g : Locations) (a : Around) → Reached m (i ∷ next) a.tries → ValsHeld c m (at (i ∷ next) g a) → Answer
-        (at (redirect to exits i ∷ T next) g a) (step c m (at (i ∷ next) g a))
+        (at (redirect to exits i ∷ T next) g a) (lossless_line_step c m (at (i ∷ next) g a))
     turned_line i next g a r vals = by (becomes i.op)
       where
-        on_values : StaysJump i.op → (o : Option (List Value)) → Arrive (kept.on_values c m i next g a o)
-            (kept.on_values c turned (redirect to exits i) (T next) g a o)
+        on_values : StaysJump i.op → (o : Option (List Value)) → Arrive (kept.on_lossless_line_values c m i next g a o)
+            (kept.on_lossless_line_values c turned (redirect to exits i) (T next) g a o)
         on_values jumps None = first_stuck
         on_values jumps (Some vs) = line_turned i.op i.args i.results next g a jumps r vs
 
-        by : Becomes i.op → Answer (at (redirect to exits i ∷ T next) g a) (step c m (at (i ∷ next) g a))
+        by : Becomes i.op → Answer (at (redirect to exits i ∷ T next) g a) (lossless_line_step c m (at (i ∷ next) g a))
         by (an_exit {k = k} {n = n} e u) =
             subst (λ f. Reached m (record { op = f; args = i.args; results = i.results } ∷ next) a.tries →
-            Answer (at (record { op = redirected to exits f; args = i.args; results = i.results } ∷ T next) g a)
-            (step c m (at (record { op = f; args = i.args; results = i.results } ∷ next) g a))) (sym e)
+            Answer (at (record { op = redirected_operation to exits f; args = i.args; results = i.results } ∷ T next) g a)
+            (lossless_line_step c m (at (record { op = f; args = i.args; results = i.results } ∷ next) g a))) (sym e)
             (subst (λ o. Reached m (record { op = lin.Flow (flow.Jump k); args = i.args; results = i.results } ∷ next) a.tries →
-            Answer (at (record { op = lin.Flow (goes_by o (to k)); args = i.args; results = i.results } ∷ T next) g a)
-            (step c m (at (record { op = lin.Flow (flow.Jump k); args = i.args; results = i.results } ∷ next) g a))) (sym u)
+            Answer (at (record { op = lin.Flow (exit_or_jump o (to k)); args = i.args; results = i.results } ∷ T next) g a)
+            (lossless_line_step c m (at (record { op = lin.Flow (flow.Jump k); args = i.args; results = i.results } ∷ next) g a))) (sym u)
             (jump_waits k n u i.args i.results next g a)) r
         by (its_like jumps) = steps (held_back i next g a vals) (on_values jumps (values c.setting.end g i.args))
 
-    closed : Closed c m (step c turned) (ValsHeld c turned) SameRound Rel
+    closed : Closed c m (lossless_line_step c turned) (ValsHeld c turned) SameRound Rel
     closed = record { around = λ s u r. around_same s u r; next = λ s u r vals. next_same s u r vals }
       where
         around_same : (s u : State) → Rel s u → s.around ≡ u.around
@@ -543,42 +543,42 @@ module _ (m : Lin) (to : ℕ → ℕ) (exits : ℕ → Option ℕ) (each : (l : 
         around_same s u (rel_leaves r l e) = refl
 
         from_code : (is : List Line) (g : Locations) (a : Around) → Reached m is a.tries → ValsHeld c m (at is g a) → Answer (at (T is) g a)
-            (step c m (at is g a))
+            (lossless_line_step c m (at is g a))
         from_code [] g a r vals = stuck
         from_code (i ∷ next) g a r vals = turned_line i next g a r vals
 
         by : {is b : List Line} (js : List Line) (g : Locations) (a : Around) → Reached m is a.tries → Quiet m is b → T b ≡ js → ValsHeld c m (at is g a) →
-            Answer (at js g a) (step c m (at is g a))
-        by {is} js g a r is_there e vals = subst (λ ks. Answer (at ks g a) (step c m (at is g a))) e (from_code is g a r vals)
+            Answer (at js g a) (lossless_line_step c m (at is g a))
+        by {is} js g a r is_there e vals = subst (λ ks. Answer (at ks g a) (lossless_line_step c m (at is g a))) e (from_code is g a r vals)
         by js g a r (by_label p) e vals = stays (rel (by_step r (walks.goes On this)) p e)
         by js g a r (by_jump {l = k} p) e vals = stays (rel (by_step r (walks.goes (At k) this)) p e)
 
         -- both count the unit at the exit, whether the second has it for an exit or for a jump
         at_exit : {is next : List Line} {l : ℕ} (n : ℕ) (args results : List Spot) (js : List Line) (g : Locations) (a : Around) → Reached m is a.tries →
-            Quiet m is (bare (flow.Exit l) ∷ next) → Quiet m (after_label l m.code) (after_label n m.code) → values c.setting.end g args ≡ Some [] →
-            Answer (at (exit_line n args results ∷ js) g a) (step c m (at is g a))
+            Quiet m is (bare_flow (flow.Exit l) ∷ next) → Quiet m (after_label l m.code) (after_label n m.code) → values c.setting.end g args ≡ Some [] →
+            Answer (at (exit_line n args results ∷ js) g a) (lossless_line_step c m (at is g a))
         at_exit {l = l} n args results js g a r is_there q e =
             steps (exit_held n args results js g a)
-            (subst (λ o. Arrive (Pays (at (after_label l m.code) g a)) (kept.on_values c turned (exit_line n args results) js g a o)) (sym e)
+            (subst (λ o. Arrive (Pays (at (after_label l m.code) g a)) (kept.on_lossless_line_values c turned (exit_line n args results) js g a o)) (sym e)
             (both_pay (rel (by_step r (walks.goes (At l) this)) q (target_turned [] (At n)))))
         at_exit n args results js g a r (by_label p) q e = stays (rel_leaves (by_step r (walks.goes On this)) (leaves p q) e)
         at_exit n args results js g a r (by_jump {l = k} p) q e = stays (rel_leaves (by_step r (walks.goes (At k) this)) (leaves p q) e)
 
-        next_same : (s u : State) → Rel s u → ValsHeld c m s → Answer u (step c m s)
+        next_same : (s u : State) → Rel s u → ValsHeld c m s → Answer u (lossless_line_step c m s)
         next_same s u (rel {js = js} {f = f} {a = a} r q e) vals = by js f a r q e vals
         next_same s u (rel_leaves {js = js} {n = n} {args = args} {results = results} {f = f} {a = a} r (leaves p q) e) vals = at_exit n args results js f a r p q e
 
-    turned_begins : (arguments : List Value) (memory : Memory) (doings : List Doing) (s : State) → start c m arguments memory ≡ Some s →
-        Begins SameRound c m turned arguments memory doings s
+    turned_begins : (arguments : List Value) (memory : Memory) (doings : List Doing) (s : State) → linear_start c m arguments memory ≡ Some s →
+        TidyBegins SameRound c m turned arguments memory doings s
     turned_begins = begins_alike c m turned refl SameRound Rel closed (λ f memory. rel at_entry is_there refl)
 
   not_op : (f : Flow) (g : Op) → lin.Flow f ≡ lin.Op g → ⊥
   not_op f g e = cc
 
-  pub op_was : (f : LinOp) (g : Op) → redirected to exits f ≡ lin.Op g → f ≡ lin.Op g
+  pub op_was : (f : LinOp) (g : Op) → redirected_operation to exits f ≡ lin.Op g → f ≡ lin.Op g
   op_was (lin.Op f) g e = e
   op_was (lin.Flow (flow.Label k)) g e = absurd (not_op _ g e)
-  op_was (lin.Flow (flow.Jump k)) g e = absurd (not_op (goes_by (exits k) (to k)) g e)
+  op_was (lin.Flow (flow.Jump k)) g e = absurd (not_op (exit_or_jump (exits k) (to k)) g e)
   op_was (lin.Flow (flow.Exit k)) g e = absurd (not_op _ g e)
   op_was (lin.Flow (flow.Branch t k)) g e = absurd (not_op _ g e)
   op_was (lin.Flow (flow.Switch ls)) g e = absurd (not_op _ g e)
@@ -609,5 +609,5 @@ module _ (m : Lin) (to : ℕ → ℕ) (exits : ℕ → Option ℕ) (each : (l : 
       }
 
 -- Redirected, a function does what it did.
-pub redirecting_keeps : {m r : Lin} → Redirects m r → KeepsLin SameRound m r
+pub redirecting_keeps : {m r : Lin} → RedirectsTargets m r → KeepsLin SameRound m r
 redirecting_keeps {m} h = subst (KeepsLin SameRound m) (sym h.is) (turned_keeps m h.to h.exits h.each h.out)

@@ -3,19 +3,19 @@ use Rattle.std.proofs.Common.{◌≡◌, ℕ, suc, ◌<◌, ◌≤◌, true, fal
 use Rattle.std.proofs.lemmas.Bool.{true≢false}
 use Rattle.mach_ir.specs.Acts.{Target, On, At}
 use Rattle.mach_ir.specs.Walks.{OneOf, this, other}
-use Rattle.lin_ir.specs.Formed.{is_exit, is_label, GoesDown, bare}
+use Rattle.lin_ir.specs.Formed.{is_exit, is_label, GoesDown, bare_flow}
 use Rattle.lin_ir.specs.Meaning.{after_label, code_at}
 use Rattle.lin_ir.specs.Walks as walks
-use Rattle.lin_ir.specs.Walks.{targets, may_raise, Reached, Leads, Raises, by_step}
+use Rattle.lin_ir.specs.Walks.{targets, may_raise, Reached, LineWalkStep, Raises, by_step}
 use Rattle.lin_ir.specs.declared.lin.Flow.TheVariants as flow
 use Rattle.lin_ir.specs.declared.lin.LinOp.{LinOp}
 use Rattle.lin_ir.specs.declared.lin.LinOp.TheVariants as lin
 use Rattle.lin_ir.specs.declared.lin.Line.{Line}
 use Rattle.lin_ir.specs.declared.lin.Lin.{Lin}
-use Rattle.tidy_rules.specs.Redirecting.{goes_by, redirected, GoesOnTo, ExitsTo}
+use Rattle.tidy_rules.specs.Redirecting.{exit_or_jump, redirected_operation, GoesOnTo, ExitsTo}
 use Rattle.tidy_rules.proofs.Redirecting.{Quiet, is_there, by_label, by_jump, quiet_to, T, turned, target_turned, source_line, exit_was, same_raise, same_said}
 
-same_mark : (to : ℕ → ℕ) (exits : ℕ → Option ℕ) (f : LinOp) → is_label (redirected to exits f) ≡ is_label f
+same_mark : (to : ℕ → ℕ) (exits : ℕ → Option ℕ) (f : LinOp) → is_label (redirected_operation to exits f) ≡ is_label f
 same_mark = same_said is_label (record { jump = λ l. refl; exit = λ l. refl; branch = λ test k l. refl })
 
 module _ (m : Lin) (to : ℕ → ℕ) (exits : ℕ → Option ℕ) (each : (l : ℕ) → GoesOnTo m l (to l)) (out : (l n : ℕ) → exits l ≡ Some n → ExitsTo m l n)
@@ -34,11 +34,11 @@ module _ (m : Lin) (to : ℕ → ℕ) (exits : ℕ → Option ℕ) (each : (l : 
   quiet_low : {a b : List Line} {tries : List ℕ} → Quiet m a b → Reached m a tries → down.order (length b) ≤ down.order (length a)
   quiet_low is_there r = omega arith
   quiet_low {tries = tries} (by_label {l = l} {next = next} q) r =
-      let weak = down.labels (bare (flow.Label l)) next tries r refl in
+      let weak = down.labels (bare_flow (flow.Label l)) next tries r refl in
       let le = quiet_low q (by_step r (walks.goes On this)) in
       omega (arith, weak, le)
   quiet_low {tries = tries} (by_jump {l = l} {next = next} q) r =
-      let lower = down.steps (bare (flow.Jump l)) next (after_label l m.code) tries tries r refl refl (walks.goes (At l) this) in
+      let lower = down.steps (bare_flow (flow.Jump l)) next (after_label l m.code) tries tries r refl refl (walks.goes (At l) this) in
       let le = quiet_low q (by_step r (walks.goes (At l) this)) in
       omega (arith, lower, le)
 
@@ -68,12 +68,12 @@ module _ (m : Lin) (to : ℕ → ℕ) (exits : ℕ → Option ℕ) (each : (l : 
     same = target_turned m to exits each out next (At (to l));
   }
 
-  was : (f : LinOp) (next : List Line) (t : Target) → is_exit (redirected to exits f) ≡ false → OneOf t (targets (redirected to exits f)) → Was f next t
+  was : (f : LinOp) (next : List Line) (t : Target) → is_exit (redirected_operation to exits f) ≡ false → OneOf t (targets (redirected_operation to exits f)) → Was f next t
   was (lin.Op f) next t e o = as_before (lin.Op f) next t o
   was (lin.Flow (flow.Label k)) next t e o = as_before (lin.Flow (flow.Label k)) next t o
   was (lin.Flow (flow.Jump k)) next t e o = by (exits k) t e o
     where
-      by : (x : Option ℕ) (t : Target) → is_exit (lin.Flow (goes_by x (to k))) ≡ false → OneOf t (targets (lin.Flow (goes_by x (to k)))) →
+      by : (x : Option ℕ) (t : Target) → is_exit (lin.Flow (exit_or_jump x (to k))) ≡ false → OneOf t (targets (lin.Flow (exit_or_jump x (to k)))) →
           Was (lin.Flow (flow.Jump k)) next t
       by None t e this = further next k this
       by None t e (other o) = elim o [ ]
@@ -100,10 +100,10 @@ module _ (m : Lin) (to : ℕ → ℕ) (exits : ℕ → Option ℕ) (each : (l : 
   }
     where
       step : (j : Line) (js to' : List Line) (tries left : List ℕ) → Reached R (j ∷ js) tries → is_exit j.op ≡ false → is_label j.op ≡ false →
-          Leads R j js tries to' left → down.order (length to') < down.order (suc (length js))
+          LineWalkStep R j js tries to' left → down.order (length to') < down.order (suc (length js))
       step j js _ tries _ r inside mark (walks.goes t o) =
           let x = source_line m to exits each out r in
-          let e : is_exit (redirected to exits x.line.op) ≡ false = ap (λ (j : Line). is_exit j.op) x.is_line ∙ inside in
+          let e : is_exit (redirected_operation to exits x.line.op) ≡ false = ap (λ (j : Line). is_exit j.op) x.is_line ∙ inside in
           let w = was x.line.op x.next t e (subst (λ (j : Line). OneOf t (targets j.op)) (sym x.is_line) o) in
           let lower = down.steps x.line x.next (code_at m.code x.next w.target) tries (walks.tries_after x.line.op tries) x.reached
           (exit_was to exits x.line.op e) (sym (same_mark to exits x.line.op) ∙ ap (λ (j : Line). is_label j.op) x.is_line ∙ mark) (walks.goes w.target w.among) in

@@ -6,9 +6,9 @@ use Rattle.bs_words.specs.declared.types.Comp.{Comp}
 use Rattle.bs_words.specs.declared.types.Loc.{Loc}
 use Rattle.mach_ir.specs.Acts.{At}
 use Rattle.mach_ir.specs.Walks.{this}
-use Rattle.lin_ir.specs.Formed.{IsFormed, IsHome, is_colour, is_slot, is_home, IsLocation, Locates, spare, SpareIsPassing, label_of, labels_in, EntersAt, enters_here, enters_below, WellFormed, bare}
+use Rattle.lin_ir.specs.Formed.{IsFormedLine, IsHome, is_colour, is_slot, is_home, IsLocation, Locates, spare, SpareIsPassing, label_of, labels_in, EntersAt, enters_here, enters_below, WellFormed, bare_flow}
 use Rattle.lin_ir.specs.Walks as walks
-use Rattle.lin_ir.specs.Walks.{Stands, Reached, by_step, LiveAfter, after_step, Traps, by_walk, unreached, TrapsBalance}
+use Rattle.lin_ir.specs.Walks.{StandsAsLine, Reached, by_step, LiveAfter, after_step, Traps, by_walk, unreached, TrapsBalance}
 use Rattle.lin_ir.specs.declared.lin.Flow.TheVariants as flow
 use Rattle.lin_ir.specs.declared.lin.LinOp.{LinOp}
 use Rattle.lin_ir.specs.declared.lin.LinOp.TheVariants as lin
@@ -93,7 +93,7 @@ no_label (lin.Flow (flow.PushTrap k)) e = refl
 no_label (lin.Flow flow.PopTrap) e = refl
 no_label (lin.Flow flow.EnterTrap) e = refl
 
-module _ (m : Lin) (goes : ℕ → Bool) (each : (i : Line) (next : List Line) → Stands i next m.code → goes (length next) ≡ true → IsUseless m i next) where
+module _ (m : Lin) (goes : ℕ → Bool) (each : (i : Line) (next : List Line) → StandsAsLine i next m.code → goes (length next) ≡ true → IsUseless m i next) where
   abbrev R : Lin
   R = rest m goes each
 
@@ -101,7 +101,7 @@ module _ (m : Lin) (goes : ℕ → Bool) (each : (i : Line) (next : List Line) �
   L = K m goes each
 
   -- a line that is a label or an entry stays
-  pub landing_stays : (i : Line) (next : List Line) → Stands i next m.code → is_landing i.op ≡ true → goes (length next) ≡ false
+  pub landing_stays : (i : Line) (next : List Line) → StandsAsLine i next m.code → is_landing i.op ≡ true → goes (length next) ≡ false
   landing_stays i next s e = by (goes (length next)) refl
     where
       by : (b : Bool) → goes (length next) ≡ b → goes (length next) ≡ false
@@ -167,16 +167,16 @@ module _ (m : Lin) (goes : ℕ → Bool) (each : (i : Line) (next : List Line) �
       not_none : (j : Line) (js : List Line) → j ∷ js ≡ [] → ⊥
       not_none j js e = cc
 
-      label_first : {i : Line} {is : List Line} {k : ℕ} → IsUseless m i is → i ≡ bare (flow.Label k) → ⊥
+      label_first : {i : Line} {is : List Line} {k : ℕ} → IsUseless m i is → i ≡ bare_flow (flow.Label k) → ⊥
       label_first u e = true≢false (sym (ap (λ (i : Line). is_landing i.op) e) ∙ useless_landing u)
 
       nothing_between : {a b : List Line} → leaving.LabelsBetween a b → Tail a m.code → L a ≡ [] → a ≡ b
       nothing_between leaving.none_between w e = refl
       nothing_between (leaving.label_between {l = k} {next = ks} p) w e = absurd (two (goes (length ks)) refl e)
         where
-          two : (b : Bool) → goes (length ks) ≡ b → cond b (L ks) (bare (flow.Label k) ∷ L ks) ≡ [] → ⊥
-          two true s e = label_first (each (bare (flow.Label k)) ks (tail_stands w) s) refl
-          two false s e = not_none (bare (flow.Label k)) (L ks) e
+          two : (b : Bool) → goes (length ks) ≡ b → cond b (L ks) (bare_flow (flow.Label k) ∷ L ks) ≡ [] → ⊥
+          two true s e = label_first (each (bare_flow (flow.Label k)) ks (tail_stands w) s) refl
+          two false s e = not_none (bare_flow (flow.Label k)) (L ks) e
 
       gone : IsUseless m i next → L next ≡ [] → (Comes m next tries → L next ≡ [] → Comes m [] tries) → Comes m [] tries
       gone (leaving.unreached n out) e ih = absurd (out tries (comes_line r n))
@@ -185,7 +185,7 @@ module _ (m : Lin) (goes : ℕ → Bool) (each : (i : Line) (next : List Line) �
           ih (there (subst (Reached m next) (g.tries tries)
           (by_step (comes_line r (useless_landing {m = m} {next = next} (unread z dead))) (walks.goes _ g.on)))) e
       gone (leaving.skipped {l = k} same p) e ih =
-          let x : Reached m (bare (flow.Jump k) ∷ next) tries =
+          let x : Reached m (bare_flow (flow.Jump k) ∷ next) tries =
           subst (λ x. Reached m (x ∷ next) tries) same (comes_line r (ap (λ (i : Line). is_landing i.op) same)) in
           ih (there (subst (λ xs. Reached m xs tries) (sym (nothing_between p (tail_next (comes_tail r)) e)) (by_step x (walks.goes (At k) this)))) e
 
@@ -244,7 +244,7 @@ module _ (m : Lin) (goes : ℕ → Bool) (each : (i : Line) (next : List Line) �
     well_rest : WellFormed R
     well_rest =
         record {
-          forms = all_of IsFormed R.code (λ j z. all_in IsFormed regular.well.forms (was_in z));
+          forms = all_of IsFormedLine R.code (λ j z. all_in IsFormedLine regular.well.forms (was_in z));
           returns = λ j c e. regular.well.returns j (was_among j c) e;
           params = spots_rest m.params regular.well.params;
           locations = all_of (λ (i : Line). Locates R i.args × Locates R i.results) R.code

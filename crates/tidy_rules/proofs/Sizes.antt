@@ -7,7 +7,7 @@ use Rattle.mach_ir.specs.declared.mach.Mark.TheVariants as mark
 use Rattle.mach_ir.specs.declared.mach.MachOp.{MachOp}
 use Rattle.mach_ir.specs.declared.mach.MachOp.TheVariants as mach
 use Rattle.mach_ir.specs.declared.mach.Instr.{Instr}
-use Rattle.lin_ir.specs.Formed.{label_of, labels_in, bare}
+use Rattle.lin_ir.specs.Formed.{label_of, labels_in, bare_flow}
 use Rattle.lin_ir.specs.declared.lin.Flow.TheVariants as flow
 use Rattle.lin_ir.specs.declared.lin.LinOp.{LinOp}
 use Rattle.lin_ir.specs.declared.lin.LinOp.TheVariants as lin
@@ -19,7 +19,7 @@ use Rattle.linear_rules.proofs.Homes.{in_of, contains_of}
 use Rattle.linear_rules.proofs.Walked.{Tail, tail_all, tail_next}
 use Rattle.mach_laws.proofs.Instructions.{instr}
 use Rattle.tidy_rules.specs.Leaving.{LeavesOften, not_once, once_more}
-use Rattle.tidy_rules.specs.Redirecting.{goes_by, redirected, redirect, Redirects, redirected_all}
+use Rattle.tidy_rules.specs.Redirecting.{exit_or_jump, redirected_operation, redirect, RedirectsTargets, redirected_all}
 use Rattle.tidy_rules.specs.Regular.{IsRegular}
 use Rattle.tidy_rules.specs.Tidied.{IsTidied}
 use Rattle.tidy_rules.specs.Turning.{Turn, tested_again, turned_line, Turns, turned_all}
@@ -113,10 +113,10 @@ turning_shape {m} {r} h regular = subst (KeepsShape m) (sym h.is) (shape_turned 
 
 -- ---- jumps redirected, and lines left out
 
-same_way : (to : ℕ → ℕ) (exits : ℕ → Option ℕ) (f : LinOp) → way_of (redirected to exits f) ≡ way_of f
+same_way : (to : ℕ → ℕ) (exits : ℕ → Option ℕ) (f : LinOp) → way_of (redirected_operation to exits f) ≡ way_of f
 same_way to exits (lin.Flow (flow.Jump l)) = by (exits l)
   where
-    by : (o : Option ℕ) → way_of (lin.Flow (goes_by o (to l))) ≡ 1
+    by : (o : Option ℕ) → way_of (lin.Flow (exit_or_jump o (to l))) ≡ 1
     by None = refl
     by (Some n) = refl
 same_way to exits (lin.Flow (flow.Exit l)) = refl
@@ -132,7 +132,7 @@ same_ways : (to : ℕ → ℕ) (exits : ℕ → Option ℕ) (is : List Line) →
 same_ways to exits [] = refl
 same_ways to exits (i ∷ is) = ap (λ n. n + ways_in (map (redirect to exits) is)) (same_way to exits i.op) ∙ ap (λ n. way_of i.op + n) (same_ways to exits is)
 
-redirecting_ways : {m r : Lin} → Redirects m r → ways_in r.code ≡ ways_in m.code
+redirecting_ways : {m r : Lin} → RedirectsTargets m r → ways_in r.code ≡ ways_in m.code
 redirecting_ways {m} h = ap (λ (r : Lin). ways_in r.code) h.is ∙ same_ways h.to h.exits m.code
 
 after_same : {m q r : Lin} → SameShape m q → ways_in q.code ≡ ways_in m.code → KeepsShape q r → KeepsShape m r
@@ -171,7 +171,7 @@ often_shape x (once_more way l) = then_same (often_shape x way) (leaving_shape l
 -- before lines are left out,
 pub turned_shape : {m : Lin} → IsRegular m → KeepsShape m (turned_all (redirected_all m))
 turned_shape {m} regular =
-    let jumps : Redirects m (redirected_all m) = redirects_all m in
+    let jumps : RedirectsTargets m (redirected_all m) = redirects_all m in
     let second : IsRegular (redirected_all m) = redirecting_regular jumps regular in
     after_same (redirecting_shape jumps regular) (redirecting_ways jumps) (turning_shape (turns_all second.well) second)
 
@@ -197,7 +197,7 @@ module _ (number : ℕ → ℕ) where
       by : (g : MachOp) (args results : List Reg) → ways_in rest ≤ length is → ways_in (lines_of number g (instr g args results) rest) ≤ suc (length is)
       by (mach.Op f) args results le = omega (arith, le)
       by (mach.Mark (mark.Exit l k)) args results le =
-          let e = pops_ways k (bare (flow.Exit l) ∷ rest) in omega (arith, le, e)
+          let e = pops_ways k (bare_flow (flow.Exit l) ∷ rest) in omega (arith, le, e)
       by (mach.Mark (mark.If t l)) args results le = omega (arith, le)
       by (mach.Mark (mark.Else l m)) args results le = omega (arith, le)
       by (mach.Mark (mark.Switch ls)) args results le = omega (arith, le)

@@ -4,12 +4,12 @@ use Rattle.std.proofs.lemmas.Bool.{true≢false}
 use Rattle.std.specs.List.{Contains, AllPairs}
 use Rattle.bs_words.specs.declared.types.Comp.{Comp}
 use Rattle.mach_ir.specs.Acts.{At}
-use Rattle.mach_ir.specs.Forms.{results_of}
+use Rattle.mach_ir.specs.Forms.{results_of_type}
 use Rattle.mach_ir.specs.Seats.{AreSeated}
 use Rattle.mach_ir.specs.Walks.{OneOf, this, other}
 use Rattle.mach_ir.specs.declared.op.Op.TheVariants as op
 use Rattle.mach_ir.specs.declared.op.Leaving.TheVariants as leaving
-use Rattle.lin_ir.specs.Formed.{comps, FlowHasForm, label_form, jump_form, exit_form, branch_form, switch_form, push_form, pop_form, enter_form, IsFormed, formed_op, formed_flow, IsHome, is_colour, is_slot, is_home, IsLocation, Locates, IsSelfMove, is_self_move, label_of, labels_in, NamesLabel, goes_to, pushes, EntersAt, enters_here, enters_below, is_exit, places_of, lin_operand_seats, lin_result_seats, WellFormed, bare}
+use Rattle.lin_ir.specs.Formed.{comps, FlowHasForm, label_form, jump_form, exit_form, branch_form, switch_form, push_form, pop_form, enter_form, IsFormedLine, formed_op, formed_flow, IsHome, is_colour, is_slot, is_home, IsLocation, Locates, IsSelfMove, is_self_move, label_of, labels_in, NamesLabel, goes_to, pushes, EntersAt, enters_here, enters_below, is_exit, places_of, lin_operand_seats, lin_result_seats, WellFormed, bare_flow}
 use Rattle.lin_ir.specs.Walks as walks
 use Rattle.lin_ir.specs.Walks.{Reached, TrapsBalance}
 use Rattle.lin_ir.specs.declared.lin.Flow.{Flow}
@@ -24,7 +24,7 @@ use Rattle.linear_rules.proofs.Homes.{IsIn, in_of, contains_of}
 use Rattle.linear_rules.proofs.Lines.{all_of}
 use Rattle.linear_rules.proofs.Marks.{all_in}
 use Rattle.linear_rules.proofs.Walked.{tail_label, tail_in, reached_tail}
-use Rattle.tidy_rules.specs.Redirecting.{goes_by, redirected, redirect, GoesOnTo, itself, and_on, ExitsTo, by_exit, Redirects, Tidies, as_it_is, then_leaves, then_redirects, then_turns}
+use Rattle.tidy_rules.specs.Redirecting.{exit_or_jump, redirected_operation, redirect, GoesOnTo, itself, and_on, ExitsTo, by_exit, RedirectsTargets, Tidies, as_it_is, then_leaves, then_redirects, then_turns}
 use Rattle.tidy_rules.specs.Regular.{AtHomes, IsRegular}
 use Rattle.tidy_rules.proofs.Redirecting.{jump_same, same_labels, same_leaves, same_operands, same_results, T, turned, source, source_line, line_was, op_was}
 use Rattle.tidy_rules.proofs.RedirectingDown.{down_turned}
@@ -37,16 +37,16 @@ use Rattle.tidy_rules.proofs.LeavingDown.{between_tail}
 
 module _ (to : ℕ → ℕ) (exits : ℕ → Option ℕ) (args results : List Spot) where
   abbrev line : LinOp → Line
-  line f = record { op = redirected to exits f; args = args; results = results }
+  line f = record { op = redirected_operation to exits f; args = args; results = results }
 
   of_form : (f : Flow) {xs rs : List Comp} → FlowHasForm f xs rs → comps args ≡ xs → comps results ≡ rs → FlowHasForm f (comps args) (comps results)
   of_form f {xs} {rs} h e u = subst (λ ys. FlowHasForm f ys (comps results)) (sym e) (subst (FlowHasForm f xs) (sym u) h)
 
-  form_turned : {f : Flow} {xs rs : List Comp} → FlowHasForm f xs rs → comps args ≡ xs → comps results ≡ rs → IsFormed (line (lin.Flow f))
+  form_turned : {f : Flow} {xs rs : List Comp} → FlowHasForm f xs rs → comps args ≡ xs → comps results ≡ rs → IsFormedLine (line (lin.Flow f))
   form_turned (label_form {l = l}) e u = formed_flow (of_form (flow.Label l) label_form e u)
   form_turned (jump_form {l = l}) e u = by (exits l)
     where
-      by : (o : Option ℕ) → IsFormed (record { op = lin.Flow (goes_by o (to l)); args = args; results = results })
+      by : (o : Option ℕ) → IsFormedLine (record { op = lin.Flow (exit_or_jump o (to l)); args = args; results = results })
       by None = formed_flow (of_form (flow.Jump (to l)) jump_form e u)
       by (Some n) = formed_flow (of_form (flow.Exit n) exit_form e u)
   form_turned (exit_form {l = l}) e u = formed_flow (of_form (flow.Exit (to l)) exit_form e u)
@@ -56,7 +56,7 @@ module _ (to : ℕ → ℕ) (exits : ℕ → Option ℕ) (args results : List Sp
   form_turned pop_form e u = formed_flow (of_form flow.PopTrap pop_form e u)
   form_turned enter_form e u = formed_flow (of_form flow.EnterTrap enter_form e u)
 
-line_formed : (to : ℕ → ℕ) (exits : ℕ → Option ℕ) {i : Line} → IsFormed i → IsFormed (redirect to exits i)
+line_formed : (to : ℕ → ℕ) (exits : ℕ → Option ℕ) {i : Line} → IsFormedLine i → IsFormedLine (redirect to exits i)
 line_formed to exits (formed_op h) = formed_op h
 line_formed to exits (formed_flow {args = args} {results = results} h) = form_turned to exits args results h refl refl
 
@@ -83,18 +83,18 @@ module _ (to : ℕ → ℕ) (exits : ℕ → Option ℕ) where
   data NamedBy (l : ℕ) (f : LinOp) : Type 0 where
     as_before : NamesLabel l f → NamedBy l f
     goes_on_to : {k : ℕ} → NamesLabel k f → l ≡ to k → NamedBy l f
-    exits_to : {k : ℕ} → NamesLabel k f → exits k ≡ Some l → is_exit (redirected to exits f) ≡ true → NamedBy l f
+    exits_to : {k : ℕ} → NamesLabel k f → exits k ≡ Some l → is_exit (redirected_operation to exits f) ≡ true → NamedBy l f
 
-  names_was : (l : ℕ) (f : LinOp) → NamesLabel l (redirected to exits f) → NamedBy l f
+  names_was : (l : ℕ) (f : LinOp) → NamesLabel l (redirected_operation to exits f) → NamedBy l f
   names_was l (lin.Op f) n = as_before n
   names_was l (lin.Flow (flow.Label k)) n = as_before n
   names_was l (lin.Flow (flow.Jump k)) n = by (exits k) refl n
     where
-      by : (o : Option ℕ) → exits k ≡ o → NamesLabel l (lin.Flow (goes_by o (to k))) → NamedBy l (lin.Flow (flow.Jump k))
+      by : (o : Option ℕ) → exits k ≡ o → NamesLabel l (lin.Flow (exit_or_jump o (to k))) → NamedBy l (lin.Flow (flow.Jump k))
       by None e (goes_to o) = goes_on_to (goes_to this) (one_label (to k) l o)
       by None e (pushes u) = absurd (not_push _ l refl u)
       by (Some n) e (goes_to o) =
-          exits_to (goes_to this) (e ∙ ap Some (sym (one_label n l o))) (ap (λ o. is_exit (lin.Flow (goes_by o (to k)))) e)
+          exits_to (goes_to this) (e ∙ ap Some (sym (one_label n l o))) (ap (λ o. is_exit (lin.Flow (exit_or_jump o (to k)))) e)
       by (Some n) e (pushes u) = absurd (not_push _ l refl u)
   names_was l (lin.Flow (flow.Exit k)) (goes_to o) = goes_on_to (goes_to this) (one_label (to k) l o)
   names_was l (lin.Flow (flow.Exit k)) (pushes e) = absurd (not_push _ l refl e)
@@ -105,7 +105,7 @@ module _ (to : ℕ → ℕ) (exits : ℕ → Option ℕ) where
   names_was l (lin.Flow flow.PopTrap) n = as_before n
   names_was l (lin.Flow flow.EnterTrap) n = as_before n
 
-  pop_was : (f : LinOp) → redirected to exits f ≡ lin.Flow flow.PopTrap → f ≡ lin.Flow flow.PopTrap
+  pop_was : (f : LinOp) → redirected_operation to exits f ≡ lin.Flow flow.PopTrap → f ≡ lin.Flow flow.PopTrap
   pop_was (lin.Op f) e = e
   pop_was (lin.Flow (flow.Label k)) e = e
   pop_was (lin.Flow (flow.Jump k)) e = absurd (not_pop _ (jump_same is_turned true (λ l. refl) (λ l. refl) (exits k) (to k)) e)
@@ -116,7 +116,7 @@ module _ (to : ℕ → ℕ) (exits : ℕ → Option ℕ) where
   pop_was (lin.Flow flow.PopTrap) e = e
   pop_was (lin.Flow flow.EnterTrap) e = e
 
-  push_was : (l : ℕ) (f : LinOp) → redirected to exits f ≡ lin.Flow (flow.PushTrap l) → f ≡ lin.Flow (flow.PushTrap l)
+  push_was : (l : ℕ) (f : LinOp) → redirected_operation to exits f ≡ lin.Flow (flow.PushTrap l) → f ≡ lin.Flow (flow.PushTrap l)
   push_was l (lin.Op f) e = e
   push_was l (lin.Flow (flow.Label k)) e = e
   push_was l (lin.Flow (flow.Jump k)) e = absurd (not_push _ l (jump_same is_turned true (λ l. refl) (λ l. refl) (exits k) (to k)) e)
@@ -140,7 +140,7 @@ module _ (m : Lin) (to : ℕ → ℕ) (exits : ℕ → Option ℕ) (each : (l : 
   labels_turned (i ∷ is) = ap (λ ks. ks ++ labels_in (L is)) (same_labels to exits i.op) ∙ ap (λ ls. label_of i.op ++ ls) (labels_turned is)
 
   enters_turned : {l : ℕ} {is : List Line} → EntersAt l is → EntersAt l (L is)
-  enters_turned (enters_here e u) = enters_here (ap (redirected to exits) e) (ap (redirected to exits) u)
+  enters_turned (enters_here e u) = enters_here (ap (redirected_operation to exits) e) (ap (redirected_operation to exits) u)
   enters_turned (enters_below h) = enters_below (enters_turned h)
 
   lines_same : (is : List Line) → length (L is) ≡ length is
@@ -151,12 +151,12 @@ module _ (m : Lin) (to : ℕ → ℕ) (exits : ℕ → Option ℕ) (each : (l : 
   stands_on : {k n : ℕ} → GoesOnTo m k n → Contains (labels_in m.code) k → Contains (labels_in m.code) n
   stands_on itself c = c
   stands_on (and_on {k = k} {n = n} g p) c =
-      regular.well.named (bare (flow.Jump n)) (contains_of (tail_in (tail_then (between_tail p) (tail_label k m.code)))) n (goes_to this)
+      regular.well.named (bare_flow (flow.Jump n)) (contains_of (tail_in (tail_then (between_tail p) (tail_label k m.code)))) n (goes_to this)
 
   exits_on : {k n : ℕ} → ExitsTo m k n → Contains (labels_in m.code) k → Contains (labels_in m.code) n
   exits_on (by_exit {last = last} {out = out} g p h) c =
       stands_on h
-      (regular.well.named (bare (flow.Exit out)) (contains_of (tail_in (tail_then (between_tail p) (tail_label last m.code)))) out (goes_to this))
+      (regular.well.named (bare_flow (flow.Exit out)) (contains_of (tail_in (tail_then (between_tail p) (tail_label last m.code)))) out (goes_to this))
 
   -- ---- walks
 
@@ -221,8 +221,8 @@ module _ (m : Lin) (to : ℕ → ℕ) (exits : ℕ → Option ℕ) (each : (l : 
   well_turned : WellFormed R
   well_turned =
       record {
-        forms = all_of IsFormed R.code (from_line IsFormed (λ i z. line_formed to exits (all_in IsFormed regular.well.forms z)));
-        returns = λ j c. from_line (λ j. j.op ≡ lin.Op (op.Leaving leaving.Return) → comps j.args ≡ results_of m.result)
+        forms = all_of IsFormedLine R.code (from_line IsFormedLine (λ i z. line_formed to exits (all_in IsFormedLine regular.well.forms z)));
+        returns = λ j c. from_line (λ j. j.op ≡ lin.Op (op.Leaving leaving.Return) → comps j.args ≡ results_of_type m.result)
             (λ i z e. regular.well.returns i (contains_of z) (op_was m to exits each out i.op _ e)) j (in_of j R.code c);
         params = spots_turned m.params regular.well.params;
         locations = all_of (λ (i : Line). Locates R i.args × Locates R i.results) R.code
@@ -239,7 +239,7 @@ module _ (m : Lin) (to : ℕ → ℕ) (exits : ℕ → Option ℕ) (each : (l : 
   move_was : (i : Line) (j : Line) {from to' : Spot} → redirect to exits i ≡ j → IsSelfMove j from to' → IsSelfMove i from to'
   move_was i j e (is_self_move {from = a} {to = b} same) =
       let o = op_was m to exits each out i.op _ (ap (λ (j : Line). j.op) e) in
-      let back : redirect to exits i ≡ i = ap (λ o. record { op = o; args = i.args; results = i.results }) (ap (redirected to exits) o ∙ sym o) in
+      let back : redirect to exits i ≡ i = ap (λ o. record { op = o; args = i.args; results = i.results }) (ap (redirected_operation to exits) o ∙ sym o) in
       subst (λ (k : Line). IsSelfMove k a b) (sym e ∙ back) (is_self_move same)
 
   regular_turned : IsRegular R
@@ -265,10 +265,10 @@ module _ (m : Lin) (to : ℕ → ℕ) (exits : ℕ → Option ℕ) (each : (l : 
   shape_turned : SameShape m R
   shape_turned = record { slots = refl; params = refl; labels = labels_same; lines = omega (arith, lines_same m.code) }
 
-pub redirecting_regular : {m r : Lin} → Redirects m r → IsRegular m → IsRegular r
+pub redirecting_regular : {m r : Lin} → RedirectsTargets m r → IsRegular m → IsRegular r
 redirecting_regular {m} h regular = subst IsRegular (sym h.is) (regular_turned m h.to h.exits h.each h.out regular)
 
-pub redirecting_shape : {m r : Lin} → Redirects m r → IsRegular m → SameShape m r
+pub redirecting_shape : {m r : Lin} → RedirectsTargets m r → IsRegular m → SameShape m r
 redirecting_shape {m} h regular = subst (SameShape m) (sym h.is) (shape_turned m h.to h.exits h.each h.out regular)
 
 -- ---- all

@@ -8,7 +8,7 @@ use Rattle.bs_words.specs.declared.types.Loc.{Loc}
 use Rattle.bs_words.proofs.Lists.{none_in, head_same, tail_same, none_there}
 use Rattle.mach_ir.specs.Acts.{Target, On, At}
 use Rattle.mach_ir.specs.Walks.{OneOf, this, other}
-use Rattle.lin_ir.specs.Formed.{label_of, labels_in, goes_to, is_exit, is_label, GoesDown, WellFormed, bare}
+use Rattle.lin_ir.specs.Formed.{label_of, labels_in, goes_to, is_exit, is_label, GoesDown, WellFormed, bare_flow}
 use Rattle.lin_ir.specs.Meaning.{has_label, after_label, code_at, passes_frame}
 use Rattle.lin_ir.specs.Walks as walks
 use Rattle.lin_ir.specs.Walks.{targets, may_raise, tries_after, Writes, Reached, at_entry, by_step, by_raise, Live, read, on, aside, LiveAcross, across_step, across_raise}
@@ -58,10 +58,10 @@ new_labels (Some t) o = t.here ∷ []
 pub none_left : (j : Line) (js : List Line) → j ∷ js ≡ [] → ⊥
 none_left j js e = cc
 
-exit_unwritten : (k : ℕ) (l : Loc) → Writes (bare (flow.Exit k)) l → ⊥
+exit_unwritten : (k : ℕ) (l : Loc) → Writes (bare_flow (flow.Exit k)) l → ⊥
 exit_unwritten k l w = ⊎_elim (λ y. none_in (record { loc = l; comp = y.0 }) y.1) (λ e. true≢false (sym e)) w
 
-bare_unread : (f : Flow) (l : Loc) (t : Comp) {A : Type 0} → walks.ReadsAs l t (bare f) → A
+bare_unread : (f : Flow) (l : Loc) (t : Comp) {A : Type 0} → walks.ReadsLocationAs l t (bare_flow f) → A
 bare_unread f l t x = absurd (none_in (record { loc = l; comp = t }) x)
 
 abbrev is_pop : Flow → Bool
@@ -167,7 +167,7 @@ module _ (m r : Lin) (h : Turns m r) (well : WellFormed m) where
   branch_stays : (d : Head) {next : List Line} → Tail (head_line d ∷ next) m.code → h.turns (length next) ≡ None
   branch_stays d {next} w = by (h.turns (length next)) refl
     where
-      exits_only : (i : Line) (l : ℕ) → i ≡ bare (flow.Exit l) → is_exit i.op ≡ true
+      exits_only : (i : Line) (l : ℕ) → i ≡ bare_flow (flow.Exit l) → is_exit i.op ≡ true
       exits_only i l e = ap (λ (i : Line). is_exit i.op) e
 
       by : (x : Option Turn) → h.turns (length next) ≡ x → h.turns (length next) ≡ None
@@ -257,7 +257,7 @@ module _ (m r : Lin) (h : Turns m r) (well : WellFormed m) where
   head_tail c = let e = (exit_of c) in subst (λ xs. Tail xs m.code) e.leads (tail_label e.label m.code)
 
   pub turned_code : {next : List Line} {t : Turn} (c : Copied next t) →
-      T (c.line ∷ next) ≡ bare (flow.Exit t.here) ∷ bare (flow.Label t.here) ∷ (tested_again t.keeps t.head ++ T next)
+      T (c.line ∷ next) ≡ bare_flow (flow.Exit t.here) ∷ bare_flow (flow.Label t.here) ∷ (tested_again t.keeps t.head ++ T next)
   turned_code {next} {t} c = ap (λ x. turned_line x (h.opens (length next)) c.line ++ T next) c.turned
 
   pub at_here : {next : List Line} {t : Turn} (c : Copied next t) → after_label t.here R.code ≡ tested_again t.keeps t.head ++ T next
@@ -265,7 +265,7 @@ module _ (m r : Lin) (h : Turns m r) (well : WellFormed m) where
       at_label t.here (tail_next (subst (λ xs. Tail xs R.code) (turned_code c) (tail_image c.stands))) once
 
   pub opened_code : (d : Head) {next : List Line} {l : ℕ} → Tail (head_line d ∷ next) m.code → h.opens (length next) ≡ Some l →
-      T (head_line d ∷ next) ≡ head_line d ∷ bare (flow.Label l) ∷ T next
+      T (head_line d ∷ next) ≡ head_line d ∷ bare_flow (flow.Label l) ∷ T next
   opened_code d {next} {l} w e =
       ap (λ x. turned_line x (h.opens (length next)) (head_line d) ++ T next) (branch_stays d w)
       ∙ ap (λ o. (head_line d ∷ label_put o) ++ T next) e
@@ -284,10 +284,10 @@ module _ (m r : Lin) (h : Turns m r) (well : WellFormed m) where
   pub data Stand : List Line → List Line → List ℕ → Type 0 where
     image : {is js : List Line} {tries : List ℕ} → T is ≡ js → Stand is js tries
     opened : {i : Line} {is js : List Line} {l : ℕ} {tries : List ℕ} → Tail (i ∷ is) m.code → h.opens (length is) ≡ Some l →
-        bare (flow.Label l) ∷ T is ≡ js → Stand is js tries
+        bare_flow (flow.Label l) ∷ T is ≡ js → Stand is js tries
     copied : {next js : List Line} {t : Turn} {tries : List ℕ} (c : Copied next t) → tested_again t.keeps t.head ++ T next ≡ js → Stand (head_code c) js tries
     jumps : {next js : List Line} {t : Turn} {tries : List ℕ} {l : ℕ} (c : Copied next t) (to : Target) → OneOf to (targets (head_line t.head).op) →
-        after_label l R.code ≡ T (code_at m.code (rest_of c) to) → Reached m (head_code c) tries → bare (flow.Jump l) ∷ T next ≡ js →
+        after_label l R.code ≡ T (code_at m.code (rest_of c) to) → Reached m (head_code c) tries → bare_flow (flow.Jump l) ∷ T next ≡ js →
         Stand (code_at m.code (rest_of c) to) js tries
 
   abbrev pub where_of : {is js : List Line} {tries : List ℕ} → Stand is js tries → Where
@@ -311,15 +311,15 @@ module _ (m r : Lin) (h : Turns m r) (well : WellFormed m) where
         Goes (head_line d) rest (after_label d.on R.code) tries top →
         Own (head_line d ∷ rest) (branch_line (opposite_test d.test) d.on d.args) ks tries top
     exits : {l n : ℕ} {next ks : List Line} {tries : List ℕ} {top : Where} → Stand (after_label l m.code) (after_label n R.code) tries →
-        Own (bare (flow.Exit l) ∷ next) (bare (flow.Exit n)) ks tries top
+        Own (bare_flow (flow.Exit l) ∷ next) (bare_flow (flow.Exit n)) ks tries top
 
   -- or it is passed alone
   pub data View : List Line → Line → List Line → List ℕ → Where → Type 0 where
     own : {is ks : List Line} {j : Line} {tries : List ℕ} {top : Where} → Own is j ks tries top → View is j ks tries top
     past_label : {is ks : List Line} {l : ℕ} {tries : List ℕ} {top : Where} → T is ≡ ks →
-        ((d : GoesDown m) → rank_of d.order (own_place is) ≤ rank_of d.order top) → View is (bare (flow.Label l)) ks tries top
+        ((d : GoesDown m) → rank_of d.order (own_place is) ≤ rank_of d.order top) → View is (bare_flow (flow.Label l)) ks tries top
     past_jump : {is ks : List Line} {l : ℕ} {tries : List ℕ} {top : Where} → T is ≡ after_label l R.code →
-        ((d : GoesDown m) → rank_of d.order (own_place is) < rank_of d.order top) → View is (bare (flow.Jump l)) ks tries top
+        ((d : GoesDown m) → rank_of d.order (own_place is) < rank_of d.order top) → View is (bare_flow (flow.Jump l)) ks tries top
 
   own_onto : {is ks js : List Line} {i j : Line} {tries : List ℕ} {top : Where} → i ∷ ks ≡ j ∷ js → Own is i ks tries top → Own is j js tries top
   own_onto {is} {ks} {js} {i} {j} {tries} {top} e o =
@@ -375,7 +375,7 @@ module _ (m r : Lin) (h : Turns m r) (well : WellFormed m) where
       let c : Copied next t = record { line = i; stands = reached_tail m r; turned = u } in
       let x = (exit_of c) in
       own_onto e
-      (subst (λ (i : Line). Own (i ∷ next) (bare (flow.Exit t.here)) (bare (flow.Label t.here) ∷ (tested_again t.keeps t.head ++ T next)) tries
+      (subst (λ (i : Line). Own (i ∷ next) (bare_flow (flow.Exit t.here)) (bare_flow (flow.Label t.here) ∷ (tested_again t.keeps t.head ++ T next)) tries
       (own_place (c.line ∷ next))) (sym x.is)
       (exits
       (subst (λ is. Stand is (after_label t.here R.code) tries) (sym x.leads)
@@ -387,7 +387,7 @@ module _ (m r : Lin) (h : Turns m r) (well : WellFormed m) where
 
   line_some : (x : Option Turn) (o : Option ℕ) (i : Line) (ks : List Line) → turned_line x o i ++ ks ≡ [] → ⊥
   line_some None o i ks e = none_left i (label_put o ++ ks) e
-  line_some (Some t) o i ks e = none_left (bare (flow.Exit t.here)) (bare (flow.Label t.here) ∷ (tested_again t.keeps t.head ++ ks)) e
+  line_some (Some t) o i ks e = none_left (bare_flow (flow.Exit t.here)) (bare_flow (flow.Label t.here) ∷ (tested_again t.keeps t.head ++ ks)) e
 
   -- the second is at its end where the first is
   pub image_some : (i : Line) (next : List Line) → T (i ∷ next) ≡ [] → ⊥
@@ -399,20 +399,20 @@ module _ (m r : Lin) (h : Turns m r) (well : WellFormed m) where
       by : (is : List Line) → T is ≡ [] → is ≡ []
       by [] e = refl
       by (i ∷ next) e = absurd (image_some i next e)
-  stands_none (opened {is = is} {l = l} w o e) u = absurd (none_left (bare (flow.Label l)) (T is) (e ∙ u))
+  stands_none (opened {is = is} {l = l} w o e) u = absurd (none_left (bare_flow (flow.Label l)) (T is) (e ∙ u))
   stands_none (copied {next = next} {t = t} c e) u = absurd (by t.keeps (e ∙ u))
     where
       by : (b : Bool) → tested_again b t.head ++ T next ≡ [] → ⊥
-      by true e = none_left (head_line t.head) (bare (flow.Jump t.head.on) ∷ T next) e
-      by false e = none_left (branch_line (opposite_test t.head.test) t.head.on t.head.args) (bare (flow.Jump t.head.to) ∷ T next) e
-  stands_none (jumps {next = next} {l = l} c to o at r e) u = absurd (none_left (bare (flow.Jump l)) (T next) (e ∙ u))
+      by true e = none_left (head_line t.head) (bare_flow (flow.Jump t.head.on) ∷ T next) e
+      by false e = none_left (branch_line (opposite_test t.head.test) t.head.on t.head.args) (bare_flow (flow.Jump t.head.to) ∷ T next) e
+  stands_none (jumps {next = next} {l = l} c to o at r e) u = absurd (none_left (bare_flow (flow.Jump l)) (T next) (e ∙ u))
 
   own_copy : {j : Line} {ks next : List Line} {t : Turn} {tries : List ℕ} (c : Copied next t) → Reached m (head_code c) tries →
       tested_again t.keeps t.head ++ T next ≡ j ∷ ks → Own (head_code c) j ks tries (copy_place (head_code c))
   own_copy {j} {ks} {next} {t} {tries} c r e = by t.keeps e
     where
       to_jump : {l : ℕ} (to : Target) → OneOf to (targets (head_line t.head).op) → after_label l R.code ≡ T (code_at m.code (rest_of c) to) →
-          Goes (head_line t.head) (code_at m.code (rest_of c) to) (bare (flow.Jump l) ∷ T next) tries (copy_place (head_code c))
+          Goes (head_line t.head) (code_at m.code (rest_of c) to) (bare_flow (flow.Jump l) ∷ T next) tries (copy_place (head_code c))
       to_jump to o e =
           record {
             stand = jumps c to o e r refl;
@@ -421,7 +421,7 @@ module _ (m r : Lin) (h : Turns m r) (well : WellFormed m) where
           }
 
       kept : (to : Target) → OneOf to (targets (head_line t.head).op) →
-          Goes (head_line t.head) (code_at m.code (rest_of c) to) (code_at R.code (bare (flow.Jump t.head.on) ∷ T next) to) tries (copy_place (head_code c))
+          Goes (head_line t.head) (code_at m.code (rest_of c) to) (code_at R.code (bare_flow (flow.Jump t.head.on) ∷ T next) to) tries (copy_place (head_code c))
       kept On o = to_jump On o (at_on c)
       kept (At l) o = goes_label r l o (λ order. refl)
 
@@ -493,7 +493,7 @@ module _ (m r : Lin) (h : Turns m r) (well : WellFormed m) where
   abbrev Was : Loc → Comp → List Line → List ℕ → Type 0
   Was l t js tries = (is : List Line) → Stand is js tries → Reached m is tries → Live m l t is tries
 
-  live_read : {l : Loc} {t : Comp} {is ks : List Line} {j : Line} {tries : List ℕ} {top : Where} → View is j ks tries top → walks.ReadsAs l t j →
+  live_read : {l : Loc} {t : Comp} {is ks : List Line} {j : Line} {tries : List ℕ} {top : Where} → View is j ks tries top → walks.ReadsLocationAs l t j →
       Live m l t is tries
   live_read (own (same rank moves)) x = read x
   live_read (own (other_way holds fails)) x = read x

@@ -5,9 +5,9 @@ use Rattle.std.proofs.lemmas.List.Kept.{AllPairs-cons}
 use Rattle.std.proofs.Math.Nat.{le-max_left, le-max_right}
 use Rattle.std.specs.List.{AllPairs}
 use Rattle.std.proofs.lemmas.Option.{same_Some}
-use Rattle.lin_ir.specs.Formed.{label_of, labels_in, WellFormed, bare}
+use Rattle.lin_ir.specs.Formed.{label_of, labels_in, WellFormed, bare_flow}
 use Rattle.lin_ir.specs.Meaning.{after_label}
-use Rattle.lin_ir.specs.Walks.{Stands, here, below}
+use Rattle.lin_ir.specs.Walks.{StandsAsLine, here, below}
 use Rattle.lin_ir.specs.declared.lin.Flow.TheVariants as flow
 use Rattle.lin_ir.specs.declared.lin.LinOp.{LinOp}
 use Rattle.lin_ir.specs.declared.lin.LinOp.TheVariants as lin
@@ -20,7 +20,7 @@ use Rattle.linear_rules.proofs.Marks.{all_in, Differ}
 use Rattle.linear_rules.proofs.Walked.{Tail, tail_all, tail_next, tail_label, tail_stands, stands_tail, later_label}
 use Rattle.bs_words.proofs.Lists.{pairs_here, head_same}
 use Rattle.tidy_rules.specs.Turning.{Head, Turn, turned_lines, ExitsToBranch, Turns, label_here, label_on, head_by, head_at, stands_first, exit_head, turn_for, line_turn, turn_at, is_on, is_led_to, opened_at, turned_all}
-use Rattle.linear_rules.specs.Lowered.{limit_of}
+use Rattle.linear_rules.specs.Lowered.{limit_above}
 use Rattle.tidy_rules.proofs.Ends.{tail_length, same_tail, pairs_past}
 use Rattle.tidy_rules.proofs.Turning.{head_line, new_labels, labels_of_line}
 
@@ -49,13 +49,13 @@ no_label l e = absurd (out e)
     out e = cc
 
 -- labels that occur are below the first free one
-below_free : {l : ℕ} (ls : List ℕ) → IsIn l ls → l < limit_of ls
+below_free : {l : ℕ} (ls : List ℕ) → IsIn l ls → l < limit_above ls
 below_free {l} [] z = elim z [ ]
 below_free {l} (k ∷ ks) z = by z (λ u. below_free ks u)
   where
-    by : {l k : ℕ} → IsIn l (k ∷ ks) → (IsIn l ks → l < limit_of ks) → l < max (suc k) (limit_of ks)
-    by {l} is_first ih = le-max_left (suc l) (limit_of ks)
-    by {l} {k} (is_later u) ih = let a = ih u in let b = le-max_right (suc k) (limit_of ks) in omega (arith, a, b)
+    by : {l k : ℕ} → IsIn l (k ∷ ks) → (IsIn l ks → l < limit_above ks) → l < max (suc k) (limit_above ks)
+    by {l} is_first ih = le-max_left (suc l) (limit_above ks)
+    by {l} {k} (is_later u) ih = let a = ih u in let b = le-max_right (suc k) (limit_above ks) in omega (arith, a, b)
 
 on_same : (free a b : ℕ) → label_on free a ≡ label_on free b → a ≡ b
 on_same free a b e = omega (arith, e)
@@ -89,7 +89,7 @@ module _ (m : Lin) (free : ℕ) where
 
   record ExitsTo (i : Line) (d : Head) : Type 0 where
     label : ℕ
-    is : i ≡ bare (flow.Exit label)
+    is : i ≡ bare_flow (flow.Exit label)
     at : HeadAt (after_label label m.code) d
 
   exit_found : (f : LinOp) (args results : List Spot) (next : List Line) (d : Head) → exit_head m free f args results next ≡ Some d →
@@ -133,7 +133,7 @@ module _ (m : Lin) (free : ℕ) where
       by false e = e
       by true e = let same : a ≡ b = eqb-true a b e in absurd (omega (arith, same, lt))
 
-  turn_is : {i : Line} {next code : List Line} → Stands i next code → turn_at m free code (length next) ≡ line_turn m free i next
+  turn_is : {i : Line} {next code : List Line} → StandsAsLine i next code → turn_at m free code (length next) ≡ line_turn m free i next
   turn_is {i} {next} here =
       ap (λ b. cond b (line_turn m free i next) (turn_at m free next (length next))) (eq-eqb (length next) (length next) refl)
   turn_is {i} {next} (below {j = j} {is = is} s) =
@@ -146,7 +146,7 @@ module _ (m : Lin) (free : ℕ) where
   record LedTo (l : ℕ) (code : List Line) : Type 0 where
     line : Line
     next : List Line
-    stands : Stands line next code
+    stands : StandsAsLine line next code
     turn : Turn
     is : line_turn m free line next ≡ Some turn
     on : turn.head.on ≡ l
@@ -168,7 +168,7 @@ module _ (m : Lin) (free : ℕ) where
       by None u e ih = lower (ih e)
       by (Some t) u e ih = two t u (nat_eq t.head.on l) refl e ih
 
-  leads_some : {i : Line} {next code : List Line} (t : Turn) → Stands i next code → line_turn m free i next ≡ Some t → is_led_to m free t.head.on code ≡ true
+  leads_some : {i : Line} {next code : List Line} (t : Turn) → StandsAsLine i next code → line_turn m free i next ≡ Some t → is_led_to m free t.head.on code ≡ true
   leads_some {i} {next} t here e =
       ap (λ x. is_on t.head.on x || is_led_to m free t.head.on next) e
       ∙ ap (λ b. b || is_led_to m free t.head.on next) (eq-eqb t.head.on t.head.on refl)
@@ -192,7 +192,7 @@ module _ (m : Lin) (free : ℕ) where
       by true u e = record { led = u; label = sym (same_Some (label_on free n) l e) }
       by false u e = no_label l e
 
-  branch_opened : (i : Line) (next : List Line) (l : ℕ) → Stands i next m.code → opened_at m free (length next) ≡ Some l → (d : Head) × (i ≡ head_line d)
+  branch_opened : (i : Line) (next : List Line) (l : ℕ) → StandsAsLine i next m.code → opened_at m free (length next) ≡ Some l → (d : Head) × (i ≡ head_line d)
   branch_opened i next l s e =
       let led = led_to (label_on free (length next)) m.code (was_opened (length next) l e).led in
       let t = turn_found led.line led.next led.turn led.is in
@@ -201,7 +201,7 @@ module _ (m : Lin) (free : ℕ) where
       let far : length next ≡ length at.rest = on_same free (length next) (length at.rest) (sym led.on ∙ at.on) in
       (led.turn.head, head_same (same_tail (stands_tail s) there (ap suc far)))
 
-  exit_turned : (i : Line) (next : List Line) (t : Turn) → Stands i next m.code → turn_at m free m.code (length next) ≡ Some t →
+  exit_turned : (i : Line) (next : List Line) (t : Turn) → StandsAsLine i next m.code → turn_at m free m.code (length next) ≡ Some t →
       ExitsToBranch m (opened_at m free) i t.head
   exit_turned i next t s e =
       let is = sym (turn_is s) ∙ e in
@@ -315,10 +315,10 @@ module _ (m : Lin) (free : ℕ) where
 pub turns_all : {m : Lin} → WellFormed m → Turns m (turned_all m)
 turns_all {m} well =
     record {
-      turns = turn_at m (limit_of (labels_in m.code)) m.code;
-      opens = opened_at m (limit_of (labels_in m.code));
+      turns = turn_at m (limit_above (labels_in m.code)) m.code;
+      opens = opened_at m (limit_above (labels_in m.code));
       is = refl;
-      branches = λ i next l s e. branch_opened m (limit_of (labels_in m.code)) i next l s e;
-      each = λ i next t s e. exit_turned m (limit_of (labels_in m.code)) i next t s e;
-      labels = distinct m (limit_of (labels_in m.code)) well.labels (λ l z. below_free (labels_in m.code) z) m.code tail_all well.labels;
+      branches = λ i next l s e. branch_opened m (limit_above (labels_in m.code)) i next l s e;
+      each = λ i next t s e. exit_turned m (limit_above (labels_in m.code)) i next t s e;
+      labels = distinct m (limit_above (labels_in m.code)) well.labels (λ l z. below_free (labels_in m.code) z) m.code tail_all well.labels;
     }

@@ -6,14 +6,14 @@ use Rattle.bs_words.specs.declared.types.Comp.TheVariants as comp
 use Rattle.bs_words.specs.declared.values.Value.{Value}
 use Rattle.bs_words.proofs.Lists.{head_same, tail_same}
 use Rattle.cmm_meaning.specs.State.{Doing}
-use Rattle.mach_ir.specs.Acts.{Around, Target, On, At, opposite, truth_of, branches}
-use Rattle.mach_ir.specs.Runs.{Place, Step, Continues}
+use Rattle.mach_ir.specs.Acts.{Around, Target, On, At, opposite, truth_of, goes_by_test}
+use Rattle.mach_ir.specs.Runs.{ActivationSetting, Step, Continues}
 use Rattle.mach_ir.specs.Walks.{OneOf, this, other}
 use Rattle.mach_ir.specs.declared.mach.MachOp.{MachOp}
 use Rattle.mach_ir.specs.declared.op.Op.{Op}
-use Rattle.lin_ir.specs.Formed.{WellFormed, bare}
+use Rattle.lin_ir.specs.Formed.{WellFormed, bare_flow}
 use Rattle.lin_ir.specs.Keeps.{IsNamedIn}
-use Rattle.lin_ir.specs.Meaning.{State, Locations, values, lin_act, on_act, after_label, code_at, passes_frame, start}
+use Rattle.lin_ir.specs.Meaning.{State, Locations, values, lin_act, on_act, after_label, code_at, passes_frame, linear_start}
 use Rattle.lin_ir.specs.Walks as walks
 use Rattle.lin_ir.specs.Walks.{targets, tries_after, Reached, at_entry, by_step, by_raise, LiveAcross}
 use Rattle.lin_ir.specs.declared.lin.Flow.{Flow}
@@ -22,12 +22,12 @@ use Rattle.lin_ir.specs.declared.lin.LinOp.TheVariants as lin
 use Rattle.lin_ir.specs.declared.lin.Line.{Line}
 use Rattle.lin_ir.specs.declared.lin.Lin.{Lin}
 use Rattle.linear_rules.specs.Kept as kept
-use Rattle.linear_rules.specs.Kept.{step, ValsHeld}
+use Rattle.linear_rules.specs.Kept.{lossless_line_step, ValsHeld}
 use Rattle.linear_rules.specs.Lowered.{opposite_test}
 use Rattle.linear_rules.proofs.Homes.{in_of, contains_of}
 use Rattle.linear_rules.proofs.Opposite.{truth_opposite}
 use Rattle.linear_rules.proofs.Walked.{tail_all}
-use Rattle.tidy_rules.specs.Keeps.{SameRound, Begins, KeepsLin}
+use Rattle.tidy_rules.specs.Keeps.{SameRound, TidyBegins, KeepsLin}
 use Rattle.tidy_rules.specs.Regular.{IsRegular}
 use Rattle.tidy_rules.specs.Turning as turning
 use Rattle.tidy_rules.specs.Turning.{branch_line}
@@ -46,7 +46,7 @@ module _ (m r : Lin) (h : turning.Turns m r) (well : WellFormed m) where
   abbrev Stands : List Line → List Line → List ℕ → Type 0
   Stands = Stand m r h well
 
-  module _ (c : Place) where
+  module _ (c : ActivationSetting) where
     abbrev at : List Line → Locations → Around → State
     at is f a = record { rest = is; file = f; around = a }
 
@@ -54,10 +54,10 @@ module _ (m r : Lin) (h : turning.Turns m r) (well : WellFormed m) where
       rel : {is js : List Line} {f : Locations} {a : Around} → Stands is js a.tries → Reached m is a.tries → Rel (at is f a) (at js f a)
 
     abbrev Answer : State → Step State → Type 0
-    Answer = Answers c m (step c Q) (ValsHeld c Q) SameRound Rel
+    Answer = Answers c m (lossless_line_step c Q) (ValsHeld c Q) SameRound Rel
 
     abbrev Arrive : Step State → Step State → Type 0
-    Arrive = Arrives c m (step c Q) (ValsHeld c Q) SameRound Rel
+    Arrive = Arrives c m (lossless_line_step c Q) (ValsHeld c Q) SameRound Rel
 
     -- ---- what is asked at frame points
 
@@ -84,7 +84,7 @@ module _ (m r : Lin) (h : turning.Turns m r) (well : WellFormed m) where
 
     leads : {i : Line} {next ks : List Line} {top : Where} (g : Locations) (a : Around) → Moves m r h well i next ks a.tries top →
         Reached m (i ∷ next) a.tries →
-        Leads c m (step c Q) (ValsHeld c Q) SameRound Rel Q i next ks g g a.tries
+        Leads c m (lossless_line_step c Q) (ValsHeld c Q) SameRound Rel Q i next ks g g a.tries
     leads {i} {next} {ks} g a moves reached =
         record {
           on = λ vs t b g' o e u. (g', u, goes t b o e g');
@@ -104,38 +104,38 @@ module _ (m r : Lin) (h : turning.Turns m r) (well : WellFormed m) where
 
     -- a line of its own, where the second is at what does the same
     answer_own : {is ks : List Line} {j : Line} {top : Where} (g : Locations) (a : Around) → Own m r h well is j ks a.tries top → Reached m is a.tries →
-        ValsHeld c m (at is g a) → Answer (at (j ∷ ks) g a) (step c m (at is g a))
+        ValsHeld c m (at is g a) → Answer (at (j ∷ ks) g a) (lossless_line_step c m (at is g a))
     answer_own {ks = ks} g a (same {i = i} {next = next} rank moves) reached vals =
         steps (line_held g a moves reached vals) (by (values c.setting.end g i.args))
       where
-        by : (o : Option (List Value)) → Arrive (kept.on_values c m i next g a o) (kept.on_values c Q i ks g a o)
+        by : (o : Option (List Value)) → Arrive (kept.on_lossless_line_values c m i next g a o) (kept.on_lossless_line_values c Q i ks g a o)
         by None = first_stuck
         by (Some vs) =
-            acts c m (step c Q) (ValsHeld c Q) SameRound Rel Q i next ks g g a (leads g a moves reached) (lin_act c.setting i.op vs a) (turns c.setting i.op vs a)
+            acts c m (lossless_line_step c Q) (ValsHeld c Q) SameRound Rel Q i next ks g g a (leads g a moves reached) (lin_act c.setting i.op vs a) (turns c.setting i.op vs a)
     answer_own {ks = ks} g a (other_way {d = d} {rest = rest} holds fails) reached vals =
         steps (flow_held (branch_line (opposite_test d.test) d.on d.args) ks g a refl) (by (values c.setting.end g d.args))
       where
         to : {next js : List Line} → Stands next js a.tries → Reached m next a.tries → Arrive (Continues (at next g a)) (Continues (at js g a))
         to s reached = both_continue (rel s reached)
 
-        tested : (o : Option Bool) → Arrive (on_act c m (head_line d) rest g a (branches a (At d.to) On o))
-            (on_act c Q (branch_line (opposite_test d.test) d.on d.args) ks g a (branches a (At d.on) On (opposite o)))
+        tested : (o : Option Bool) → Arrive (on_act c m (head_line d) rest g a (goes_by_test a (At d.to) On o))
+            (on_act c Q (branch_line (opposite_test d.test) d.on d.args) ks g a (goes_by_test a (At d.on) On (opposite o)))
         tested None = first_stuck
         tested (Some true) = to holds.stand (by_step reached (walks.goes (At d.to) (other this)))
         tested (Some false) = to fails.stand (by_step reached (walks.goes On this))
 
-        by : (o : Option (List Value)) → Arrive (kept.on_values c m (head_line d) rest g a o)
-            (kept.on_values c Q (branch_line (opposite_test d.test) d.on d.args) ks g a o)
+        by : (o : Option (List Value)) → Arrive (kept.on_lossless_line_values c m (head_line d) rest g a o)
+            (kept.on_lossless_line_values c Q (branch_line (opposite_test d.test) d.on d.args) ks g a o)
         by None = first_stuck
         by (Some vs) =
-            subst (λ o. Arrive (on_act c m (head_line d) rest g a (branches a (At d.to) On (truth_of (sizes a.memory) d.test vs)))
-            (on_act c Q (branch_line (opposite_test d.test) d.on d.args) ks g a (branches a (At d.on) On o)))
+            subst (λ o. Arrive (on_act c m (head_line d) rest g a (goes_by_test a (At d.to) On (truth_of (sizes a.memory) d.test vs)))
+            (on_act c Q (branch_line (opposite_test d.test) d.on d.args) ks g a (goes_by_test a (At d.on) On o)))
             (sym (truth_opposite (sizes a.memory) d.test vs)) (tested (truth_of (sizes a.memory) d.test vs))
     answer_own {ks = ks} g a (exits {l = l} {n = n} stand) reached vals =
-        steps (flow_held (bare (flow.Exit n)) ks g a refl) (both_pay (rel stand (by_step reached (walks.goes (At l) this))))
+        steps (flow_held (bare_flow (flow.Exit n)) ks g a refl) (both_pay (rel stand (by_step reached (walks.goes (At l) this))))
 
     -- the second goes on alone to a place where it answers
-    alone : {u v : State} {x : Step State} → ValsHeld c Q u → step c Q u ≡ Continues v → Answer v x → Answer u x
+    alone : {u v : State} {x : Step State} → ValsHeld c Q u → lossless_line_step c Q u ≡ Continues v → Answer v x → Answer u x
     alone {u} {v} {x} here e answer = by answer
       where
         on : {x : Step State} → Arrive x (Continues v) → Answer u x
@@ -147,35 +147,35 @@ module _ (m r : Lin) (h : turning.Turns m r) (well : WellFormed m) where
         by (steps there arrives) = on (goes_alone there arrives)
 
     answer_image : (is js : List Line) (g : Locations) (a : Around) → L is ≡ js → Reached m is a.tries → ValsHeld c m (at is g a) →
-        Answer (at js g a) (step c m (at is g a))
+        Answer (at js g a) (lossless_line_step c m (at is g a))
     answer_image [] js g a e reached vals = stuck
     answer_image (i ∷ next) [] g a e reached vals = absurd (image_some m r h well i next e)
     answer_image (i ∷ next) (j ∷ ks) g a e reached vals = answer_own g a (own_image m r h well (i ∷ next) reached e) reached vals
 
     answer : {is : List Line} (js : List Line) (g : Locations) (a : Around) → Stands is js a.tries → Reached m is a.tries → ValsHeld c m (at is g a) →
-        Answer (at js g a) (step c m (at is g a))
-    answer {is} [] g a s reached vals = subst (λ is. Answer (at [] g a) (step c m (at is g a))) (sym (stands_none m r h well s refl)) stuck
+        Answer (at js g a) (lossless_line_step c m (at is g a))
+    answer {is} [] g a s reached vals = subst (λ is. Answer (at [] g a) (lossless_line_step c m (at is g a))) (sym (stands_none m r h well s refl)) stuck
     answer {is} (j ∷ ks) g a s reached vals = by (view m r h well s reached refl) reached vals
       where
         by : {is ks : List Line} {j : Line} {top : Where} → View m r h well is j ks a.tries top → Reached m is a.tries → ValsHeld c m (at is g a) →
-            Answer (at (j ∷ ks) g a) (step c m (at is g a))
+            Answer (at (j ∷ ks) g a) (lossless_line_step c m (at is g a))
         by (own o) reached vals = answer_own g a o reached vals
         by (past_label {is = is} {ks = ks} {l = l} e low) reached vals =
-            alone (flow_held (bare (flow.Label l)) ks g a refl) refl (answer_image is ks g a e reached vals)
+            alone (flow_held (bare_flow (flow.Label l)) ks g a refl) refl (answer_image is ks g a e reached vals)
         by (past_jump {is = is} {ks = ks} {l = l} e low) reached vals =
-            alone (flow_held (bare (flow.Jump l)) ks g a refl) refl (answer_image is (after_label l Q.code) g a e reached vals)
+            alone (flow_held (bare_flow (flow.Jump l)) ks g a refl) refl (answer_image is (after_label l Q.code) g a e reached vals)
 
-    closed : Closed c m (step c Q) (ValsHeld c Q) SameRound Rel
+    closed : Closed c m (lossless_line_step c Q) (ValsHeld c Q) SameRound Rel
     closed = record { around = λ s u r. around_same s u r; next = λ s u r vals. next_same s u r vals }
       where
         around_same : (s u : State) → Rel s u → s.around ≡ u.around
         around_same s u (rel s' r) = refl
 
-        next_same : (s u : State) → Rel s u → ValsHeld c m s → Answer u (step c m s)
+        next_same : (s u : State) → Rel s u → ValsHeld c m s → Answer u (lossless_line_step c m s)
         next_same s u (rel {js = js} {f = f} {a = a} stand reached) vals = answer js f a stand reached vals
 
-    turning_begins : (arguments : List Value) (memory : Memory) (doings : List Doing) (s : State) → start c m arguments memory ≡ Some s →
-        Begins SameRound c m Q arguments memory doings s
+    turning_begins : (arguments : List Value) (memory : Memory) (doings : List Doing) (s : State) → linear_start c m arguments memory ≡ Some s →
+        TidyBegins SameRound c m Q arguments memory doings s
     turning_begins = begins_alike c m Q refl SameRound Rel closed (λ f memory. rel (image refl) at_entry)
 
   named_before : (Named : MachOp → Type 0) → IsNamedIn Named Q → IsNamedIn Named m

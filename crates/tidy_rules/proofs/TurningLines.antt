@@ -1,7 +1,7 @@
 -- Loops turned round: where each line of the function comes from.
 use Rattle.std.proofs.Common.{◌≡◌, ℕ, Bool, true, false, ◌⊎◌, ⊎_elim, List, [], ◌∷◌, length, Option, Some, None, refl, subst}
 use Rattle.mach_ir.specs.Walks.{this, other}
-use Rattle.lin_ir.specs.Formed.{labels_in, WellFormed, bare}
+use Rattle.lin_ir.specs.Formed.{labels_in, WellFormed, bare_flow}
 use Rattle.lin_ir.specs.declared.lin.Flow.{Flow}
 use Rattle.lin_ir.specs.declared.lin.Flow.TheVariants as flow
 use Rattle.lin_ir.specs.declared.lin.LinOp.TheVariants as lin
@@ -22,10 +22,10 @@ module _ (m r : Lin) (h : Turns m r) (well : WellFormed m) where
 
   -- a line that was not there
   pub data IsNew : Line → Type 0 where
-    new_exit : {l : ℕ} → IsIn l (labels_in Q.code) → IsNew (bare (flow.Exit l))
-    new_label : {l : ℕ} → IsNew (bare (flow.Label l))
+    new_exit : {l : ℕ} → IsIn l (labels_in Q.code) → IsNew (bare_flow (flow.Exit l))
+    new_label : {l : ℕ} → IsNew (bare_flow (flow.Label l))
     new_branch : {d : Head} → IsIn (head_line d) m.code → IsIn d.on (labels_in Q.code) → IsNew (branch_line (opposite_test d.test) d.on d.args)
-    new_jump : {l : ℕ} → IsIn l (labels_in Q.code) → IsNew (bare (flow.Jump l))
+    new_jump : {l : ℕ} → IsIn l (labels_in Q.code) → IsNew (bare_flow (flow.Jump l))
 
   pub data From (j : Line) : Type 0 where
     was_line : IsIn j m.code → From j
@@ -38,7 +38,7 @@ module _ (m r : Lin) (h : Turns m r) (well : WellFormed m) where
   new_flow (new_branch {d = d} z s) = (flow.Branch (opposite_test d.test) d.on, refl)
   new_flow (new_jump {l = l} z) = (flow.Jump l, refl)
 
-  label_there : {l : ℕ} {js zs : List Line} → Tail (bare (flow.Label l) ∷ js) zs → IsIn l (labels_in zs)
+  label_there : {l : ℕ} {js zs : List Line} → Tail (bare_flow (flow.Label l) ∷ js) zs → IsIn l (labels_in zs)
   label_there w = later_label w is_first
 
   module _ {next : List Line} {t : Turn} (c : Copied m r h well next t) where

@@ -7,7 +7,7 @@ use Rattle.mach_ir.specs.Forms.{IsTested}
 use Rattle.mach_ir.specs.Seats.{AreSeated, anywhere}
 use Rattle.mach_ir.specs.Walks.{OneOf, this, other}
 use Rattle.mach_ir.specs.declared.mach.Test.{Test}
-use Rattle.lin_ir.specs.Formed.{comps, FlowHasForm, label_form, jump_form, exit_form, branch_form, switch_form, push_form, pop_form, enter_form, IsFormed, formed_op, formed_flow, IsHome, is_colour, is_slot, is_home, IsLocation, Locates, IsSelfMove, is_self_move, labels_in, NamesLabel, goes_to, pushes, EntersAt, enters_here, enters_below, places_of, lin_operand_seats, lin_result_seats, is_exit, is_label, GoesDown, WellFormed}
+use Rattle.lin_ir.specs.Formed.{comps, FlowHasForm, label_form, jump_form, exit_form, branch_form, switch_form, push_form, pop_form, enter_form, IsFormedLine, formed_op, formed_flow, IsHome, is_colour, is_slot, is_home, IsLocation, Locates, IsSelfMove, is_self_move, labels_in, NamesLabel, goes_to, pushes, EntersAt, enters_here, enters_below, places_of, lin_operand_seats, lin_result_seats, is_exit, is_label, GoesDown, WellFormed}
 use Rattle.lin_ir.specs.Walks as walks
 use Rattle.lin_ir.specs.Meaning.{after_label, code_at}
 use Rattle.lin_ir.specs.Walks.{targets, may_raise, Reached, by_step, by_raise, TrapsBalance}
@@ -98,10 +98,10 @@ module _ (m r : Lin) (h : Turns m r) (regular : IsRegular m) where
 
   -- ---- lines
 
-  branch_formed : (d : Head) → IsFormed (head_line d) → IsTested d.test (comps d.args)
+  branch_formed : (d : Head) → IsFormedLine (head_line d) → IsTested d.test (comps d.args)
   branch_formed d f = by f refl
     where
-      by : {i : Line} → IsFormed i → i ≡ head_line d → IsTested d.test (comps d.args)
+      by : {i : Line} → IsFormedLine i → i ≡ head_line d → IsTested d.test (comps d.args)
       by (formed_op {f = f} h) e = absurd (flow_not_op (flow.Branch d.test d.to) (sym (ap (λ (i : Line). i.op) e)))
       by (formed_flow {f = f} {args = args} {results = results} h) e =
           tests h (same_flow f (flow.Branch d.test d.to) (ap (λ (i : Line). i.op) e)) (ap (λ (i : Line). comps i.args) e)
@@ -122,14 +122,14 @@ module _ (m r : Lin) (h : Turns m r) (regular : IsRegular m) where
           tests pop_form u v = absurd (no_branch flow.PopTrap refl u)
           tests enter_form u v = absurd (no_branch flow.EnterTrap refl u)
 
-  new_formed : {j : Line} → IsNew m r h regular.well j → IsFormed j
+  new_formed : {j : Line} → IsNew m r h regular.well j → IsFormedLine j
   new_formed (new_exit z) = formed_flow exit_form
   new_formed new_label = formed_flow label_form
-  new_formed (new_branch {d = d} z s) = formed_flow (branch_form (tested_opposite (branch_formed d (all_in IsFormed well.forms z))))
+  new_formed (new_branch {d = d} z s) = formed_flow (branch_form (tested_opposite (branch_formed d (all_in IsFormedLine well.forms z))))
   new_formed (new_jump z) = formed_flow jump_form
 
-  line_formed : {j : Line} → From m r h regular.well j → IsFormed j
-  line_formed (was_line z) = all_in IsFormed well.forms z
+  line_formed : {j : Line} → From m r h regular.well j → IsFormedLine j
+  line_formed (was_line z) = all_in IsFormedLine well.forms z
   line_formed (new_line n) = new_formed n
 
   home_turned : {l : _} → IsHome m l → IsHome Q l
@@ -350,7 +350,7 @@ module _ (m r : Lin) (h : Turns m r) (regular : IsRegular m) where
   well_turned : WellFormed Q
   well_turned =
       record {
-        forms = all_of IsFormed Q.code (λ j z. line_formed (came z));
+        forms = all_of IsFormedLine Q.code (λ j z. line_formed (came z));
         returns = λ j c e. well.returns j (contains_of (op_there (came (in_of j Q.code c)) e)) e;
         params = spots_turned m.params well.params;
         locations = all_of (λ (i : Line). Locates Q i.args × Locates Q i.results) Q.code
@@ -424,7 +424,7 @@ module _ (m r : Lin) (h : Turns m r) (regular : IsRegular m) where
       lower (past_jump a low) reached e u t (other o) = elim o [ ]
 
       step_lower : {j : Line} {ks to : List Line} {tries left : List ℕ} → Reached Q (j ∷ ks) tries → is_exit j.op ≡ false → is_label j.op ≡ false →
-          walks.Leads Q j ks tries to left →
+          walks.LineWalkStep Q j ks tries to left →
           order (length to) < order (suc (length ks))
       step_lower s e u (walks.goes t o) =
           let y = source m r h regular.well s in

@@ -56,7 +56,7 @@ of_op ops.ends_in = ends_in
 of_op ops.raising_in = raising_in
 of_op ops.stuck_in = stuck_in
 
-branches_in : (t : Test) (l : ℕ) (a : Around) (o : Option Bool) → Turns (lin.Flow (flow.Branch t l)) a.tries (acts.branches a (At l) On o)
+branches_in : (t : Test) (l : ℕ) (a : Around) (o : Option Bool) → Turns (lin.Flow (flow.Branch t l)) a.tries (acts.goes_by_test a (At l) On o)
 branches_in t l a (Some true) = goes_in (other this) refl
 branches_in t l a (Some false) = goes_in this refl
 branches_in t l a None = stuck_in

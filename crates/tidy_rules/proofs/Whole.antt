@@ -4,10 +4,10 @@ use Rattle.mach_ir.specs.Walks as mach_walks
 use Rattle.mach_ir.specs.declared.mach.Mach.{Mach}
 use Rattle.lin_ir.specs.Descriptors.{NamesLives, NoAddrLive}
 use Rattle.lin_ir.specs.Formed.{IsTight}
-use Rattle.lin_ir.specs.Keeps.{Keeps}
+use Rattle.lin_ir.specs.Keeps.{LinearKeeps}
 use Rattle.lin_ir.specs.Meaning.{NamedAt, passes_frame}
 use Rattle.lin_ir.specs.Walks as walks
-use Rattle.lin_ir.specs.Walks.{Stands, Reached, Live, by_walk, after_step}
+use Rattle.lin_ir.specs.Walks.{StandsAsLine, Reached, Live, by_walk, after_step}
 use Rattle.lin_ir.specs.declared.lin.Line.{Line}
 use Rattle.lin_ir.specs.declared.lin.Lin.{Lin}
 use Rattle.linear_rules.specs.Keeps.{KeepsReached}
@@ -25,7 +25,7 @@ use Rattle.tidy_rules.proofs.Tidied.{tidied_regular}
 
 module _ (m : Lin) (regular : IsRegular m) (tidy : IsTidy m) where
   -- each frame point is reached
-  pub points_reached : (i : Line) (next : List Line) → Stands i next m.code → passes_frame i.op ≡ true → (tries : List ℕ) × Reached m (i ∷ next) tries
+  pub points_reached : (i : Line) (next : List Line) → StandsAsLine i next m.code → passes_frame i.op ≡ true → (tries : List ℕ) × Reached m (i ∷ next) tries
   points_reached i next s e = tidy.reached i next s (frame_landing i.op e)
 
   -- A tidy function is tight.
@@ -46,7 +46,7 @@ module _ (m : Lin) (regular : IsRegular m) (tidy : IsTidy m) where
 
 -- What has been made tidy keeps the Mach function with exact names, and so never reads poison where that is not stuck.
 pub tidied_keeps : {p : Mach} {m r : Lin} → KeepsReached p m → IsRegular m → Tidies m r → IsTidy r → mach_walks.NoAddrLive p → (named : NamedAt) →
-    NamesLives r named → Keeps p r named
+    NamesLives r named → LinearKeeps p r named
 tidied_keeps {p} {m} {r} keeps regular tidies tidy safe named exact =
     let left = tidied_regular tidies regular in
     keeps_named p r (keeps_tidied keeps regular tidies) left.well left.traps (points_reached r left tidy) safe named exact
@@ -59,7 +59,7 @@ tidied_no_addr {p} {m} {r} keeps regular tidies tidy safe =
 -- what holds of a function that was made tidy
 pub record Whole (p : Mach) (m r : Lin) : Type 0 where
   -- with exact names it does what the Mach function does, and so never reads poison where that is not stuck
-  pub keeps : (named : NamedAt) → NamesLives r named → Keeps p r named
+  pub keeps : (named : NamedAt) → NamesLives r named → LinearKeeps p r named
   pub tight : IsTight r
   pub no_addr : NoAddrLive r
   -- it is well formed, goes down and is seated, and each place is reached with the same traps

@@ -5,13 +5,13 @@ use Rattle.bs_words.specs.External.{External}
 use Rattle.bs_words.specs.Memory.{Memory}
 use Rattle.bs_words.specs.declared.values.Value.{Value}
 use Rattle.cmm_meaning.specs.State.{Doing}
-use Rattle.mach_ir.specs.Runs.{Place, first_tally}
+use Rattle.mach_ir.specs.Runs.{ActivationSetting, first_tally}
 use Rattle.mach_ir.specs.Keeps.{NamesSymbol, NamesExternal}
-use Rattle.lin_ir.specs.Meaning.{State, start}
+use Rattle.lin_ir.specs.Meaning.{State, linear_start}
 use Rattle.lin_ir.specs.Keeps.{IsNamedIn}
 use Rattle.lin_ir.specs.declared.lin.Lin.{Lin}
 use Rattle.linear_rules.specs.Keeps.{NoAddrReached}
-use Rattle.linear_rules.specs.Kept.{run, Proper, Comes}
+use Rattle.linear_rules.specs.Kept.{run_of_lowered, Proper, LosslessComes}
 
 -- both have the same memory, unwritten cells, traps and raised value
 abbrev pub SameRound : State → State → Type 0
@@ -19,23 +19,23 @@ SameRound s u = s.around ≡ u.around
 
 -- The second begins where the first does, and comes to what that comes to. What states of both have
 -- in common while both are under way is handed in.
-pub record Begins (Suit : State → State → Type 0) (c : Place) (m r : Lin) (arguments : List Value)
+pub record TidyBegins (Suit : State → State → Type 0) (c : ActivationSetting) (m r : Lin) (arguments : List Value)
     (memory : Memory) (doings : List Doing) (s : State) : Type 0 where
   pub state : State
-  pub begins : start c r arguments memory ≡ Some state
+  pub begins : linear_start c r arguments memory ≡ Some state
   pub follows : (n : ℕ) → Proper c m n s (first_tally c doings) →
-      Comes Suit (run c m n s (first_tally c doings)) c r state (first_tally c doings)
+      LosslessComes Suit (run_of_lowered c m n s (first_tally c doings)) c r state (first_tally c doings)
 
-abbrev pub Does : (State → State → Type 0) → Lin → Lin → Type 0
-Does Suit m r =
-    (c : Place) (arguments : List Value) (memory : Memory) (doings : List Doing) (s : State) →
-    start c m arguments memory ≡ Some s → Begins Suit c m r arguments memory doings s
+abbrev pub TidySimulation : (State → State → Type 0) → Lin → Lin → Type 0
+TidySimulation Suit m r =
+    (c : ActivationSetting) (arguments : List Value) (memory : Memory) (doings : List Doing) (s : State) →
+    linear_start c m arguments memory ≡ Some s → TidyBegins Suit c m r arguments memory doings s
 
 pub record KeepsLin (Suit : State → State → Type 0) (m r : Lin) : Type 0 where
   pub name : r.name ≡ m.name
   pub result : r.result ≡ m.result
   -- calls in the same memories, end and units are the same wherever the first is not stuck
-  pub does : Does Suit m r
+  pub does : TidySimulation Suit m r
   -- no new symbol, and no new external call
   pub symbols : (name : List ℕ) → IsNamedIn (NamesSymbol name) r →
       IsNamedIn (NamesSymbol name) m

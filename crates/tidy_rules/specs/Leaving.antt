@@ -1,9 +1,9 @@
 -- Lines that a Linear function does without.
 use Rattle.std.specs.Prelude.{◌≡◌, ℕ, Bool, true, false, cond, List, [], ◌∷◌, length}
 use Rattle.bs_words.specs.declared.types.Comp.{Comp}
-use Rattle.lin_ir.specs.Formed.{IsSelfMove, bare}
+use Rattle.lin_ir.specs.Formed.{IsSelfMove, bare_flow}
 use Rattle.lin_ir.specs.Meaning.{after_label}
-use Rattle.lin_ir.specs.Walks.{Stands, Reached, Live}
+use Rattle.lin_ir.specs.Walks.{StandsAsLine, Reached, Live}
 use Rattle.lin_ir.specs.declared.lin.Spot.{Spot}
 use Rattle.lin_ir.specs.declared.lin.Flow.TheVariants as flow
 use Rattle.lin_ir.specs.declared.lin.LinOp.{LinOp}
@@ -22,7 +22,7 @@ is_landing _ = false
 pub data LabelsBetween : List Line → List Line → Type 0 where
   none_between : {to : List Line} → LabelsBetween to to
   label_between : {l : ℕ} {next to : List Line} → LabelsBetween next to →
-      LabelsBetween (bare (flow.Label l) ∷ next) to
+      LabelsBetween (bare_flow (flow.Label l) ∷ next) to
 
 -- why a line, before this code, has no use
 pub data IsUseless (m : Lin) (i : Line) (next : List Line) : Type 0 where
@@ -35,13 +35,13 @@ pub data IsUseless (m : Lin) (i : Line) (next : List Line) : Type 0 where
       Live m to.loc t next tries → ⊥) →
       IsUseless m i next
   -- it jumps to where control comes without it
-  skipped : {l : ℕ} → i ≡ bare (flow.Jump l) → LabelsBetween next (after_label l m.code) →
+  skipped : {l : ℕ} → i ≡ bare_flow (flow.Jump l) → LabelsBetween next (after_label l m.code) →
       IsUseless m i next
 
 -- the lines without those at these places, by the number of lines after each
-abbrev pub without : (ℕ → Bool) → List Line → List Line
-without goes [] = []
-without goes (i ∷ next) = cond (goes (length next)) (without goes next) (i ∷ without goes next)
+abbrev pub without_lines : (ℕ → Bool) → List Line → List Line
+without_lines goes [] = []
+without_lines goes (i ∷ next) = cond (goes (length next)) (without_lines goes next) (i ∷ without_lines goes next)
 
 abbrev pub with_code : Lin → List Line → Lin
 with_code m code = record m { code = code }
@@ -49,8 +49,8 @@ with_code m code = record m { code = code }
 -- the second function is the first without some lines that have no use
 pub record LeavesOut (m r : Lin) : Type 0 where
   pub goes : ℕ → Bool
-  pub is : r ≡ with_code m (without goes m.code)
-  pub each : (i : Line) (next : List Line) → Stands i next m.code →
+  pub is : r ≡ with_code m (without_lines goes m.code)
+  pub each : (i : Line) (next : List Line) → StandsAsLine i next m.code →
       goes (length next) ≡ true → IsUseless m i next
 
 -- lines that have no use are left out as often as one likes

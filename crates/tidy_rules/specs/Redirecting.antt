@@ -1,7 +1,7 @@
 -- Jumps that go at once where the jumps lead to which they go.
 use Rattle.std.specs.Option.{unwrap_or, option_map}
 use Rattle.std.specs.Prelude.{◌≡◌, ℕ, zero, suc, Bool, true, false, cond, Option, Some, None, List, [], ◌∷◌, length, map}
-use Rattle.lin_ir.specs.Formed.{bare}
+use Rattle.lin_ir.specs.Formed.{bare_flow}
 use Rattle.lin_ir.specs.Meaning.{after_label}
 use Rattle.lin_ir.specs.declared.lin.Flow.{Flow}
 use Rattle.lin_ir.specs.declared.lin.Flow.TheVariants as flow
@@ -14,37 +14,37 @@ use Rattle.tidy_rules.specs.Leaving.{LabelsBetween, with_code, LeavesOut}
 use Rattle.tidy_rules.specs.Turning.{Turns}
 
 -- what a jump becomes: an exit to the first label, if it is one, and else a jump to the second
-abbrev pub goes_by : Option ℕ → ℕ → Flow
-goes_by (Some n) l = flow.Exit n
-goes_by None l = flow.Jump l
+abbrev pub exit_or_jump : Option ℕ → ℕ → Flow
+exit_or_jump (Some n) l = flow.Exit n
+exit_or_jump None l = flow.Jump l
 
 -- Jumps, exits and branches go elsewhere. A jump whose label leads to an exit is an exit itself, and
 -- so counts the unit. The rows of a table and the handlers of pushed traps stay where they are.
-abbrev pub redirected : (to : ℕ → ℕ) (exits : ℕ → Option ℕ) → LinOp → LinOp
-redirected to exits (lin.Flow (flow.Jump l)) = lin.Flow (goes_by (exits l) (to l))
-redirected to exits (lin.Flow (flow.Exit l)) = lin.Flow (flow.Exit (to l))
-redirected to exits (lin.Flow (flow.Branch test l)) = lin.Flow (flow.Branch test (to l))
-redirected to exits f = f
+abbrev pub redirected_operation : (to : ℕ → ℕ) (exits : ℕ → Option ℕ) → LinOp → LinOp
+redirected_operation to exits (lin.Flow (flow.Jump l)) = lin.Flow (exit_or_jump (exits l) (to l))
+redirected_operation to exits (lin.Flow (flow.Exit l)) = lin.Flow (flow.Exit (to l))
+redirected_operation to exits (lin.Flow (flow.Branch test l)) = lin.Flow (flow.Branch test (to l))
+redirected_operation to exits f = f
 
 abbrev pub redirect : (to : ℕ → ℕ) (exits : ℕ → Option ℕ) → Line → Line
 redirect to exits i =
-    record { op = redirected to exits i.op; args = i.args; results = i.results }
+    record { op = redirected_operation to exits i.op; args = i.args; results = i.results }
 
 -- from the first label control goes by labels and jumps alone to the second
 pub data GoesOnTo (m : Lin) (l : ℕ) : ℕ → Type 0 where
   itself : GoesOnTo m l l
   and_on : {k n : ℕ} {next : List Line} → GoesOnTo m l k →
-      LabelsBetween (after_label k m.code) (bare (flow.Jump n) ∷ next) → GoesOnTo m l n
+      LabelsBetween (after_label k m.code) (bare_flow (flow.Jump n) ∷ next) → GoesOnTo m l n
 
 -- from the first label control goes by labels and jumps alone to an exit, and from there to the
 -- second
 pub data ExitsTo (m : Lin) (l n : ℕ) : Type 0 where
   by_exit : {last out : ℕ} {next : List Line} → GoesOnTo m l last →
-      LabelsBetween (after_label last m.code) (bare (flow.Exit out) ∷ next) →
+      LabelsBetween (after_label last m.code) (bare_flow (flow.Exit out) ∷ next) →
       GoesOnTo m out n → ExitsTo m l n
 
 -- the second function is the first with other ways to the same places
-pub record Redirects (m r : Lin) : Type 0 where
+pub record RedirectsTargets (m r : Lin) : Type 0 where
   pub to : ℕ → ℕ
   pub exits : ℕ → Option ℕ
   pub is : r ≡ with_code m (map (redirect to exits) m.code)
@@ -55,9 +55,9 @@ pub record Redirects (m r : Lin) : Type 0 where
 -- ---- all jumps at once
 
 -- it is a label, with no operands
-abbrev pub is_label : LinOp → (args results : List Spot) → Bool
-is_label (lin.Flow (flow.Label l)) [] [] = true
-is_label _ args results = false
+abbrev pub is_label_line : LinOp → (args results : List Spot) → Bool
+is_label_line (lin.Flow (flow.Label l)) [] [] = true
+is_label_line _ args results = false
 
 -- where a jump with no operands goes
 abbrev pub jumps_to : LinOp → (args results : List Spot) → Option ℕ
@@ -73,7 +73,7 @@ exits_to _ args results = None
 abbrev pub first_goes : (LinOp → (args results : List Spot) → Option ℕ) → List Line → Option ℕ
 first_goes goes [] = None
 first_goes goes (i ∷ next) =
-    cond (is_label i.op i.args i.results) (first_goes goes next) (goes i.op i.args i.results)
+    cond (is_label_line i.op i.args i.results) (first_goes goes next) (goes i.op i.args i.results)
 
 -- where the first line that is no label jumps
 abbrev pub leads_to : List Line → Option ℕ
@@ -94,16 +94,16 @@ followed m (suc n) l = followed m n (next_label m l)
 
 -- where one comes from a label by labels and jumps; jumps that lead round are followed once for
 -- each line
-abbrev pub last_label : Lin → ℕ → ℕ
-last_label m l = followed m (length m.code) l
+abbrev pub final_label : Lin → ℕ → ℕ
+final_label m l = followed m (length m.code) l
 
 -- where one comes from there by an exit, and by labels and jumps again
 abbrev pub last_exit : Lin → ℕ → Option ℕ
-last_exit m l = option_map (last_label m) (leaves_to (after_label (last_label m l) m.code))
+last_exit m l = option_map (final_label m) (leaves_to (after_label (final_label m l) m.code))
 
 -- the function in which jumps go at once where others lead
 abbrev pub redirected_all : Lin → Lin
-redirected_all m = with_code m (map (redirect (last_label m) (last_exit m)) m.code)
+redirected_all m = with_code m (map (redirect (final_label m) (last_exit m)) m.code)
 
 -- ---- changes in any order
 
@@ -111,5 +111,5 @@ redirected_all m = with_code m (map (redirect (last_label m) (last_exit m)) m.co
 pub data Tidies (m : Lin) : Lin → Type 0 where
   as_it_is : Tidies m m
   then_leaves : {q r : Lin} → Tidies m q → LeavesOut q r → Tidies m r
-  then_redirects : {q r : Lin} → Tidies m q → Redirects q r → Tidies m r
+  then_redirects : {q r : Lin} → Tidies m q → RedirectsTargets q r → Tidies m r
   then_turns : {q r : Lin} → Tidies m q → Turns q r → Tidies m r

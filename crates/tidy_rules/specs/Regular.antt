@@ -1,9 +1,9 @@
 -- What each change of the lines keeps, and what holds when all are done.
 use Rattle.std.specs.Prelude.{◌≡◌, ◌≢◌, ℕ, false, List, ◌∷◌, All, Contains}
 use Rattle.bs_words.specs.declared.types.Comp.{Comp}
-use Rattle.lin_ir.specs.Formed.{IsHome, IsSelfMove, Seated, GoesDown, WellFormed, bare}
+use Rattle.lin_ir.specs.Formed.{IsHome, IsSelfMove, Seated, GoesDown, WellFormed, bare_flow}
 use Rattle.lin_ir.specs.Meaning.{after_label}
-use Rattle.lin_ir.specs.Walks.{Stands, Reached, Live}
+use Rattle.lin_ir.specs.Walks.{StandsAsLine, Reached, Live}
 use Rattle.lin_ir.specs.declared.lin.Flow.TheVariants as flow
 use Rattle.lin_ir.specs.declared.lin.Spot.{Spot}
 use Rattle.lin_ir.specs.declared.lin.Line.{Line}
@@ -34,10 +34,10 @@ pub record IsReadBehind (m : Lin) (i : Line) (next : List Line) (to : Spot) : Ty
 
 -- No line is left that has no use.
 pub record IsTidy (m : Lin) : Type 0 where
-  pub reached : (i : Line) (next : List Line) → Stands i next m.code → is_landing i.op ≡ false →
+  pub reached : (i : Line) (next : List Line) → StandsAsLine i next m.code → is_landing i.op ≡ false →
       (tries : List ℕ) × Reached m (i ∷ next) tries
-  pub read : (i : Line) (next : List Line) → Stands i next m.code → (from to : Spot) →
+  pub read : (i : Line) (next : List Line) → StandsAsLine i next m.code → (from to : Spot) →
       IsSelfMove i from to → IsReadBehind m i next to
   -- no jump leads to where control comes without it
-  pub jumps : (l : ℕ) (next : List Line) → Stands (bare (flow.Jump l)) next m.code →
+  pub jumps : (l : ℕ) (next : List Line) → StandsAsLine (bare_flow (flow.Jump l)) next m.code →
       LabelsBetween next (after_label l m.code) → ⊥

@@ -1,6 +1,6 @@
 -- What a function is made into: one that is tidy.
 use Rattle.std.specs.Prelude.{◌≡◌, ℕ, false, List, ◌∷◌}
-use Rattle.lin_ir.specs.Formed.{IsSelfMove, bare}
+use Rattle.lin_ir.specs.Formed.{IsSelfMove, bare_flow}
 use Rattle.lin_ir.specs.Meaning.{after_label}
 use Rattle.lin_ir.specs.Walks.{Reached}
 use Rattle.lin_ir.specs.declared.lin.Flow.TheVariants as flow
@@ -23,4 +23,4 @@ pub record IsTidied (m r : Lin) : Type 0 where
 pub record IsUseful (m : Lin) (i : Line) (next : List Line) : Type 0 where
   pub reached : is_landing i.op ≡ false → (tries : List ℕ) × Reached m (i ∷ next) tries
   pub read : (from to : Spot) → IsSelfMove i from to → IsReadBehind m i next to
-  pub jumps : (l : ℕ) → i ≡ bare (flow.Jump l) → LabelsBetween next (after_label l m.code) → ⊥
+  pub jumps : (l : ℕ) → i ≡ bare_flow (flow.Jump l) → LabelsBetween next (after_label l m.code) → ⊥

@@ -1,9 +1,9 @@
 -- Loops that are turned round. Where an exit leads to a branch, the branch is repeated right after
 -- the exit, so that a turn of a loop has no jump back to its test.
 use Rattle.std.specs.Prelude.{◌≡◌, ◌≢◌, ℕ, suc, ◌+◌, ◌*◌, Bool, true, false, cond, ◌||◌, ◌&&◌, nat_eq, nat_le, Option, Some, None, List, [], ◌∷◌, ◌++◌, length, AllPairs}
-use Rattle.lin_ir.specs.Formed.{labels_in, bare}
+use Rattle.lin_ir.specs.Formed.{labels_in, bare_flow}
 use Rattle.lin_ir.specs.Meaning.{after_label, has_label}
-use Rattle.lin_ir.specs.Walks.{Stands}
+use Rattle.lin_ir.specs.Walks.{StandsAsLine}
 use Rattle.lin_ir.specs.declared.lin.Flow.{Flow}
 use Rattle.lin_ir.specs.declared.lin.Flow.TheVariants as flow
 use Rattle.lin_ir.specs.declared.lin.LinOp.{LinOp}
@@ -12,7 +12,7 @@ use Rattle.lin_ir.specs.declared.lin.Spot.{Spot}
 use Rattle.lin_ir.specs.declared.lin.Line.{Line}
 use Rattle.lin_ir.specs.declared.lin.Lin.{Lin}
 use Rattle.mach_ir.specs.declared.mach.Test.{Test}
-use Rattle.linear_rules.specs.Lowered.{opposite_test, limit_of}
+use Rattle.linear_rules.specs.Lowered.{opposite_test, limit_above}
 use Rattle.tidy_rules.specs.Leaving.{with_code}
 
 -- A branch to a label, and a label that is put right after it.
@@ -34,19 +34,19 @@ abbrev pub branch_line : Test → ℕ → List Spot → Line
 branch_line t l args = record { op = lin.Flow (flow.Branch t l); args = args; results = [] }
 
 abbrev pub tested_again : Bool → Head → List Line
-tested_again true h = branch_line h.test h.to h.args ∷ bare (flow.Jump h.on) ∷ []
-tested_again false h = branch_line (opposite_test h.test) h.on h.args ∷ bare (flow.Jump h.to) ∷ []
+tested_again true h = branch_line h.test h.to h.args ∷ bare_flow (flow.Jump h.on) ∷ []
+tested_again false h = branch_line (opposite_test h.test) h.on h.args ∷ bare_flow (flow.Jump h.to) ∷ []
 
 -- a label that may be put after a line
 abbrev pub label_put : Option ℕ → List Line
 label_put None = []
-label_put (Some l) = bare (flow.Label l) ∷ []
+label_put (Some l) = bare_flow (flow.Label l) ∷ []
 
 -- what is in place of a line
 abbrev pub turned_line : Option Turn → Option ℕ → Line → List Line
 turned_line None opened i = i ∷ label_put opened
 turned_line (Some t) opened i =
-    bare (flow.Exit t.here) ∷ bare (flow.Label t.here) ∷ tested_again t.keeps t.head
+    bare_flow (flow.Exit t.here) ∷ bare_flow (flow.Label t.here) ∷ tested_again t.keeps t.head
 
 -- all lines, by the number of lines after each
 abbrev pub turned_lines : (turns : ℕ → Option Turn) (opens : ℕ → Option ℕ) → List Line → List Line
@@ -57,7 +57,7 @@ turned_lines turns opens (i ∷ next) =
 -- the line is an exit, to a branch after which that label is put
 pub record ExitsToBranch (m : Lin) (opens : ℕ → Option ℕ) (i : Line) (h : Head) : Type 0 where
   pub label : ℕ
-  pub is : i ≡ bare (flow.Exit label)
+  pub is : i ≡ bare_flow (flow.Exit label)
   pub rest : List Line
   pub leads : after_label label m.code ≡ branch_line h.test h.to h.args ∷ rest
   pub opened : opens (length rest) ≡ Some h.on
@@ -68,9 +68,9 @@ pub record Turns (m r : Lin) : Type 0 where
   pub opens : ℕ → Option ℕ
   pub is : r ≡ with_code m (turned_lines turns opens m.code)
   -- labels are put after branches alone
-  pub branches : (i : Line) (next : List Line) (l : ℕ) → Stands i next m.code →
+  pub branches : (i : Line) (next : List Line) (l : ℕ) → StandsAsLine i next m.code →
       opens (length next) ≡ Some l → (h : Head) × (i ≡ branch_line h.test h.to h.args)
-  pub each : (i : Line) (next : List Line) (t : Turn) → Stands i next m.code →
+  pub each : (i : Line) (next : List Line) (t : Turn) → StandsAsLine i next m.code →
       turns (length next) ≡ Some t → ExitsToBranch m opens i t.head
   -- each label occurs once
   pub labels : AllPairs (λ k l. k ≢ l) (labels_in r.code)
@@ -154,5 +154,5 @@ opened_at m free n =
 -- after it.
 abbrev pub turned_all : Lin → Lin
 turned_all m =
-    let free = limit_of (labels_in m.code) in
+    let free = limit_above (labels_in m.code) in
     with_code m (turned_lines (turn_at m free m.code) (opened_at m free) m.code)

@@ -1,7 +1,7 @@
 -- Labels that are between two places.
 use Rattle.std.proofs.Common.{◌≡◌, ℕ, ◌+◌, ◌<◌, ◌≤◌, List, ◌∷◌, length, drop, get_or, refl, sym, ap, ◌∙◌, subst, arith}
 use Rattle.std.proofs.lemmas.List.{drop_more, length-drop}
-use Rattle.lin_ir.specs.Formed.{bare}
+use Rattle.lin_ir.specs.Formed.{bare_flow}
 use Rattle.lin_ir.specs.declared.lin.Flow.TheVariants as flow
 use Rattle.lin_ir.specs.declared.lin.Line.{Line}
 use Rattle.tidy_rules.specs.Leaving.{LabelsBetween, none_between, label_between}
@@ -13,7 +13,7 @@ shorter : {a b : List Line} → LabelsBetween a b → length b ≤ length a
 shorter {a} none_between = omega arith
 shorter (label_between p) = let le = shorter p in omega (arith, le)
 
-inner : {i : Line} {a b : List Line} → LabelsBetween (i ∷ a) b → length b ≤ length a → ((l : ℕ) × (i ≡ bare (flow.Label l))) × LabelsBetween a b
+inner : {i : Line} {a b : List Line} → LabelsBetween (i ∷ a) b → length b ≤ length a → ((l : ℕ) × (i ≡ bare_flow (flow.Label l))) × LabelsBetween a b
 inner {i} {a} none_between le = absurd (omega (arith, le))
 inner (label_between {l = l} p) le = ((l, refl), p)
 
@@ -34,7 +34,7 @@ lengths : (code : List Line) (k to : ℕ) → k < to → to ≤ length code → 
 lengths code k to lt le = let a = length-drop to code in let b = length-drop (k + 1) code in omega (arith, a, b, lt, le)
 
 pub same_more : (code : List Line) (from k to : ℕ) (i : Line) → k < to → to ≤ length code → i ≡ get_or code k i →
-    (l : ℕ) × (i ≡ bare (flow.Label l)) → SameFrom code from k to → SameFrom code from (k + 1) to
+    (l : ℕ) × (i ≡ bare_flow (flow.Label l)) → SameFrom code from k to → SameFrom code from (k + 1) to
 same_more code from k to i lt le e label h =
     let here : drop k code ≡ i ∷ drop (k + 1) code = drop_line code k i (omega (arith, lt, le)) e in
     record {
@@ -45,7 +45,7 @@ same_more code from k to i lt le e label h =
     }
 
 pub not_between : (code : List Line) (from k to : ℕ) (i : Line) → k < to → to ≤ length code → i ≡ get_or code k i →
-    ((l : ℕ) × (i ≡ bare (flow.Label l)) → ⊥) → SameFrom code from k to → Between code from to → ⊥
+    ((l : ℕ) × (i ≡ bare_flow (flow.Label l)) → ⊥) → SameFrom code from k to → Between code from to → ⊥
 not_between code from k to i lt le e out h p =
     let here : drop k code ≡ i ∷ drop (k + 1) code = drop_line code k i (omega (arith, lt, le)) e in
     out (inner (subst (λ xs. LabelsBetween xs (drop to code)) here (h.back p)) (lengths code k to lt le)).0

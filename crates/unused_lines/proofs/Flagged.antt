@@ -5,11 +5,11 @@ use Rattle.std.proofs.lemmas.List.{length-drop, append-nil, get_or_append_left, 
 use Rattle.std.specs.Prelude.{slice_index_or, IsTrue}
 use Rattle.lin_ir.specs.declared.lin.Line.{Line}
 use Rattle.lin_ir.specs.declared.lin.Lin.{Lin}
-use Rattle.tidy_rules.specs.Leaving.{without}
+use Rattle.tidy_rules.specs.Leaving.{without_lines}
 use Rattle.bs_words.proofs.Lists.{head_same}
 use Rattle.unused_lines.proofs.Between.{drop_line}
 use Rattle.unused_lines.specs.Forms.{IsNoSelfMove}
-use Rattle.unused_lines.specs.Flags.{TellsUse, AreFlags, NoMoveGoes, goes_by, kept, unless_gone}
+use Rattle.unused_lines.specs.Flags.{TellsUse, AreUseFlags, NoMoveGoes, is_flagged_unused, unflagged_lines, unless_gone}
 
 -- ---- flags so far
 
@@ -39,29 +39,29 @@ flags_more m flags more k b h tells e =
           (cases_lt p k);
     }
 
-pub flags_all : (m : Lin) (flags : List Bool) (k : ℕ) → k ≡ length m.code → FlagsSoFar m flags k → AreFlags m flags
+pub flags_all : (m : Lin) (flags : List Bool) (k : ℕ) → k ≡ length m.code → FlagsSoFar m flags k → AreUseFlags m flags
 flags_all m flags k e h = record { len = h.len ∙ e; each = λ p lt. h.each p (omega (arith, lt, e)) }
 
 -- ---- the lines that are kept
 
 pub kept_next : (b : Bool) (flags : List Bool) (i : Line) (old new rest : List Line) → new ≡ old ++ unless_gone b i →
-    new ++ kept flags rest ≡ old ++ kept (b ∷ flags) (i ∷ rest)
-kept_next true flags i old new rest e = ap (λ xs. xs ++ kept flags rest) (e ∙ append-nil old)
-kept_next false flags i old new rest e = ap (λ xs. xs ++ kept flags rest) e ∙ append_assoc old (i ∷ []) (kept flags rest)
+    new ++ unflagged_lines flags rest ≡ old ++ unflagged_lines (b ∷ flags) (i ∷ rest)
+kept_next true flags i old new rest e = ap (λ xs. xs ++ unflagged_lines flags rest) (e ∙ append-nil old)
+kept_next false flags i old new rest e = ap (λ xs. xs ++ unflagged_lines flags rest) e ∙ append_assoc old (i ∷ []) (unflagged_lines flags rest)
 
-pub kept_rest : (i : Line) (old new rest : List Line) → new ≡ old ++ unless_gone false i → new ++ kept [] rest ≡ old ++ kept [] (i ∷ rest)
+pub kept_rest : (i : Line) (old new rest : List Line) → new ≡ old ++ unless_gone false i → new ++ unflagged_lines [] rest ≡ old ++ unflagged_lines [] (i ∷ rest)
 kept_rest i old new rest e = ap (λ xs. xs ++ rest) e ∙ append_assoc old (i ∷ []) rest
 
-pub kept_none : (flags : List Bool) → kept flags [] ≡ []
+pub kept_none : (flags : List Bool) → unflagged_lines flags [] ≡ []
 kept_none [] = refl
 kept_none (b ∷ flags) = refl
 
 -- ---- by the number of lines after a line
 
-without_same : (g h : ℕ → Bool) (code : List Line) → ((n : ℕ) → n < length code → g n ≡ h n) → without g code ≡ without h code
+without_same : (g h : ℕ → Bool) (code : List Line) → ((n : ℕ) → n < length code → g n ≡ h n) → without_lines g code ≡ without_lines h code
 without_same g h [] same = refl
 without_same g h (i ∷ next) same =
-    ap (λ b. cond b (without g next) (i ∷ without g next)) (same (length next) (omega arith))
+    ap (λ b. cond b (without_lines g next) (i ∷ without_lines g next)) (same (length next) (omega arith))
     ∙ ap (λ xs. cond (h (length next)) xs (i ∷ xs)) (without_same g h next (λ n lt. same n (omega (arith, lt))))
 
 zero_left : (n k : ℕ) → n ≡ k → suc n - suc k ≡ 0
@@ -70,20 +70,20 @@ zero_left n k e = omega (arith, e)
 one_left : (n k : ℕ) → k < n → suc n - suc k ≡ suc (n - suc k)
 one_left n k lt = omega (arith, lt)
 
-pub kept_without : (flags : List Bool) (code : List Line) → length flags ≡ length code → kept flags code ≡ without (goes_by flags) code
+pub kept_without : (flags : List Bool) (code : List Line) → length flags ≡ length code → unflagged_lines flags code ≡ without_lines (is_flagged_unused flags) code
 kept_without [] [] len = refl
 kept_without [] (i ∷ next) len = absurd (omega (arith, len))
 kept_without (b ∷ flags) [] len = absurd (omega (arith, len))
 kept_without (b ∷ flags) (i ∷ next) len =
     let same : length flags ≡ length next = omega (arith, len) in
-    let first : goes_by (b ∷ flags) (length next) ≡ b = ap (λ k. get_or (b ∷ flags) k false) (zero_left (length flags) (length next) same) in
-    let rest : kept flags next ≡ without (goes_by (b ∷ flags)) next =
+    let first : is_flagged_unused (b ∷ flags) (length next) ≡ b = ap (λ k. get_or (b ∷ flags) k false) (zero_left (length flags) (length next) same) in
+    let rest : unflagged_lines flags next ≡ without_lines (is_flagged_unused (b ∷ flags)) next =
     kept_without flags next same
-    ∙ without_same (goes_by flags) (goes_by (b ∷ flags)) next
+    ∙ without_same (is_flagged_unused flags) (is_flagged_unused (b ∷ flags)) next
     (λ n lt. sym (ap (λ k. get_or (b ∷ flags) k false) (one_left (length flags) n (omega (arith, lt, same))))) in
-    by b ∙ ap (λ xs. cond b xs (i ∷ xs)) rest ∙ ap (λ c. cond c (without (goes_by (b ∷ flags)) next) (i ∷ without (goes_by (b ∷ flags)) next)) (sym first)
+    by b ∙ ap (λ xs. cond b xs (i ∷ xs)) rest ∙ ap (λ c. cond c (without_lines (is_flagged_unused (b ∷ flags)) next) (i ∷ without_lines (is_flagged_unused (b ∷ flags)) next)) (sym first)
   where
-    by : (c : Bool) → kept (c ∷ flags) (i ∷ next) ≡ cond c (kept flags next) (i ∷ kept flags next)
+    by : (c : Bool) → unflagged_lines (c ∷ flags) (i ∷ next) ≡ cond c (unflagged_lines flags next) (i ∷ unflagged_lines flags next)
     by true = refl
     by false = refl
 

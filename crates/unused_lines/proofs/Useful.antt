@@ -10,7 +10,7 @@ use Rattle.bs_words.specs.declared.types.Loc.{Loc}
 use Rattle.bs_words.proofs.Lists.{drop_none, head_same, tail_same}
 use Rattle.mach_ir.specs.Acts.{Target, On}
 use Rattle.mach_ir.specs.Walks.{OneOf, this, other}
-use Rattle.lin_ir.specs.Formed.{IsSelfMove, is_self_move, bare}
+use Rattle.lin_ir.specs.Formed.{IsSelfMove, is_self_move, bare_flow}
 use Rattle.lin_ir.specs.Meaning.{after_label, code_at}
 use Rattle.lin_ir.specs.Walks.{targets, tries_after, Reached, Live, LiveAfter, after_step, goes}
 use Rattle.lin_ir.specs.declared.lin.Flow.TheVariants as flow
@@ -21,9 +21,9 @@ use Rattle.lin_ir.specs.declared.lin.Lin.{Lin}
 use Rattle.lin_ir.specs.declared.lin.Spot.{Spot}
 use Rattle.lin_laws.proofs.Numbers.{loc_of_number, number_below}
 use Rattle.lin_laws.proofs.Places.{drop_is, ends_label, place_is, place_drop}
-use Rattle.lin_laws.specs.Graph.{loc_of, place_of, position, HasNumber, HaveNumbers, AreNumbered}
+use Rattle.lin_laws.specs.Graph.{location_of_number, line_index, position, HasNumber, HaveNumbers, AreNumbered}
 use Rattle.lin_laws.specs.declared.position.Position.{Position}
-use Rattle.lin_laws.specs.Numbers.{number_in}
+use Rattle.lin_laws.specs.Numbers.{number_of_location}
 use Rattle.lin_flow.specs.Walked.{AreLive, IsReachedAt, IsReadAfter}
 use Rattle.lin_flow.specs.Sizes.{IsCountable}
 use Rattle.lin_flow.proofs.Visiting.{results_numbered}
@@ -120,10 +120,10 @@ only_on (is_self_move same) (other o) = elim o [ ]
 self_numbered : (slots : ℕ) {i : Line} {from to : Spot} → IsSelfMove i from to → HaveNumbers slots i.results → HasNumber slots to.loc
 self_numbered slots (is_self_move same) h = all_in (λ (s : Spot). HasNumber slots s.loc) h (is_first {xs = []})
 
-jump_copies : {i : Line} {l : ℕ} {from to : Spot} → i ≡ bare (flow.Jump l) → IsSelfMove i from to → ⊥
+jump_copies : {i : Line} {l : ℕ} {from to : Spot} → i ≡ bare_flow (flow.Jump l) → IsSelfMove i from to → ⊥
 jump_copies e z = true≢false (sym (self_copies z) ∙ ap (λ (i : Line). copies i.op) e)
 
-jump_landing : {i : Line} {l : ℕ} → i ≡ bare (flow.Jump l) → is_landing i.op ≡ false
+jump_landing : {i : Line} {l : ℕ} → i ≡ bare_flow (flow.Jump l) → is_landing i.op ≡ false
 jump_landing e = ap (λ (i : Line). is_landing i.op) e
 
 -- ---- idle lines
@@ -136,12 +136,12 @@ line_at m p i slice lt same e j next d =
 
 -- the number of a location that the line at a place moves to itself fits
 pub moved_small : (m : Lin) (p : ℕ) (i : Line) (slice : List Line) → AreNumbered m → IsCountable m → p < length m.code → slice ≡ m.code →
-    i ≡ get_or slice p i → (l : Loc) → MovesItself i l → number_in l < 4294967296
+    i ≡ get_or slice p i → (l : Loc) → MovesItself i l → number_of_location l < 4294967296
 moved_small m p i slice numbered countable lt same e l moves =
     let here = drop_line m.code p i lt (e ∙ ap (λ xs. get_or xs p i) same) in
     let below = number_below m.slots moves.to.loc (self_numbered m.slots moves.is (results_numbered m numbered p i (drop (p + 1) m.code) here)) in
     let slots = countable.slots in
-    subst (λ l. number_in l < 4294967296) moves.at (omega (arith, below, slots))
+    subst (λ l. number_of_location l < 4294967296) moves.at (omega (arith, below, slots))
 
 not_false : (b : Bool) → not b ≡ true → b ≡ false
 not_false false e = refl
@@ -152,20 +152,20 @@ not_true true e = refl
 not_true false e = absurd (true≢false e)
 
 module _ (m : Lin) (p : ℕ) (i : Line) (at : (j : Line) (next : List Line) → drop p m.code ≡ j ∷ next → i ≡ j) where
-  pub idle_move : (w : LiveWalks) (l : Loc) (n : ℕ) (b : Bool) → MovesItself i l → n ≡ number_in l →
-      ((v : Lin) → AreLive v w → IsTrue b ↔ IsReadAfter v p (loc_of n)) → TellsIdle m w p (not b)
+  pub idle_move : (w : LiveWalks) (l : Loc) (n : ℕ) (b : Bool) → MovesItself i l → n ≡ number_of_location l →
+      ((v : Lin) → AreLive v w → IsTrue b ↔ IsReadAfter v p (location_of_number n)) → TellsIdle m w p (not b)
   idle_move w l n b moves e same =
-      let Named : Lin → ℕ → Type 0 = λ v k. IsReadAfter v p (loc_of k) in
+      let Named : Lin → ℕ → Type 0 = λ v k. IsReadAfter v p (location_of_number k) in
       record {
         yes = λ t v h j next d.
             let z : IsSelfMove j moves.from moves.to = subst (λ (k : Line). IsSelfMove k moves.from moves.to) (at j next d) moves.is in
             not_read z
-            (λ r. true≢false (sym ((same v h).1 (subst (Named v) (ap number_in moves.at ∙ sym e) r)) ∙ not_false b t));
+            (λ r. true≢false (sym ((same v h).1 (subst (Named v) (ap number_of_location moves.at ∙ sym e) r)) ∙ not_false b t));
         no = λ t v h j next d.
             let z : IsSelfMove j moves.from moves.to = subst (λ (k : Line). IsSelfMove k moves.from moves.to) (at j next d) moves.is in
             record {
               read = λ from to y.
-                  subst (Named v) (e ∙ ap number_in (sym moves.at ∙ self_one z y)) ((same v h).0 (not_true b t));
+                  subst (Named v) (e ∙ ap number_of_location (sym moves.at ∙ self_one z y)) ((same v h).0 (not_true b t));
               jumps = λ k u q. jump_copies u z;
             };
       }
@@ -181,14 +181,14 @@ module _ (m : Lin) (p : ℕ) (i : Line) (at : (j : Line) (next : List Line) → 
             };
       }
 
-  pub skip_none : ((l : ℕ) → i ≡ bare (flow.Jump l) → ⊥) → TellsSkipped m p false
+  pub skip_none : ((l : ℕ) → i ≡ bare_flow (flow.Jump l) → ⊥) → TellsSkipped m p false
   skip_none none =
       record {
         yes = λ t. absurd (true≢false (sym t));
         no = λ t j next d x. none x.label (at j next d ∙ x.is);
       }
 
-  pub skip_jump : (l to : ℕ) (b : Bool) → i ≡ bare (flow.Jump l) → to ≡ place_of m (after_label l m.code) → p < length m.code →
+  pub skip_jump : (l to : ℕ) (b : Bool) → i ≡ bare_flow (flow.Jump l) → to ≡ line_index m (after_label l m.code) → p < length m.code →
       (p + 1 ≤ length m.code → IsTrue b ↔ LabelsBetween (drop (p + 1) m.code) (drop to m.code)) → TellsSkipped m p b
   skip_jump l to b is e lt same =
       let both = same (omega (arith, lt)) in
@@ -213,7 +213,7 @@ module _ (m : Lin) (p : ℕ) (i : Line) (at : (j : Line) (next : List Line) → 
       label_of (lin.Flow (flow.Jump k)) = k
       label_of _ = 0
 
-      label_one : (k l : ℕ) → bare (flow.Jump k) ≡ bare (flow.Jump l) → k ≡ l
+      label_one : (k l : ℕ) → bare_flow (flow.Jump k) ≡ bare_flow (flow.Jump l) → k ≡ l
       label_one k l e = ap (λ (i : Line). label_of i.op) e
 
 -- ---- where no line moves a location to itself
@@ -270,8 +270,8 @@ module _ (m : Lin) (w : Walks) (reached : ℕ) (h : IsSearched m w reached) wher
   pub searched_first : (p : ℕ) → p ≤ length m.code → IsReachedAt m p → HasFirst w.search p reached
   searched_first p le r =
       let y = h.walked.reached.complete (drop p m.code) r.tries r.reached in
-      let x : Position = position (place_of m (drop p m.code)) r.tries in
-      let lt : y.0 < length (search.all_of w.search) = slice_get_within (search.all_of w.search) y.0 x y.1 in
+      let x : Position = position (line_index m (drop p m.code)) r.tries in
+      let lt : y.0 < length (search.all_positions w.search) = slice_get_within (search.all_positions w.search) y.0 x y.1 in
       let count = h.count in
       let both = h.walked.all in
       record {
@@ -289,7 +289,7 @@ module _ (m : Lin) (numbered : AreNumbered m) (p : ℕ) where
   here_tail : (i : Line) (next : List Line) → drop p m.code ≡ i ∷ next → Tail (i ∷ next) m.code
   here_tail i next d = subst (λ xs. Tail xs m.code) d (drop_tail p m.code)
 
-  self_loc : (i : Line) (next : List Line) → drop p m.code ≡ i ∷ next → {from to : Spot} → IsSelfMove i from to → loc_of (number_in to.loc) ≡ to.loc
+  self_loc : (i : Line) (next : List Line) → drop p m.code ≡ i ∷ next → {from to : Spot} → IsSelfMove i from to → location_of_number (number_of_location to.loc) ≡ to.loc
   self_loc i next d {to = to} z =
       loc_of_number m.slots to.loc
       (self_numbered m.slots z (all_in (λ (i : Line). HaveNumbers m.slots i.results) numbered.results (tail_in (here_tail i next d))))
@@ -318,7 +318,7 @@ module _ (m : Lin) (numbered : AreNumbered m) (p : ℕ) where
 
   -- what is read after it as anything
   read_vals : (i : Line) (next : List Line) → drop p m.code ≡ i ∷ next → {from to : Spot} → IsSelfMove i from to → (tries : List ℕ) →
-      Reached m (i ∷ next) tries → (t : Comp) → Live m to.loc t next tries → IsReadAfter V p (loc_of (number_in to.loc))
+      Reached m (i ∷ next) tries → (t : Comp) → Live m to.loc t next tries → IsReadAfter V p (location_of_number (number_of_location to.loc))
   read_vals i next d {to = to} z tries r t v =
       let g : GoesOn i to = self_goes z in
       record {
@@ -328,12 +328,12 @@ module _ (m : Lin) (numbered : AreNumbered m) (p : ℕ) where
         tries = tries;
         reached = reached_vals m r;
         live = after_step (goes On g.on)
-            (subst (λ ts. Live V (loc_of (number_in to.loc)) comp.Val (map line_as_vals next) ts) (sym (g.tries tries))
+            (subst (λ ts. Live V (location_of_number (number_of_location to.loc)) comp.Val (map line_as_vals next) ts) (sym (g.tries tries))
             (subst (λ l. Live V l comp.Val (map line_as_vals next) tries) (sym (self_loc i next d z)) (live_vals m v)));
       }
 
   vals_read : (i : Line) (next : List Line) → drop p m.code ≡ i ∷ next → {from to : Spot} → IsSelfMove i from to →
-      IsReadAfter V p (loc_of (number_in to.loc)) → IsReadBehind m i next to
+      IsReadAfter V p (location_of_number (number_of_location to.loc)) → IsReadBehind m i next to
   vals_read i next d {from} {to} z x =
       let same : x.line ∷ x.next ≡ line_as_vals i ∷ map line_as_vals next = sym x.at ∙ vals_here p m.code i next d in
       let line : x.line ≡ line_as_vals i = head_same same in
@@ -348,15 +348,15 @@ module _ (m : Lin) (numbered : AreNumbered m) (p : ℕ) where
         live = y.1;
       }
     where
-      by : x.line ≡ line_as_vals i → x.next ≡ map line_as_vals next → GoesOn i to → LiveAfter V (loc_of (number_in to.loc)) comp.Val x.line x.next x.tries →
+      by : x.line ≡ line_as_vals i → x.next ≡ map line_as_vals next → GoesOn i to → LiveAfter V (location_of_number (number_of_location to.loc)) comp.Val x.line x.next x.tries →
           Live V to.loc comp.Val (map line_as_vals next) x.tries
       by line rest g (after_step (goes t o) v) =
           let on : t ≡ On = only_on z (subst (λ (j : Line). OneOf t (targets j.op)) line o) in
           let same : tries_after x.line.op x.tries ≡ x.tries = ap (λ (j : Line). tries_after j.op x.tries) line ∙ g.tries x.tries in
           subst (λ l. Live V l comp.Val (map line_as_vals next) x.tries) (self_loc i next d z)
-          (subst (λ xs. Live V (loc_of (number_in to.loc)) comp.Val xs x.tries) rest
-          (subst (λ ts. Live V (loc_of (number_in to.loc)) comp.Val x.next ts) same
-          (subst (λ t. Live V (loc_of (number_in to.loc)) comp.Val (code_at V.code x.next t) (tries_after x.line.op x.tries)) on v)))
+          (subst (λ xs. Live V (location_of_number (number_of_location to.loc)) comp.Val xs x.tries) rest
+          (subst (λ ts. Live V (location_of_number (number_of_location to.loc)) comp.Val x.next ts) same
+          (subst (λ t. Live V (location_of_number (number_of_location to.loc)) comp.Val (code_at V.code x.next t) (tries_after x.line.op x.tries)) on v)))
 
   pub use_idle : (w : LiveWalks) (b : Bool) → AreLive V w → IsReachedAt V p →
       ((i : Line) (next : List Line) → drop p m.code ≡ i ∷ next → is_landing i.op ≡ false) → TellsIdle m w p b → TellsUse m p b

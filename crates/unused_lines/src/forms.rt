@@ -3,7 +3,7 @@ ghost use Rattle.std.specs.Prelude.{◌≡◌, ◌↔◌, ℕ, All, Some, IfSome
 ghost use Rattle.bs_words.specs.declared.types.Loc.{Loc};
 ghost use Rattle.std.specs.Option.{option_to_list};
 ghost use Rattle.mach_ir.specs.Labels.{is_that_label};
-ghost use Rattle.lin_ir.specs.Formed.{IsSelfMove, label_of, bare};
+ghost use Rattle.lin_ir.specs.Formed.{IsSelfMove, label_of, bare_flow};
 ghost use Rattle.lin_ir.specs.Meaning.{has_label};
 ghost use Rattle.lin_ir.specs.declared.lin.Spot.{Spot};
 ghost use Rattle.tidy_rules.specs.Leaving.{is_landing};
@@ -115,7 +115,7 @@ fn has_no_spots(line: &Line) -> bool
 
 /// The label to which the line jumps, if it is a jump.
 pub fn jump_of(line: &Line) -> Option<Label>
-    ensures { (l : ℕ) → (result ≡ Some l) ↔ (line.now ≡ bare (Flow.Jump l)) }
+    ensures { (l : ℕ) → (result ≡ Some l) ↔ (line.now ≡ bare_flow (Flow.Jump l)) }
 {
     if !has_no_spots(line) {
         return None;
@@ -135,7 +135,7 @@ pub fn jump_of(line: &Line) -> Option<Label>
 
 /// The label to which the line exits, if it is an exit.
 pub fn exit_of(line: &Line) -> Option<Label>
-    ensures { (l : ℕ) → (result ≡ Some l) ↔ (line.now ≡ bare (Flow.Exit l)) }
+    ensures { (l : ℕ) → (result ≡ Some l) ↔ (line.now ≡ bare_flow (Flow.Exit l)) }
 {
     if !has_no_spots(line) {
         return None;
@@ -155,7 +155,7 @@ pub fn exit_of(line: &Line) -> Option<Label>
 
 /// Whether the line is a label.
 pub fn is_label(line: &Line) -> bool
-    ensures { IsTrue result ↔ ((l : ℕ) × (line.now ≡ bare (Flow.Label l))) }
+    ensures { IsTrue result ↔ ((l : ℕ) × (line.now ≡ bare_flow (Flow.Label l))) }
 {
     if !has_no_spots(line) {
         return false;

@@ -1,8 +1,8 @@
 //! Lines left out.
 ghost use Rattle.std.specs.Prelude.{◌≡◌, ◌↔◌, ◌++◌, ◌∷◌, List, All, false, length, IfOk, IsTrue};
 ghost use Rattle.lin_ir.specs.declared.lin.Line.{Line};
-ghost use Rattle.tidy_rules.specs.Leaving.{without, with_code};
-ghost use Rattle.unused_lines.specs.Flags.{NoMoveGoes, goes_by, kept, unless_gone};
+ghost use Rattle.tidy_rules.specs.Leaving.{without_lines, with_code};
+ghost use Rattle.unused_lines.specs.Flags.{NoMoveGoes, is_flagged_unused, unflagged_lines, unless_gone};
 ghost use Rattle.unused_lines.specs.Forms.{IsNoSelfMove};
 
 use crate::forms::is_no_self_move;
@@ -52,8 +52,8 @@ fn push_next<'a>(
     flags: &'a [bool],
     line: Line,
 ) -> Result<&'a [bool], AllocError>
-    ensures { IfOk result (λ others. (rest : List Line) → left.new.items ++ kept others.now rest ≡
-        left.old.items ++ kept flags.entry.now (line ∷ rest)) }
+    ensures { IfOk result (λ others. (rest : List Line) → left.new.items ++ unflagged_lines others.now rest ≡
+        left.old.items ++ unflagged_lines flags.entry.now (line ∷ rest)) }
 {
     match flags.split_first() {
         None => {
@@ -69,7 +69,7 @@ fn push_next<'a>(
 
 /// The lines whose flags are not set, in order.
 fn unset_lines(alloc: Global, code: Seq<Line>, flags: &[bool]) -> Result<Seq<Line>, AllocError>
-    ensures { IfOk result (λ left. left ≡ kept flags.now code) }
+    ensures { IfOk result (λ left. left ≡ unflagged_lines flags.now code) }
 {
     let mut left = Vec::with_capacity(alloc, code.len())?;
     let mut others = flags;
@@ -83,7 +83,7 @@ fn unset_lines(alloc: Global, code: Seq<Line>, flags: &[bool]) -> Result<Seq<Lin
 /// want of memory.
 pub fn leave_out(alloc: Global, lin: Lin, flags: &[bool]) -> Result<Lin, AllocError>
     requires { length flags.now ≡ length lin.code }
-    ensures { IfOk result (λ left. left ≡ with_code lin (without (goes_by flags.now) lin.code)) }
+    ensures { IfOk result (λ left. left ≡ with_code lin (without_lines (is_flagged_unused flags.now) lin.code)) }
 {
     let Lin {
         name,

@@ -6,7 +6,7 @@ ghost use Rattle.lin_flow.specs.Sizes.{IsCountable};
 ghost use Rattle.lin_flow.specs.Walked.{AreLive};
 ghost use Rattle.tidy_rules.specs.Leaving.{LabelsBetween};
 ghost use Rattle.tidy_rules.specs.Vals.{as_vals};
-ghost use Rattle.unused_lines.specs.Flags.{IsSearched, AllReached, AreRead, TellsSkipped, TellsIdle, TellsUse, AreFlags};
+ghost use Rattle.unused_lines.specs.Flags.{IsSearched, AllReached, AreRead, TellsSkipped, TellsIdle, TellsUse, AreUseFlags};
 ghost use Rattle.unused_lines.specs.Forms.{IsNoSelfMove};
 
 use crate::forms::{is_label, is_landing, jump_of, no_self_moves, self_move};
@@ -88,7 +88,7 @@ fn is_useless(lin: &Lin, walks: &LiveWalks, labels: &Labels, place: u32) -> bool
 fn by_reads(alloc: Global, lin: &Lin) -> Result<Vec<bool>, AllocError>
     requires countable { IsCountable lin.now }
     requires numbered { AreNumbered lin.now }
-    ensures { IfOk result (λ flags. AreFlags lin.now flags.items) }
+    ensures { IfOk result (λ flags. AreUseFlags lin.now flags.items) }
 {
     let count = lin.code.len() as u32;
     let vals = as_vals(alloc, lin)?;
@@ -124,7 +124,7 @@ fn by_walks(alloc: Global, lin: &Lin) -> Result<Vec<bool>, AllocError>
     requires countable { IsCountable lin.now }
     requires numbered { AreNumbered lin.now }
     requires still { All IsNoSelfMove lin.now.code }
-    ensures { IfOk result (λ flags. AreFlags lin.now flags.items) }
+    ensures { IfOk result (λ flags. AreUseFlags lin.now flags.items) }
 {
     let count = lin.code.len() as u32;
     let labels = Labels::of_function(alloc, lin)?;
@@ -143,7 +143,7 @@ fn by_labels(alloc: Global, lin: &Lin) -> Result<Vec<bool>, AllocError>
     requires small { length lin.now.code < 2 ^ 32 }
     requires reached { AllReached lin.now }
     requires read { AreRead lin.now }
-    ensures { IfOk result (λ flags. AreFlags lin.now flags.items) }
+    ensures { IfOk result (λ flags. AreUseFlags lin.now flags.items) }
 {
     let count = lin.code.len() as u32;
     let labels = Labels::of_function(alloc, lin)?;
@@ -162,7 +162,7 @@ fn by_labels(alloc: Global, lin: &Lin) -> Result<Vec<bool>, AllocError>
 pub fn useless_lines(alloc: Global, lin: &Lin) -> Result<Vec<bool>, AllocError>
     requires countable { IsCountable lin.now }
     requires numbered { AreNumbered lin.now }
-    ensures { IfOk result (λ flags. AreFlags lin.now flags.items) }
+    ensures { IfOk result (λ flags. AreUseFlags lin.now flags.items) }
 {
     if no_self_moves(lin.code.as_slice()) {
         by_walks(alloc, lin)
@@ -183,7 +183,7 @@ pub fn useless_lines_left(
     requires numbered { AreNumbered lin.now }
     requires reached { AllReached lin.now }
     requires read { IsTrue no_move_went → AreRead lin.now }
-    ensures { IfOk result (λ flags. AreFlags lin.now flags.items) }
+    ensures { IfOk result (λ flags. AreUseFlags lin.now flags.items) }
 {
     if no_move_went {
         by_labels(alloc, lin)

@@ -14,8 +14,8 @@ use Rattle.cmm_types.specs.Types.{Scoped, with_parameters}
 use Rattle.walk_tables.specs.AddrLive.{IsLiveIn}
 use Rattle.walk_tables.specs.Cells.{item_at, scope_at, tasks_at, tasks_in}
 use Rattle.walk_tables.specs.Made.{Filled}
-use Rattle.walk_tables.specs.Sound.{free_in, IsBelow, IsHeld, IsSound, IsScope, Extends, GoesAs, Steps}
-use Rattle.walk_tables.specs.Walks.{Task, Evaluates, names, with_slots, parameters_bound, walk_tasks, Next}
+use Rattle.walk_tables.specs.Sound.{free_in, IsBelow, IsItemHeld, AreItemsSound, IsScope, ExtendsItems, GoesAs, Steps}
+use Rattle.walk_tables.specs.Walks.{Task, Evaluates, names, with_slots, parameters_bound, walk_tasks, NextTasks}
 use Rattle.walk_tables.specs.Table.{shown, step_at, next_at, next_cells, AreLinked, IsLinked, LeadsToBinding}
 use Rattle.walk_tables.specs.declared.items.Item.{Item}
 use Rattle.walk_tables.specs.declared.items.Item.TheVariants as item
@@ -32,7 +32,7 @@ use Rattle.walk_tables.proofs.Simulation.{Agrees, live_in_table, live_on_walk}
 next-below : (n : ℕ) (next : List ℕ) (q : ℕ) → All (λ x. x < n) next → Contains next q → q < n
 next-below n next q all h = All-contains (λ x. x < n) next q all h
 
-goes-kept : (a b : List Item) (tasks : List Task) (st : Step) (next : List ℕ) → Extends a b → GoesAs a tasks st next → GoesAs b tasks st next
+goes-kept : (a b : List Item) (tasks : List Task) (st : Step) (next : List ℕ) → ExtendsItems a b → GoesAs a tasks st next → GoesAs b tasks st next
 goes-kept a b tasks st next p g = record {
   shows = g.shows;
   forth = λ es left n.
@@ -40,7 +40,7 @@ goes-kept a b tasks st next p g = record {
       record { to = t.to; among = t.among; is = tasks-extend a b t.to p (next-below (length a) next t.to g.linked t.among) ∙ t.is };
   linked = All-weaker (λ x. x < length a) (λ x. x < length b) (λ x h. let l : length a ≤ length b = extends-length a b p in omega arith) next g.linked;
   back = λ q h.
-      let P : List Task → Type 0 = λ l. Next tasks (shown st) l in
+      let P : List Task → Type 0 = λ l. NextTasks tasks (shown st) l in
       subst P (sym (tasks-extend a b q p (next-below (length a) next q g.linked h))) (g.back q h);
   doing = g.doing;
 }
@@ -52,10 +52,10 @@ goes-at items tasks tasks' st next e g =
 
 -- ---- filling the table
 
-pub placed-now : (items : List Item) (c : ℕ) (x : Item) → IsSound items → item_at items c ≡ Some x → free_in x ≤ length items
+pub placed-now : (items : List Item) (c : ℕ) (x : Item) → AreItemsSound items → item_at items c ≡ Some x → free_in x ≤ length items
 placed-now items c x sound at = let within : c < length items = item-within items c x at in omega (arith, sound.placed c x at)
 
-pub filled-none : (items : List Item) → IsSound items → Filled items items [] 0
+pub filled-none : (items : List Item) → AreItemsSound items → Filled items items [] 0
 filled-none items sound = record {
   extends = extends-none items;
   sound = sound;
@@ -76,7 +76,7 @@ pub filled-more : (old a b : List Item) (nodes nodes' : List node.Node) (done : 
     → done ≡ length nodes
     → item_at a done ≡ Some x
     → nodes' ≡ nodes ++ (n ∷ [])
-    → (IsBelow (length a) x → IsHeld (length a) (scope_at a) (tasks_at a) x → Steps a b (tasks_in (scope_at a) (tasks_at a) x) n)
+    → (IsBelow (length a) x → IsItemHeld (length a) (scope_at a) (tasks_at a) x → Steps a b (tasks_in (scope_at a) (tasks_at a) x) n)
     → Filled old b nodes' (length nodes')
 filled-more old a b nodes nodes' done x n f q at pushed step_of =
     let within : done < length a = item-within a done x at in
@@ -140,13 +140,13 @@ goes-table old items nodes f c =
 pub agrees : (old items : List Item) (nodes : List node.Node) → Filled old items nodes (length items) → Agrees nodes (λ p tasks. tasks_at items p ≡ tasks)
 agrees old items nodes f = record {
   forth = λ p tasks left es at n.
-      let P : List Task → Type 0 = λ l. Next l es left in
+      let P : List Task → Type 0 = λ l. NextTasks l es left in
       let g = goes-table old items nodes f p in
-      let m : Next (tasks_at items p) es left = subst P (sym at) n in
+      let m : NextTasks (tasks_at items p) es left = subst P (sym at) n in
       let t = g.forth es left m in
       record { shows = g.shows es left m; to = t.to; next = t.among; at = t.is };
   back = λ p q tasks at h.
-      let P : List Task → Type 0 = λ l. Next l (shown (step_at nodes p)) (tasks_at items q) in
+      let P : List Task → Type 0 = λ l. NextTasks l (shown (step_at nodes p)) (tasks_at items q) in
       record { left = tasks_at items q; next = subst P at ((goes-table old items nodes f p).back q h); at = refl };
   doing = λ p tasks event at e.
       let d = (goes-table old items nodes f p).doing event e in
@@ -176,7 +176,7 @@ live-iff old items nodes entry f filled at bound point used =
 
 -- ---- the cell at which a walk begins
 
-sound-none : IsSound []
+sound-none : AreItemsSound []
 sound-none = record {
   below = λ c x e. absurd (let h : c < 0 = item-within [] c x e in omega arith);
   held = λ c x e. absurd (let h : c < 0 = item-within [] c x e in omega arith);
@@ -184,7 +184,7 @@ sound-none = record {
 }
 
 pub record Ends (items : List Item) (end : ℕ) : Type 0 where
-  pub sound : IsSound items
+  pub sound : AreItemsSound items
   pub scope : IsScope items end []
   pub is : tasks_at items end ≡ []
 

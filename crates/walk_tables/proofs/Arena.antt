@@ -12,7 +12,7 @@ use Rattle.cmm_types.specs.Lists.{AreBindingsAnnotated, AreCasesAnnotated, AreHa
 use Rattle.cmm_tree.specs.Rows.{bindings_of, cases_of, handlers_of}
 use Rattle.cmm_types.specs.Types.{with_bindings, with_parameters}
 use Rattle.walk_tables.specs.Cells.{item_at, scope_at, tasks_at, scope_in, tasks_in, handler_tasks, event_of}
-use Rattle.walk_tables.specs.Sound.{IsBelow, HandlersAt, IsHeld}
+use Rattle.walk_tables.specs.Sound.{IsBelow, HandlersAt, IsItemHeld}
 use Rattle.walk_tables.specs.Walks.{Slotted, Task, names, bodies, handling}
 use Rattle.walk_tables.specs.Walks as walk
 use Rattle.walk_tables.specs.declared.items.Item.{Item}
@@ -183,7 +183,7 @@ handlers-same n n' t t' cell s slot all behind [] le ts h = tt
 handlers-same n n' t t' cell s slot all behind (x ∷ left) le ts h =
     (omega (arith, h.0), sym (ts cell h.0) ∙ h.1, handlers-same n n' t t' (suc cell) s slot all behind left le ts h.2)
 
-pub held-same : (n n' : ℕ) (s s' : ℕ → List Slotted) (t t' : ℕ → List Task) (x : Item) → n ≤ n' → Same n s s' → Same n t t' → IsBelow n x → IsHeld n s t x → IsHeld n' s' t' x
+pub held-same : (n n' : ℕ) (s s' : ℕ → List Slotted) (t t' : ℕ → List Task) (x : Item) → n ≤ n' → Same n s s' → Same n t t' → IsBelow n x → IsItemHeld n s t x → IsItemHeld n' s' t' x
 held-same n n' s s' t t' item.Empty le ss ts b h = tt
 held-same n n' s s' t t' (item.Named name type mutable slot outer) le ss ts b h = tt
 held-same n n' s s' t t' (item.Does action rest) le ss ts b h = tt

@@ -8,7 +8,7 @@ use Rattle.cmm_types.specs.Lists.{AreCasesAnnotated, AreHandlersAnnotated}
 use Rattle.cmm_tree.specs.Rows.{cases_of, handlers_of}
 use Rattle.cmm_types.specs.Types.{with_parameters}
 use Rattle.walk_tables.specs.Cells.{item_at, scope_at, tasks_at, handler_tasks}
-use Rattle.walk_tables.specs.Sound.{free_in, IsBelow, HandlersAt, IsHeld, IsSound, Extends, IsReady, IsScope, Adds, Each, IsHandlerOf, AddsHandlers}
+use Rattle.walk_tables.specs.Sound.{free_in, IsBelow, HandlersAt, IsItemHeld, AreItemsSound, ExtendsItems, IsCellReady, IsScope, AddsCells, Each, IsHandlerOf, AddsHandlers}
 use Rattle.walk_tables.specs.Walks.{Slotted, Task, names, bodies, handling}
 use Rattle.walk_tables.specs.Walks as walk
 use Rattle.walk_tables.specs.declared.items.Item.{Item}
@@ -20,12 +20,12 @@ use Rattle.walk_tables.proofs.Pushed.{adds-none, adds-push, extends-length, task
 
 pub adds-either : (old new : List Item) (cell scope slot rest : ℕ) (on_true on_false : _) (s : List Slotted)
     → (cell ≡ length old) × (new ≡ item.Either scope slot on_true on_false rest ∷ old)
-    → IsReady old rest
+    → IsCellReady old rest
     → IsScope old scope s
     → IsAnnotated (names s) on_true.now
     → IsAnnotated (names s) on_false.now
     → slot ≤ length old
-    → Adds old new cell (walk.OneOf s slot (expr_view on_true.now ∷ expr_view on_false.now ∷ []) ∷ []) rest
+    → AddsCells old new cell (walk.OneOf s slot (expr_view on_true.now ∷ expr_view on_false.now ∷ []) ∷ []) rest
 adds-either old new cell scope slot rest on_true on_false s pushed r within t f placed =
     let P : List Slotted → Type 0 = λ l. IsAnnotated (names l) on_true.now × IsAnnotated (names l) on_false.now in
     adds-push old new (item.Either scope slot on_true on_false rest) cell rest (walk.OneOf s slot (expr_view on_true.now ∷ expr_view on_false.now ∷ []) ∷ []) pushed r.sound (within.within, r.within) (subst P (sym within.is) (t, f)) placed
@@ -33,26 +33,26 @@ adds-either old new cell scope slot rest on_true on_false s pushed r within t f 
 
 pub adds-one_of : (old new : List Item) (cell scope slot rest : ℕ) (cases : _) (s : List Slotted)
     → (cell ≡ length old) × (new ≡ item.OneOf scope slot cases rest ∷ old)
-    → IsReady old rest
+    → IsCellReady old rest
     → IsScope old scope s
     → AreCasesAnnotated (names s) cases.now
     → slot ≤ length old
-    → Adds old new cell (walk.OneOf s slot (bodies (cases_of cases.now)) ∷ []) rest
+    → AddsCells old new cell (walk.OneOf s slot (bodies (cases_of cases.now)) ∷ []) rest
 adds-one_of old new cell scope slot rest cases s pushed r within t placed =
     let P : List Slotted → Type 0 = λ l. AreCasesAnnotated (names l) cases.now in
     adds-push old new (item.OneOf scope slot cases rest) cell rest (walk.OneOf s slot (bodies (cases_of cases.now)) ∷ []) pushed r.sound (within.within, r.within) (subst P (sym within.is) t) placed
     (ap (λ (l : List Slotted). walk.OneOf l slot (bodies (cases_of cases.now)) ∷ tasks_at old rest) within.is)
 
-pub adds-may_raise : (old new : List Item) (cell rest : ℕ) → (cell ≡ length old) × (new ≡ item.MayRaise rest ∷ old) → IsReady old rest
-    → Adds old new cell (walk.MayRaise ∷ []) rest
+pub adds-may_raise : (old new : List Item) (cell rest : ℕ) → (cell ≡ length old) × (new ≡ item.MayRaise rest ∷ old) → IsCellReady old rest
+    → AddsCells old new cell (walk.MayRaise ∷ []) rest
 adds-may_raise old new cell rest pushed r = adds-push old new (item.MayRaise rest) cell rest (walk.MayRaise ∷ []) pushed r.sound r.within tt (omega arith) refl
 
-pub adds-raises : (old new : List Item) (cell rest : ℕ) → (cell ≡ length old) × (new ≡ item.Raises rest ∷ old) → IsReady old rest
-    → Adds old new cell (walk.Raises ∷ []) rest
+pub adds-raises : (old new : List Item) (cell rest : ℕ) → (cell ≡ length old) × (new ≡ item.Raises rest ∷ old) → IsCellReady old rest
+    → AddsCells old new cell (walk.Raises ∷ []) rest
 adds-raises old new cell rest pushed r = adds-push old new (item.Raises rest) cell rest (walk.Raises ∷ []) pushed r.sound r.within tt (omega arith) refl
 
-pub adds-exits : (old new : List Item) (cell rest : ℕ) (label : _) → (cell ≡ length old) × (new ≡ item.Exits label rest ∷ old) → IsReady old rest
-    → Adds old new cell (walk.Exits (label_view label.now) ∷ []) rest
+pub adds-exits : (old new : List Item) (cell rest : ℕ) (label : _) → (cell ≡ length old) × (new ≡ item.Exits label rest ∷ old) → IsCellReady old rest
+    → AddsCells old new cell (walk.Exits (label_view label.now) ∷ []) rest
 adds-exits old new cell rest label pushed r = adds-push old new (item.Exits label rest) cell rest (walk.Exits (label_view label.now) ∷ []) pushed r.sound r.within tt (omega arith) refl
 
 -- ---- more cells at once
@@ -66,11 +66,11 @@ item-more P (y ∷ more) old c x each e =
       | inr r ↦ item-more P more old c x each.1 r
     ]
 
-pub sound-more : (more old : List Item) → IsSound old
-    → Each (λ y. IsBelow (length old) y × IsHeld (length (more ++ old)) (scope_at (more ++ old)) (tasks_at (more ++ old)) y × (free_in y ≤ length old)) more
-    → IsSound (more ++ old)
+pub sound-more : (more old : List Item) → AreItemsSound old
+    → Each (λ y. IsBelow (length old) y × IsItemHeld (length (more ++ old)) (scope_at (more ++ old)) (tasks_at (more ++ old)) y × (free_in y ≤ length old)) more
+    → AreItemsSound (more ++ old)
 sound-more more old sound each =
-    let P : Item → Type 0 = λ y. IsBelow (length old) y × IsHeld (length (more ++ old)) (scope_at (more ++ old)) (tasks_at (more ++ old)) y × (free_in y ≤ length old) in
+    let P : Item → Type 0 = λ y. IsBelow (length old) y × IsItemHeld (length (more ++ old)) (scope_at (more ++ old)) (tasks_at (more ++ old)) y × (free_in y ≤ length old) in
     record {
       below = λ c x e.
           elim (item-more P more old c x each e) [
@@ -119,7 +119,7 @@ adds-handler-at : (old new : List Item) (scope slot : ℕ) (handlers own : _) (f
     → AddsHandlers old new scope slot handlers.now first rest s (own.now ∷ others)
 adds-handler-at old new scope slot handlers own first rest s others more within in_scope typed =
     let x : Item = item.Handler scope slot handlers own first rest in
-    let ext : Extends (x ∷ old) new = record { more = more.more; is = more.is } in
+    let ext : ExtendsItems (x ∷ old) new = record { more = more.more; is = more.is } in
     let Q : List Task → Type 0 = λ l. HandlersAt (length new) (tasks_at new) (suc (length old)) s slot handlers.now l others in
     let len : suc (length old) ≤ length new = extends-length (x ∷ old) new ext in
     record {
@@ -189,7 +189,7 @@ handler-held : (n : ℕ) (scopes : ℕ → List Slotted) (t : ℕ → List Task)
     → scopes scope ≡ s
     → AreHandlersAnnotated (names s) all
     → HandlersAt n t first s slot all (t rest) all
-    → (y : Item) → IsHandlerOf scope slot all first rest s y → IsHeld n scopes t y
+    → (y : Item) → IsHandlerOf scope slot all first rest s y → IsItemHeld n scopes t y
 handler-held n scopes t scope slot all first rest s e a r item.Empty h = tt
 handler-held n scopes t scope slot all first rest s e a r (item.Named name type mutable slot' outer) h = tt
 handler-held n scopes t scope slot all first rest s e a r (item.Does action rest') h = tt
@@ -214,32 +214,32 @@ handler-held n scopes t scope slot all first rest s e a r (item.Handles scope' s
 
 -- what a catch needs of its handlers
 pub record CatchReady (old new : List Item) (scope slot : ℕ) (all : List Handler) (first rest : ℕ) (s : List Slotted) : Type 0 where
-  pub extends : Extends old new
-  pub sound : IsSound new
+  pub extends : ExtendsItems old new
+  pub sound : AreItemsSound new
   pub row : HandlersAt (length new) (tasks_at new) first s slot all (tasks_at new rest) all
 
 pub catch-ready : (old new : List Item) (scope slot : ℕ) (all : List Handler) (first rest : ℕ) (s : List Slotted)
     → first ≡ length old
-    → IsReady old rest
+    → IsCellReady old rest
     → IsScope old scope s
     → AreHandlersAnnotated (names s) all
     → slot ≤ length old
     → AddsHandlers old new scope slot all first rest s all
     → CatchReady old new scope slot all first rest s
 catch-ready old new scope slot all first rest s at r in_scope typed placed adds =
-    let ext : Extends old new = record { more = adds.more; is = adds.is } in
+    let ext : ExtendsItems old new = record { more = adds.more; is = adds.is } in
     let Q : List Task → Type 0 = λ l. HandlersAt (length new) (tasks_at new) first s slot all l all in
     let F : ℕ → Type 0 = λ n. HandlersAt (length new) (tasks_at new) n s slot all (tasks_at old rest) all in
     let row : HandlersAt (length new) (tasks_at new) first s slot all (tasks_at new rest) all = subst Q (sym (tasks-extend old new rest ext r.within)) (subst F (sym at) adds.row) in
     let W : List Item → Type 0 = λ l. HandlersAt (length l) (tasks_at l) first s slot all (tasks_at l rest) all in
-    let S : List Item → Type 0 = λ l. IsSound l in
+    let S : List Item → Type 0 = λ l. AreItemsSound l in
     let full : List Item = adds.more ++ old in
     record {
       extends = ext;
       sound =
           subst S (sym adds.is)
           (sound-more adds.more old r.sound
-          (each-map (IsHandlerOf scope slot all first rest s) (λ y. IsBelow (length old) y × IsHeld (length (adds.more ++ old)) (scope_at (adds.more ++ old)) (tasks_at (adds.more ++ old)) y × (free_in y ≤ length old)) adds.more
+          (each-map (IsHandlerOf scope slot all first rest s) (λ y. IsBelow (length old) y × IsItemHeld (length (adds.more ++ old)) (scope_at (adds.more ++ old)) (tasks_at (adds.more ++ old)) y × (free_in y ≤ length old)) adds.more
           (λ y h. (
             handler-below (length old) scope slot all first rest s in_scope.within r.within y h,
             handler-held (length (adds.more ++ old)) (scope_at (adds.more ++ old)) (tasks_at (adds.more ++ old)) scope slot all first rest s (scope-kept adds.more old scope in_scope.within ∙ in_scope.is) typed (subst W adds.is row) y h,
@@ -251,11 +251,11 @@ catch-ready old new scope slot all first rest s at r in_scope typed placed adds 
 
 pub adds-catches : (old new : List Item) (cell scope slot : ℕ) (in_handler : Bool) (handlers : _) (first rest : ℕ) (s : List Slotted)
     → (cell ≡ length old) × (new ≡ item.Catches scope slot in_handler handlers first rest ∷ old)
-    → IsReady old rest
+    → IsCellReady old rest
     → IsScope old scope s
     → AreHandlersAnnotated (names s) handlers.now
     → HandlersAt (length old) (tasks_at old) first s slot handlers.now (tasks_at old rest) handlers.now
-    → Adds old new cell (walk.Catches s slot in_handler (handlers_of handlers.now) ∷ []) rest
+    → AddsCells old new cell (walk.Catches s slot in_handler (handlers_of handlers.now) ∷ []) rest
 adds-catches old new cell scope slot in_handler handlers first rest s pushed r within typed row =
     let P : List Slotted → Type 0 = λ l. AreHandlersAnnotated (names l) handlers.now × HandlersAt (length old) (tasks_at old) first l slot handlers.now (tasks_at old rest) handlers.now in
     adds-push old new (item.Catches scope slot in_handler handlers first rest) cell rest (walk.Catches s slot in_handler (handlers_of handlers.now) ∷ []) pushed r.sound (within.within, r.within) (subst P (sym within.is) (typed, row)) (omega arith)
@@ -263,11 +263,11 @@ adds-catches old new cell scope slot in_handler handlers first rest s pushed r w
 
 pub adds-handles : (old new : List Item) (cell scope slot name_at : ℕ) (name handler : _) (entry rest : ℕ) (s : List Slotted)
     → (cell ≡ length old) × (new ≡ item.Handles scope slot name_at name handler entry rest ∷ old)
-    → IsReady old rest
+    → IsCellReady old rest
     → IsScope old scope s
     → entry < length old
     → tasks_at old entry ≡ handling s slot name_at name.now (expr_view handler.now) ++ tasks_at old rest
-    → Adds old new cell (walk.Handles s slot name_at name.now (expr_view handler.now) ∷ []) rest
+    → AddsCells old new cell (walk.Handles s slot name_at name.now (expr_view handler.now) ∷ []) rest
 adds-handles old new cell scope slot name_at name handler entry rest s pushed r within below is =
     let P : List Slotted → Type 0 = λ l. tasks_at old entry ≡ handling l slot name_at name.now (expr_view handler.now) ++ tasks_at old rest in
     adds-push old new (item.Handles scope slot name_at name handler entry rest) cell rest (walk.Handles s slot name_at name.now (expr_view handler.now) ∷ []) pushed r.sound (within.within, r.within) (below, subst P (sym within.is) is) (omega arith)
@@ -275,12 +275,12 @@ adds-handles old new cell scope slot name_at name handler entry rest s pushed r 
 
 -- ---- after the operands of a call
 
-pub called-plain : (old : List Item) (rest at : ℕ) (frame : Bool) → frame ≡ false → IsReady old rest → Adds old old rest (walk.called frame at) rest
+pub called-plain : (old : List Item) (rest at : ℕ) (frame : Bool) → frame ≡ false → IsCellReady old rest → AddsCells old old rest (walk.call_tasks frame at) rest
 called-plain old rest at frame e r =
-    let P : Bool → Type 0 = λ b. Adds old old rest (walk.called b at) rest in
+    let P : Bool → Type 0 = λ b. AddsCells old old rest (walk.call_tasks b at) rest in
     subst P (sym e) (adds-none old rest r)
 
-pub called-frame : {old new : List Item} {cell rest : ℕ} (at : ℕ) (frame : Bool) → frame ≡ true → Adds old new cell (walk.called true at) rest → Adds old new cell (walk.called frame at) rest
+pub called-frame : {old new : List Item} {cell rest : ℕ} (at : ℕ) (frame : Bool) → frame ≡ true → AddsCells old new cell (walk.call_tasks true at) rest → AddsCells old new cell (walk.call_tasks frame at) rest
 called-frame {old = old} {new = new} {cell = cell} {rest = rest} at frame e h =
-    let P : Bool → Type 0 = λ b. Adds old new cell (walk.called b at) rest in
+    let P : Bool → Type 0 = λ b. AddsCells old new cell (walk.call_tasks b at) rest in
     subst P (sym e) h

@@ -6,8 +6,8 @@ use Rattle.cmm_tree.specs.View.{expr_view, label_view, params_view}
 use Rattle.cmm_tree.specs.declared.expr.Handler.{Handler}
 use Rattle.cmm_tree.specs.Rows.{handlers_of}
 use Rattle.walk_tables.specs.Cells.{item_at, scope_at, tasks_at, tasks_in, handler_tasks}
-use Rattle.walk_tables.specs.Leaving.{IsRow, HasRow, rest_in, own_handler, exit_rest, raise_rest}
-use Rattle.walk_tables.specs.Sound.{IsBelow, HandlersAt, IsHeld, IsSound, LeadsTo}
+use Rattle.walk_tables.specs.Leaving.{IsRow, HasRow, rest_in, own_handler, exit_tasks, raise_rest}
+use Rattle.walk_tables.specs.Sound.{IsBelow, HandlersAt, IsItemHeld, AreItemsSound, LeadsTo}
 use Rattle.walk_tables.specs.Walks.{Slotted, Task, handler_for, or_else, behind_exit, behind_raise, parameters_bound, handling}
 use Rattle.walk_tables.specs.declared.items.Item.{Item}
 use Rattle.walk_tables.specs.declared.items.Item.TheVariants as item
@@ -67,7 +67,7 @@ is-row : (n : ℕ) (t : ℕ → List Task) (first : ℕ) (s : List Slotted) (slo
     → IsRow first hs
 is-row n t first s slot all behind hs fits h = λ k within. omega (arith, row-below n t first s slot all behind hs h k within)
 
-pub held-row : (n : ℕ) (s : ℕ → List Slotted) (t : ℕ → List Task) (x : Item) → n < 2 ^ 64 → IsHeld n s t x → HasRow x
+pub held-row : (n : ℕ) (s : ℕ → List Slotted) (t : ℕ → List Task) (x : Item) → n < 2 ^ 64 → IsItemHeld n s t x → HasRow x
 held-row n s t item.Empty fits h = tt
 held-row n s t (item.Named name type mutable slot outer) fits h = tt
 held-row n s t (item.Does action rest) fits h = tt
@@ -89,9 +89,9 @@ pub row-next : (first : ℕ) (hs : List Handler) (h : Handler) (others : List Ha
 row-next first hs h others e numbered = λ k within. omega (arith, numbered (suc k) (omega (arith, ap length e)))
 
 pub own-as : (label : LabelTree) (n : ℕ) (s : ℕ → List Slotted) (t : ℕ → List Task) (x y : Item) (found : Option ℕ) → x ≡ y
-    → (IsHeld n s t y → LeadsTo n t found (own_handler label s t y)) → IsHeld n s t x → LeadsTo n t found (own_handler label s t x)
+    → (IsItemHeld n s t y → LeadsTo n t found (own_handler label s t y)) → IsItemHeld n s t x → LeadsTo n t found (own_handler label s t x)
 own-as label n s t x y found e k =
-    let P : Item → Type 0 = λ z. IsHeld n s t z → LeadsTo n t found (own_handler label s t z) in
+    let P : Item → Type 0 = λ z. IsItemHeld n s t z → LeadsTo n t found (own_handler label s t z) in
     subst P (sym e) k
 
 -- ---- an exit
@@ -101,7 +101,7 @@ exit-params label slot [] l = refl
 exit-params label slot (p ∷ params) l = exit-params label (suc slot) params l
 
 exit-step : (label : LabelTree) (s : ℕ → List Slotted) (t : ℕ → List Task) (x : Item)
-    → behind_exit label (tasks_in s t x) ≡ or_else (own_handler label s t x) (exit_rest label t (rest_in x))
+    → behind_exit label (tasks_in s t x) ≡ or_else (own_handler label s t x) (exit_tasks label t (rest_in x))
 exit-step label s t item.Empty = refl
 exit-step label s t (item.Named name type mutable slot outer) = refl
 exit-step label s t (item.Does action rest) = refl
@@ -116,24 +116,24 @@ exit-step label s t (item.Catches scope slot in_handler handlers first rest) = r
 exit-step label s t (item.Handler scope slot handlers own first rest) = exit-params label slot (params_view own.now.params.items) _
 exit-step label s t (item.Handles scope slot name_at name handler entry rest) = refl
 
-exit-at : (label : LabelTree) (items : List Item) (c : ℕ) (x : Item) → IsSound items → item_at items c ≡ Some x
-    → behind_exit label (tasks_at items c) ≡ or_else (own_handler label (scope_at items) (tasks_at items) x) (exit_rest label (tasks_at items) (rest_in x))
+exit-at : (label : LabelTree) (items : List Item) (c : ℕ) (x : Item) → AreItemsSound items → item_at items c ≡ Some x
+    → behind_exit label (tasks_at items c) ≡ or_else (own_handler label (scope_at items) (tasks_at items) x) (exit_tasks label (tasks_at items) (rest_in x))
 exit-at label items c x sound e = ap (λ (l : List Task). behind_exit label l) (tasks-are items c x sound e) ∙ exit-step label (scope_at items) (tasks_at items) x
 
 pub exit-past : (label : LabelTree) (items : List Item) (c : ℕ) → item_at items c ≡ None → behind_exit label (tasks_at items c) ≡ None
 exit-past label items c e = ap (λ (l : List Task). behind_exit label l) (tasks-past items c (item-past items c e))
 
-pub exit-own : (label : LabelTree) (items : List Item) (c : ℕ) (x : Item) (cell : ℕ) → IsSound items → item_at items c ≡ Some x
+pub exit-own : (label : LabelTree) (items : List Item) (c : ℕ) (x : Item) (cell : ℕ) → AreItemsSound items → item_at items c ≡ Some x
     → LeadsTo (length items) (tasks_at items) (Some cell) (own_handler label (scope_at items) (tasks_at items) x)
     → LeadsTo (length items) (tasks_at items) (Some cell) (behind_exit label (tasks_at items c))
-exit-own label items c x cell sound e h = (h.0, exit-at label items c x sound e ∙ ap (λ (o : Option (List Task)). or_else o (exit_rest label (tasks_at items) (rest_in x))) h.1)
+exit-own label items c x cell sound e h = (h.0, exit-at label items c x sound e ∙ ap (λ (o : Option (List Task)). or_else o (exit_tasks label (tasks_at items) (rest_in x))) h.1)
 
-pub exit-further : (label : LabelTree) (items : List Item) (c : ℕ) (x : Item) (found : Option ℕ) → IsSound items → item_at items c ≡ Some x
+pub exit-further : (label : LabelTree) (items : List Item) (c : ℕ) (x : Item) (found : Option ℕ) → AreItemsSound items → item_at items c ≡ Some x
     → own_handler label (scope_at items) (tasks_at items) x ≡ None
-    → LeadsTo (length items) (tasks_at items) found (exit_rest label (tasks_at items) (rest_in x))
+    → LeadsTo (length items) (tasks_at items) found (exit_tasks label (tasks_at items) (rest_in x))
     → LeadsTo (length items) (tasks_at items) found (behind_exit label (tasks_at items c))
 exit-further label items c x found sound e none h =
-    leads-as (length items) (tasks_at items) found _ _ (sym (exit-at label items c x sound e ∙ ap (λ (o : Option (List Task)). or_else o (exit_rest label (tasks_at items) (rest_in x))) none)) h
+    leads-as (length items) (tasks_at items) found _ _ (sym (exit-at label items c x sound e ∙ ap (λ (o : Option (List Task)). or_else o (exit_tasks label (tasks_at items) (rest_in x))) none)) h
 
 below-at : (c rest' rest : ℕ) → rest' < c → ◌≡◌ {A = Option ℕ} (Some rest') (Some rest) → rest < c
 below-at c rest' rest b e =
@@ -156,7 +156,7 @@ rest-below c (item.Catches scope slot in_handler handlers first rest') rest b e 
 rest-below c (item.Handler scope slot handlers own first rest') rest b e = below-at c rest' rest b.1 e
 rest-below c (item.Handles scope slot name_at name handler entry rest') rest b e = below-at c rest' rest b.1 e
 
-pub rest-within : (items : List Item) (c : ℕ) (x : Item) (rest : ℕ) → IsSound items → item_at items c ≡ Some x → rest_in x ≡ Some rest → rest < c
+pub rest-within : (items : List Item) (c : ℕ) (x : Item) (rest : ℕ) → AreItemsSound items → item_at items c ≡ Some x → rest_in x ≡ Some rest → rest < c
 rest-within items c x rest sound e r = rest-below c x rest (sound.below c x e) r
 
 -- ---- a raise
@@ -185,14 +185,14 @@ raise-step s t (item.Handles scope slot name_at name handler entry rest) h = abs
 pub raise-past : (items : List Item) (c : ℕ) → item_at items c ≡ None → behind_raise (tasks_at items c) ≡ None
 raise-past items c e = ap (λ (l : List Task). behind_raise l) (tasks-past items c (item-past items c e))
 
-pub raise-further : (items : List Item) (c : ℕ) (x : Item) (found : Option ℕ) → IsSound items → item_at items c ≡ Some x
+pub raise-further : (items : List Item) (c : ℕ) (x : Item) (found : Option ℕ) → AreItemsSound items → item_at items c ≡ Some x
     → ((scope slot name_at : ℕ) (name handler : _) (entry rest : ℕ) → x ≡ item.Handles scope slot name_at name handler entry rest → ⊥)
     → LeadsTo (length items) (tasks_at items) found (raise_rest (tasks_at items) (rest_in x))
     → LeadsTo (length items) (tasks_at items) found (behind_raise (tasks_at items c))
 raise-further items c x found sound e not_handles h =
     leads-as (length items) (tasks_at items) found _ _ (sym (ap (λ (l : List Task). behind_raise l) (tasks-are items c x sound e) ∙ raise-step (scope_at items) (tasks_at items) x not_handles)) h
 
-pub raise-own : (items : List Item) (c scope slot name_at : ℕ) (name handler : _) (entry rest : ℕ) → IsSound items → item_at items c ≡ Some (item.Handles scope slot name_at name handler entry rest)
+pub raise-own : (items : List Item) (c scope slot name_at : ℕ) (name handler : _) (entry rest : ℕ) → AreItemsSound items → item_at items c ≡ Some (item.Handles scope slot name_at name handler entry rest)
     → LeadsTo (length items) (tasks_at items) (Some entry) (behind_raise (tasks_at items c))
 raise-own items c scope slot name_at name handler entry rest sound e =
     let h : (entry < length items) × (tasks_at items entry ≡ handling (scope_at items scope) slot name_at name.now (expr_view handler.now) ++ tasks_at items rest) = sound.held c (item.Handles scope slot name_at name handler entry rest) e in

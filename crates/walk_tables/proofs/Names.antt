@@ -10,7 +10,7 @@ use Rattle.cmm_types.proofs.Bindings.{bound_among}
 use Rattle.cmm_types.specs.Light.{is_immutable, is_fixed}
 use Rattle.walk_tables.specs.Cells.{item_at, scope_at, scope_in}
 use Rattle.walk_tables.specs.Found.{found_of, found_in}
-use Rattle.walk_tables.specs.Sound.{IsSound, IsScope}
+use Rattle.walk_tables.specs.Sound.{AreItemsSound, IsScope}
 use Rattle.walk_tables.specs.Walks.{Slotted, names, slotted_as, slot_of}
 use Rattle.walk_tables.specs.declared.items.Item.{Item}
 use Rattle.walk_tables.specs.declared.scopes.Found.{Found}
@@ -62,7 +62,7 @@ slot-found s name = slot-as (slotted_as s name)
 
 -- ---- the scope that a cell is
 
-pub cell-scope : (items : List Item) (c : ℕ) (x : Item) (s : List Slotted) → IsSound items → IsScope items c s → item_at items c ≡ Some x → s ≡ scope_in (scope_at items) x
+pub cell-scope : (items : List Item) (c : ℕ) (x : Item) (s : List Slotted) → AreItemsSound items → IsScope items c s → item_at items c ≡ Some x → s ≡ scope_in (scope_at items) x
 cell-scope items c x s sound scope e = sym scope.is ∙ scope-is items c x sound e
 
 pub no-cell : (items : List Item) (c : ℕ) (s : List Slotted) → IsScope items c s → item_at items c ≡ None → ⊥

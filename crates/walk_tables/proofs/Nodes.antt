@@ -15,8 +15,8 @@ use Rattle.cmm_types.specs.Lists.{AreCasesAnnotated}
 use Rattle.cmm_tree.specs.Rows.{cases_of}
 use Rattle.cmm_types.specs.Types.{Scoped, is_address}
 use Rattle.walk_tables.specs.Cells.{scope_at, tasks_at, tasks_in}
-use Rattle.walk_tables.specs.Sound.{IsBelow, IsHeld, Extends, Adds, GoesTo, GoesAs, Steps, BodiesAt, AddsBodies}
-use Rattle.walk_tables.specs.Walks.{Event, Slotted, Task, Does, Binds, bodies, parameters_bound, Evaluates, Enters, OneOf, MayRaise, Raises, Exits, Catches, Handles, tasks_of, entering, behind_raise, behind_exit, Next}
+use Rattle.walk_tables.specs.Sound.{IsBelow, IsItemHeld, ExtendsItems, AddsCells, GoesTo, GoesAs, Steps, BodiesAt, AddsBodies}
+use Rattle.walk_tables.specs.Walks.{Event, Slotted, Task, Does, Binds, bodies, parameters_bound, Evaluates, Enters, OneOf, MayRaise, Raises, Exits, Catches, Handles, tasks_of, entering, behind_raise, behind_exit, NextTasks}
 use Rattle.walk_tables.specs.Walks as steps
 use Rattle.walk_tables.specs.Table.{shown, next_cells}
 use Rattle.walk_tables.specs.declared.items.Item.{Item}
@@ -40,7 +40,7 @@ After (Exits label ∷ tasks) es left = (es ≡ []) × (behind_exit label tasks 
 After (Catches scope slot in_handler handlers ∷ tasks) es left = (es ≡ []) × (left ≡ tasks)
 After (Handles scope slot name_at name handler ∷ tasks) es left = (es ≡ []) × (left ≡ tasks)
 
-pub after : (tasks : List Task) (es : List Event) (left : List Task) → Next tasks es left → After tasks es left
+pub after : (tasks : List Task) (es : List Event) (left : List Task) → NextTasks tasks es left → After tasks es left
 after _ _ _ (steps.does event tasks) = (refl, refl)
 after _ _ _ (steps.evaluates scope slot e tasks) = (refl, refl)
 after _ _ _ (steps.enters scope slot bindings body tasks) = (refl, refl)
@@ -77,8 +77,8 @@ goes-last items = record {
 goes-one : (items : List Item) (tasks : List Task) (st : Step) (q : ℕ) (to : List Task)
     → q < length items
     → tasks_at items q ≡ to
-    → ((es : List Event) (left : List Task) → Next tasks es left → (es ≡ shown st) × (left ≡ to))
-    → Next tasks (shown st) to
+    → ((es : List Event) (left : List Task) → NextTasks tasks es left → (es ≡ shown st) × (left ≡ to))
+    → NextTasks tasks (shown st) to
     → ((event : Event) → shown st ≡ event ∷ [] → (left : List Task) × (tasks ≡ Does event ∷ left))
     → GoesAs items tasks st (q ∷ [])
 goes-one items tasks st q to within is only_one one doing = record {
@@ -86,8 +86,8 @@ goes-one items tasks st q to within is only_one one doing = record {
   forth = λ es left n. record { to = q; among = itself q; is = is ∙ sym (only_one es left n).1 };
   linked = All-cons (λ x. x < length items) q [] within (All-nil (λ x. x < length items));
   back = λ x h.
-      let P : ℕ → Type 0 = λ y. Next tasks (shown st) (tasks_at items y) in
-      let Q : List Task → Type 0 = λ l. Next tasks (shown st) l in
+      let P : ℕ → Type 0 = λ y. NextTasks tasks (shown st) (tasks_at items y) in
+      let Q : List Task → Type 0 = λ l. NextTasks tasks (shown st) l in
       subst P (only q x h) (subst Q (sym is) one);
   doing = doing;
 }
@@ -104,7 +104,7 @@ pub goes-does : (items : List Item) (event : Event) (tasks : List Task) (n : nod
     → tasks_at items q ≡ tasks
     → GoesAs items (Does event ∷ tasks) n.step (next_cells n.next)
 goes-does items event tasks n q is within at =
-    let R : List Event → Type 0 = λ l. Next (Does event ∷ tasks) l tasks in
+    let R : List Event → Type 0 = λ l. NextTasks (Does event ∷ tasks) l tasks in
     goes-node items (Does event ∷ tasks) n.step n.step (q ∷ []) (next_cells n.next) refl is.1
     (goes-one items (Does event ∷ tasks) n.step q tasks within at
     (λ es left h. let a = after (Does event ∷ tasks) es left h in (a.0 ∙ sym is.0, a.1))
@@ -150,7 +150,7 @@ goes-handles items s slot name_at name h tasks n q is within at =
 
 -- ---- leaving
 
-stuck : (items : List Item) (tasks : List Task) → ((es : List Event) (left : List Task) → Next tasks es left → ⊥) → GoesAs items tasks step.Quiet []
+stuck : (items : List Item) (tasks : List Task) → ((es : List Event) (left : List Task) → NextTasks tasks es left → ⊥) → GoesAs items tasks step.Quiet []
 stuck items tasks none = record {
   shows = λ es left n. absurd (none es left n);
   forth = λ es left n. absurd (none es left n);
@@ -228,7 +228,7 @@ goes-bodies items s slot behind qs all r = record {
   linked = bodies-linked items s slot behind qs all r;
   back = λ q h.
       let b = bodies-back items s slot behind qs all r q h in
-      let P : List Task → Type 0 = λ l. Next (OneOf s slot all ∷ behind) [] l in
+      let P : List Task → Type 0 = λ l. NextTasks (OneOf s slot all ∷ behind) [] l in
       subst P (sym b.2) (steps.one_of s slot all b.0 behind b.1);
   doing = quiet-doing (OneOf s slot all ∷ behind);
 }
@@ -248,8 +248,8 @@ goes-fork items tasks a b p q at_a at_b = record {
       ];
   linked = All-cons (λ x. x < length items) a (b ∷ []) p (All-cons (λ x. x < length items) b [] q (All-nil (λ x. x < length items)));
   back = λ x h.
-      let P : List Task → Type 0 = λ l. Next (MayRaise ∷ tasks) [] l in
-      let Q : ℕ → Type 0 = λ y. Next (MayRaise ∷ tasks) [] (tasks_at items y) in
+      let P : List Task → Type 0 = λ l. NextTasks (MayRaise ∷ tasks) [] l in
+      let Q : ℕ → Type 0 = λ y. NextTasks (MayRaise ∷ tasks) [] (tasks_at items y) in
       elim (first-or-later a (b ∷ []) x h) [
         | inl i ↦ subst Q i (subst P (sym at_a) (steps.goes_on tasks))
         | inr l ↦ subst Q (only b x l) (subst P (sym at_b) (steps.may_raise tasks))
@@ -263,7 +263,7 @@ goes-may_raise items tasks n a b is p q at_a at_b = goes-quiet items (MayRaise �
 
 -- ---- further cells
 
-pub steps-after : (a b c : List Item) (tasks : List Task) (n : node.Node) → Extends a b → Steps b c tasks n → Steps a c tasks n
+pub steps-after : (a b c : List Item) (tasks : List Task) (n : node.Node) → ExtendsItems a b → Steps b c tasks n → Steps a c tasks n
 steps-after a b c tasks n p h = record { extends = extends-then a b c p h.extends; sound = h.sound; goes = h.goes }
 
 pub steps-as : (a b : List Item) (tasks tasks' : List Task) (n : node.Node) → tasks ≡ tasks' → Steps a b tasks n → Steps a b tasks' n
@@ -272,16 +272,16 @@ steps-as a b tasks tasks' n e h =
     subst P e h
 
 pub item-as : (old new : List Item) (n : node.Node) (x y : Item) → x ≡ y
-    → (IsBelow (length old) y → IsHeld (length old) (scope_at old) (tasks_at old) y → Steps old new (tasks_in (scope_at old) (tasks_at old) y) n)
-    → IsBelow (length old) x → IsHeld (length old) (scope_at old) (tasks_at old) x → Steps old new (tasks_in (scope_at old) (tasks_at old) x) n
+    → (IsBelow (length old) y → IsItemHeld (length old) (scope_at old) (tasks_at old) y → Steps old new (tasks_in (scope_at old) (tasks_at old) y) n)
+    → IsBelow (length old) x → IsItemHeld (length old) (scope_at old) (tasks_at old) x → Steps old new (tasks_in (scope_at old) (tasks_at old) x) n
 item-as old new n x y e h =
-    let P : Item → Type 0 = λ z. IsBelow (length old) z → IsHeld (length old) (scope_at old) (tasks_at old) z → Steps old new (tasks_in (scope_at old) (tasks_at old) z) n in
+    let P : Item → Type 0 = λ z. IsBelow (length old) z → IsItemHeld (length old) (scope_at old) (tasks_at old) z → Steps old new (tasks_in (scope_at old) (tasks_at old) z) n in
     subst P (sym e) h
 
 -- ---- bodies
 
 pub adds-body : (a b c : List Item) (s : List Slotted) (slot rest body : ℕ) (former given next : List ℕ) (e : Expression) (es : List Expression)
-    → Adds a b body (Evaluates s slot e ∷ []) rest
+    → AddsCells a b body (Evaluates s slot e ∷ []) rest
     → rest < length a
     → given ≡ former ++ (body ∷ [])
     → AddsBodies b c s slot (tasks_at b rest) given next es

@@ -6,7 +6,7 @@ use Rattle.cmm_types.specs.Light.{is_light_address}
 use Rattle.cmm_tree.specs.Rows.{row_of}
 use Rattle.cmm_types.specs.Types.{type_named, is_address}
 use Rattle.walk_tables.specs.Found.{found_in}
-use Rattle.walk_tables.specs.Walks.{Slotted, Task, Does, Binds, Uses, Passes, called, names, operand, takes, waiting, filled, all_operands, on_one, on_two, used_at, bound_at, slot_of}
+use Rattle.walk_tables.specs.Walks.{Slotted, Task, Does, Binds, Uses, Passes, call_tasks, names, operand, operand_uses, waiting, filled_slots, all_operands, on_one, on_two, used_at, bound_at, slot_of}
 use Rattle.cmm_tree.specs.Measures.{count_of}
 use Rattle.walk_tables.specs.declared.scopes.Found.{Found}
 use Rattle.walk_tables.proofs.Names.{type-found, slot-found, type_of_found, slot_of_found}
@@ -22,48 +22,48 @@ five : (a b c d e : List Task) → a ++ (b ++ (c ++ (d ++ e))) ≡ ((a ++ b) ++ 
 five a b c d e = simp append_assoc
 
 pub on-one-is : (s : List Slotted) (free slot at : ℕ) (e : Expression) → free ≡ slot + 1
-    → early s free slot e ++ (late s free slot e ++ takes at slot 1) ≡ on_one s slot at e
+    → early s free slot e ++ (late s free slot e ++ operand_uses at slot 1) ≡ on_one s slot at e
 on-one-is s free slot at e q =
-    ap (λ n. early s n slot e ++ (late s n slot e ++ takes at slot 1)) q
-    ∙ sym (append_assoc (early s (slot + 1) slot e) (late s (slot + 1) slot e) (takes at slot 1))
+    ap (λ n. early s n slot e ++ (late s n slot e ++ operand_uses at slot 1)) q
+    ∙ sym (append_assoc (early s (slot + 1) slot e) (late s (slot + 1) slot e) (operand_uses at slot 1))
 
 pub on-two-is : (s : List Slotted) (free slot second at : ℕ) (a b : Expression) → free ≡ slot + 2 → second ≡ suc slot
-    → early s free second b ++ (early s free slot a ++ (late s free second b ++ (late s free slot a ++ takes at slot 2))) ≡ on_two s slot at a b
+    → early s free second b ++ (early s free slot a ++ (late s free second b ++ (late s free slot a ++ operand_uses at slot 2))) ≡ on_two s slot at a b
 on-two-is s free slot second at a b q r =
-    ap (λ n. early s n second b ++ (early s n slot a ++ (late s n second b ++ (late s n slot a ++ takes at slot 2)))) q
-    ∙ ap (λ n. early s (slot + 2) n b ++ (early s (slot + 2) slot a ++ (late s (slot + 2) n b ++ (late s (slot + 2) slot a ++ takes at slot 2)))) r
-    ∙ five (early s (slot + 2) (suc slot) b) (early s (slot + 2) slot a) (late s (slot + 2) (suc slot) b) (late s (slot + 2) slot a) (takes at slot 2)
+    ap (λ n. early s n second b ++ (early s n slot a ++ (late s n second b ++ (late s n slot a ++ operand_uses at slot 2)))) q
+    ∙ ap (λ n. early s (slot + 2) n b ++ (early s (slot + 2) slot a ++ (late s (slot + 2) n b ++ (late s (slot + 2) slot a ++ operand_uses at slot 2)))) r
+    ∙ five (early s (slot + 2) (suc slot) b) (early s (slot + 2) slot a) (late s (slot + 2) (suc slot) b) (late s (slot + 2) slot a) (operand_uses at slot 2)
 
 pub on-all-is : (s : List Slotted) (slot at : ℕ) (es : List Expr)
-    → all_operands s slot (row_of es) ++ takes at slot (length es) ≡ all_operands s slot (row_of es) ++ takes at slot (count_of (row_of es))
-on-all-is s slot at es = ap (λ n. all_operands s slot (row_of es) ++ takes at slot n) (count-is es)
+    → all_operands s slot (row_of es) ++ operand_uses at slot (length es) ≡ all_operands s slot (row_of es) ++ operand_uses at slot (count_of (row_of es))
+on-all-is s slot at es = ap (λ n. all_operands s slot (row_of es) ++ operand_uses at slot n) (count-is es)
 
 pub alloc-is : (s : List Slotted) (free slot at : ℕ) (es : List Expr) → free ≡ slot + length es
-    → waiting s free slot (row_of es) ++ (Does (Passes at) ∷ (filled s free slot (row_of es) ++ takes at slot (length es)))
+    → waiting s free slot (row_of es) ++ (Does (Passes at) ∷ (filled_slots s free slot (row_of es) ++ operand_uses at slot (length es)))
     ≡ waiting s (slot + count_of (row_of es)) slot (row_of es)
-    ++ (Does (Passes at) ∷ (filled s (slot + count_of (row_of es)) slot (row_of es) ++ takes at slot (count_of (row_of es))))
+    ++ (Does (Passes at) ∷ (filled_slots s (slot + count_of (row_of es)) slot (row_of es) ++ operand_uses at slot (count_of (row_of es))))
 alloc-is s free slot at es q =
-    ap (λ n. waiting s n slot (row_of es) ++ (Does (Passes at) ∷ (filled s n slot (row_of es) ++ takes at slot (length es)))) q
-    ∙ ap (λ n. waiting s (slot + n) slot (row_of es) ++ (Does (Passes at) ∷ (filled s (slot + n) slot (row_of es) ++ takes at slot n))) (count-is es)
+    ap (λ n. waiting s n slot (row_of es) ++ (Does (Passes at) ∷ (filled_slots s n slot (row_of es) ++ operand_uses at slot (length es)))) q
+    ∙ ap (λ n. waiting s (slot + n) slot (row_of es) ++ (Does (Passes at) ∷ (filled_slots s (slot + n) slot (row_of es) ++ operand_uses at slot n))) (count-is es)
 
 pub calls-is : (slot second at n : ℕ) → second ≡ suc slot
-    → Does (Uses slot at) ∷ (takes at second n ++ called true at) ≡ takes at slot (suc n) ++ called true at
-calls-is slot second at n q = ap (λ m. Does (Uses slot at) ∷ (takes at m n ++ called true at)) q
+    → Does (Uses slot at) ∷ (operand_uses at second n ++ call_tasks true at) ≡ operand_uses at slot (suc n) ++ call_tasks true at
+calls-is slot second at n q = ap (λ m. Does (Uses slot at) ∷ (operand_uses at m n ++ call_tasks true at)) q
 
 pub app-is : (s : List Slotted) (free slot second at : ℕ) (callee : Expression) (es : List Expr) → second ≡ suc slot → free ≡ second + length es
     → waiting s free second (row_of es)
     ++ (early s free slot callee
-    ++ (filled s free second (row_of es)
-    ++ (late s free slot callee ++ (takes at slot (suc (length es)) ++ called true at))))
-    ≡ all_operands s slot (More callee (row_of es)) ++ (takes at slot (suc (count_of (row_of es))) ++ called true at)
+    ++ (filled_slots s free second (row_of es)
+    ++ (late s free slot callee ++ (operand_uses at slot (suc (length es)) ++ call_tasks true at))))
+    ≡ all_operands s slot (More callee (row_of es)) ++ (operand_uses at slot (suc (count_of (row_of es))) ++ call_tasks true at)
 app-is s free slot second at callee es q r =
-    let last : List Task = takes at slot (suc (length es)) ++ called true at in
+    let last : List Task = operand_uses at slot (suc (length es)) ++ call_tasks true at in
     let n : ℕ = slot + suc (count_of (row_of es)) in
     let f : free ≡ slot + suc (count_of (row_of es)) = omega (arith, q, r, count-is es) in
-    ap (λ m. waiting s m second (row_of es) ++ (early s m slot callee ++ (filled s m second (row_of es) ++ (late s m slot callee ++ last)))) f
-    ∙ ap (λ m. waiting s n m (row_of es) ++ (early s n slot callee ++ (filled s n m (row_of es) ++ (late s n slot callee ++ last)))) q
-    ∙ five (waiting s n (suc slot) (row_of es)) (early s n slot callee) (filled s n (suc slot) (row_of es)) (late s n slot callee) last
-    ∙ ap (λ m. all_operands s slot (More callee (row_of es)) ++ (takes at slot (suc m) ++ called true at)) (count-is es)
+    ap (λ m. waiting s m second (row_of es) ++ (early s m slot callee ++ (filled_slots s m second (row_of es) ++ (late s m slot callee ++ last)))) f
+    ∙ ap (λ m. waiting s n m (row_of es) ++ (early s n slot callee ++ (filled_slots s n m (row_of es) ++ (late s n slot callee ++ last)))) q
+    ∙ five (waiting s n (suc slot) (row_of es)) (early s n slot callee) (filled_slots s n (suc slot) (row_of es)) (late s n slot callee) last
+    ∙ ap (λ m. all_operands s slot (More callee (row_of es)) ++ (operand_uses at slot (suc m) ++ call_tasks true at)) (count-is es)
 
 pub used-none : (s : List Slotted) (at : ℕ) (name : List ℕ) → found_in s name ≡ None → [] ≡ used_at at (slot_of s name)
 used-none s at name e = sym (ap (λ o. used_at at o) (slot-found s name ∙ ap slot_of_found e))

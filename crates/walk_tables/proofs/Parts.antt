@@ -13,7 +13,7 @@ use Rattle.cmm_types.specs.Light.{is_light_address}
 use Rattle.cmm_types.specs.Lists.{AreAnnotated}
 use Rattle.cmm_tree.specs.Rows.{row_of}
 use Rattle.cmm_types.specs.Types.{Scoped, type_of, type_bound, is_mutable, is_address}
-use Rattle.walk_tables.specs.Walks.{Slotted, Does, Evaluates, Enters, Binds, Uses, names, operand, takes, waiting, filled, all_operands, in_order, parameters_bound}
+use Rattle.walk_tables.specs.Walks.{Slotted, Does, Evaluates, Enters, Binds, Uses, names, operand, operand_uses, waiting, filled_slots, all_operands, tasks_in_order, parameters_bound}
 use Rattle.cmm_tree.specs.Measures.{count_of}
 
 pub operand-is : (s : List Slotted) (free slot : ℕ) (e : Expr) (address : Bool) → address ≡ is_address e.ty → IsAnnotated (names s) e
@@ -22,11 +22,11 @@ operand-is s free slot e address q typed =
     ap (λ a. Evaluates s free (expr_view e) ∷ Does (Binds slot a e.at) ∷ []) (q ∙ ap is_address typed.type)
     ∙ ap (λ p. Evaluates s free (expr_view e) ∷ Does (Binds slot (is_address (type_of (names s) (expr_view e))) p) ∷ []) (sym (place_view e.at e.form))
 
-pub takes-next : (at slot next n : ℕ) → (n ≡ 0 → ⊥) → next ≡ suc slot → Does (Uses slot at) ∷ takes at next (n - 1) ≡ takes at slot n
+pub takes-next : (at slot next n : ℕ) → (n ≡ 0 → ⊥) → next ≡ suc slot → Does (Uses slot at) ∷ operand_uses at next (n - 1) ≡ operand_uses at slot n
 takes-next at slot next zero h e = absurd (h refl)
 takes-next at slot next (suc n) h e =
-    ap (λ m. Does (Uses slot at) ∷ takes at m (suc n - 1)) e
-    ∙ ap (λ k. Does (Uses slot at) ∷ takes at (suc slot) k) (let m : suc n - 1 ≡ n = omega arith in m)
+    ap (λ m. Does (Uses slot at) ∷ operand_uses at m (suc n - 1)) e
+    ∙ ap (λ k. Does (Uses slot at) ∷ operand_uses at (suc slot) k) (let m : suc n - 1 ≡ n = omega arith in m)
 
 pub typed-first : (ns : List Scoped) (es : List Expr) (e : Expr) (others : List Expr) → es ≡ e ∷ others → AreAnnotated ns es → IsAnnotated ns e × AreAnnotated ns others
 typed-first ns es e others p t =
@@ -41,15 +41,15 @@ waiting-first s free slot next es e others p q =
     ∙ ap (λ (l : List Expr). waiting s free slot (row_of l)) (sym p)
 
 pub filled-first : (s : List Slotted) (free slot next : ℕ) (es : List Expr) (e : Expr) (others : List Expr) → es ≡ e ∷ others → next ≡ suc slot
-    → filled s free next (row_of others) ++ cond (is_light_address (names s) (expr_view e)) (operand s free slot (expr_view e)) []
-    ≡ filled s free slot (row_of es)
+    → filled_slots s free next (row_of others) ++ cond (is_light_address (names s) (expr_view e)) (operand s free slot (expr_view e)) []
+    ≡ filled_slots s free slot (row_of es)
 filled-first s free slot next es e others p q =
-    ap (λ n. filled s free n (row_of others) ++ cond (is_light_address (names s) (expr_view e)) (operand s free slot (expr_view e)) []) q
-    ∙ ap (λ (l : List Expr). filled s free slot (row_of l)) (sym p)
+    ap (λ n. filled_slots s free n (row_of others) ++ cond (is_light_address (names s) (expr_view e)) (operand s free slot (expr_view e)) []) q
+    ∙ ap (λ (l : List Expr). filled_slots s free slot (row_of l)) (sym p)
 
 pub in-order-first : (s : List Slotted) (slot : ℕ) (es : List Expr) (e : Expr) (others : List Expr) → es ≡ e ∷ others
-    → Evaluates s slot (expr_view e) ∷ in_order s slot (row_of others) ≡ in_order s slot (row_of es)
-in-order-first s slot es e others p = ap (λ (l : List Expr). in_order s slot (row_of l)) (sym p)
+    → Evaluates s slot (expr_view e) ∷ tasks_in_order s slot (row_of others) ≡ tasks_in_order s slot (row_of es)
+in-order-first s slot es e others p = ap (λ (l : List Expr). tasks_in_order s slot (row_of l)) (sym p)
 
 pub parameters-first : (slot next : ℕ) (ps : List Param) (p : Param) (others : List Param) (address : Bool) (type : Ty) → ps ≡ p ∷ others → next ≡ suc slot
     → address ≡ is_address type → type ≡ type_of_comp p.comp
@@ -64,8 +64,8 @@ count-is [] = refl
 count-is (e ∷ es) = ap suc (count-is es)
 
 pub operands-free : (s : List Slotted) (free slot : ℕ) (es : List Expr) → free ≡ slot + length es
-    → waiting s free slot (row_of es) ++ filled s free slot (row_of es) ≡ all_operands s slot (row_of es)
-operands-free s free slot es q = ap (λ n. waiting s n slot (row_of es) ++ filled s n slot (row_of es)) (q ∙ ap (λ n. slot + n) (count-is es))
+    → waiting s free slot (row_of es) ++ filled_slots s free slot (row_of es) ≡ all_operands s slot (row_of es)
+operands-free s free slot es q = ap (λ n. waiting s n slot (row_of es) ++ filled_slots s n slot (row_of es)) (q ∙ ap (λ n. slot + n) (count-is es))
 
 -- a name of a let
 abbrev pub let_name : List Slotted → ℕ → Binding → Slotted

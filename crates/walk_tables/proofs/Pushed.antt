@@ -11,7 +11,7 @@ use Rattle.cmm_types.specs.Lists.{AreBindingsAnnotated}
 use Rattle.cmm_tree.specs.Rows.{bindings_of}
 use Rattle.cmm_types.specs.Types.{with_parameters, with_bindings}
 use Rattle.walk_tables.specs.Cells.{item_at, scope_at, tasks_at, scope_in, tasks_in, event_of}
-use Rattle.walk_tables.specs.Sound.{free_in, IsBelow, IsHeld, IsSound, Extends, IsReady, IsScope, Adds, Opens}
+use Rattle.walk_tables.specs.Sound.{free_in, IsBelow, IsItemHeld, AreItemsSound, ExtendsItems, IsCellReady, IsScope, AddsCells, Opens}
 use Rattle.walk_tables.specs.Walks.{Slotted, Task, names, slotted_parameter, with_slots}
 use Rattle.walk_tables.specs.Walks as walk
 use Rattle.walk_tables.specs.declared.items.Action.{Action}
@@ -21,7 +21,7 @@ use Rattle.walk_tables.proofs.Arena.{item-kept, scope-kept, tasks-kept, item-her
 
 -- ---- sound cells
 
-pub sound-push : (x : Item) (old : List Item) → IsSound old → IsBelow (length old) x → IsHeld (length old) (scope_at old) (tasks_at old) x → free_in x ≤ length old → IsSound (x ∷ old)
+pub sound-push : (x : Item) (old : List Item) → AreItemsSound old → IsBelow (length old) x → IsItemHeld (length old) (scope_at old) (tasks_at old) x → free_in x ≤ length old → AreItemsSound (x ∷ old)
 sound-push x old sound below held placed = record {
   below = λ c y e.
       elim (item-cases x old c y e) [
@@ -34,7 +34,7 @@ sound-push x old sound below held placed = record {
   held = λ c y e.
       elim (item-cases x old c y e) [
         | inl t ↦
-            let Q : Item → Type 0 = λ z. IsHeld (suc (length old)) (scope_at (x ∷ old)) (tasks_at (x ∷ old)) z in
+            let Q : Item → Type 0 = λ z. IsItemHeld (suc (length old)) (scope_at (x ∷ old)) (tasks_at (x ∷ old)) z in
             subst Q t.1 (held-same (length old) (suc (length old)) (scope_at old) (scope_at (x ∷ old)) (tasks_at old) (tasks_at (x ∷ old)) x (omega arith) (λ r h. sym (scope-kept (x ∷ []) old r h)) (λ r h. sym (tasks-kept (x ∷ []) old r h)) below held)
         | inr r ↦
             held-same (length old) (suc (length old)) (scope_at old) (scope_at (x ∷ old)) (tasks_at old) (tasks_at (x ∷ old)) y (omega arith) (λ r h. sym (scope-kept (x ∷ []) old r h)) (λ r h. sym (tasks-kept (x ∷ []) old r h))
@@ -74,53 +74,53 @@ before (y ∷ older) c x below e =
           )
     ]
 
-pub scope-is : (items : List Item) (c : ℕ) (x : Item) → IsSound items → item_at items c ≡ Some x → scope_at items c ≡ scope_in (scope_at items) x
+pub scope-is : (items : List Item) (c : ℕ) (x : Item) → AreItemsSound items → item_at items c ≡ Some x → scope_at items c ≡ scope_in (scope_at items) x
 scope-is items c x sound e = (before items c x sound.below e).0
 
-pub tasks-are : (items : List Item) (c : ℕ) (x : Item) → IsSound items → item_at items c ≡ Some x → tasks_at items c ≡ tasks_in (scope_at items) (tasks_at items) x
+pub tasks-are : (items : List Item) (c : ℕ) (x : Item) → AreItemsSound items → item_at items c ≡ Some x → tasks_at items c ≡ tasks_in (scope_at items) (tasks_at items) x
 tasks-are items c x sound e = (before items c x sound.below e).1
 
 -- ---- further cells
 
-pub extends-none : (items : List Item) → Extends items items
+pub extends-none : (items : List Item) → ExtendsItems items items
 extends-none items = record { more = []; is = refl }
 
-pub extends-then : (a b c : List Item) → Extends a b → Extends b c → Extends a c
+pub extends-then : (a b c : List Item) → ExtendsItems a b → ExtendsItems b c → ExtendsItems a c
 extends-then a b c p q = record {
   more = q.more ++ p.more;
   is = q.is ∙ ap (λ (l : List Item). q.more ++ l) p.is ∙ sym (append_assoc q.more p.more a);
 }
 
-pub extends-length : (a b : List Item) → Extends a b → length a ≤ length b
+pub extends-length : (a b : List Item) → ExtendsItems a b → length a ≤ length b
 extends-length a b p = omega (arith, ap length p.is, length-append p.more a)
 
-pub tasks-extend : (a b : List Item) (c : ℕ) → Extends a b → c < length a → tasks_at b c ≡ tasks_at a c
+pub tasks-extend : (a b : List Item) (c : ℕ) → ExtendsItems a b → c < length a → tasks_at b c ≡ tasks_at a c
 tasks-extend a b c p h = ap (λ (l : List Item). tasks_at l c) p.is ∙ tasks-kept p.more a c h
 
-pub scope-extend : (a b : List Item) (c : ℕ) → Extends a b → c < length a → scope_at b c ≡ scope_at a c
+pub scope-extend : (a b : List Item) (c : ℕ) → ExtendsItems a b → c < length a → scope_at b c ≡ scope_at a c
 scope-extend a b c p h = ap (λ (l : List Item). scope_at l c) p.is ∙ scope-kept p.more a c h
 
-pub kept-scope : {a b : List Item} {c : ℕ} {s : List Slotted} → Extends a b → IsScope a c s → IsScope b c s
+pub kept-scope : {a b : List Item} {c : ℕ} {s : List Slotted} → ExtendsItems a b → IsScope a c s → IsScope b c s
 kept-scope {a = a} {b = b} {c = c} p h = record { within = (let l : length a ≤ length b = extends-length a b p in omega (arith, h.within)); is = scope-extend a b c p h.within ∙ h.is }
 
-pub kept-within : {a b : List Item} {c : ℕ} → Extends a b → c < length a → c < length b
+pub kept-within : {a b : List Item} {c : ℕ} → ExtendsItems a b → c < length a → c < length b
 kept-within {a = a} {b = b} p h = let l : length a ≤ length b = extends-length a b p in omega arith
 
-pub kept-placed : {a b : List Item} {slot : ℕ} → Extends a b → slot ≤ length a → slot ≤ length b
+pub kept-placed : {a b : List Item} {slot : ℕ} → ExtendsItems a b → slot ≤ length a → slot ≤ length b
 kept-placed {a = a} {b = b} p h = let l : length a ≤ length b = extends-length a b p in omega arith
 
 -- ---- one further cell
 
 pub adds-push : (old new : List Item) (x : Item) (cell rest : ℕ) (tasks : List Task)
     → (cell ≡ length old) × (new ≡ x ∷ old)
-    → IsSound old
+    → AreItemsSound old
     → IsBelow (length old) x
-    → IsHeld (length old) (scope_at old) (tasks_at old) x
+    → IsItemHeld (length old) (scope_at old) (tasks_at old) x
     → free_in x ≤ length old
     → tasks_in (scope_at old) (tasks_at old) x ≡ tasks ++ tasks_at old rest
-    → Adds old new cell tasks rest
+    → AddsCells old new cell tasks rest
 adds-push old new x cell rest tasks pushed sound below held placed are =
-    let P : List Item → Type 0 = λ l. Adds old l cell tasks rest in
+    let P : List Item → Type 0 = λ l. AddsCells old l cell tasks rest in
     subst P (sym pushed.1) (record {
       extends = record { more = x ∷ []; is = refl };
       sound = sound-push x old sound below held placed;
@@ -130,10 +130,10 @@ adds-push old new x cell rest tasks pushed sound below held placed are =
 
 pub opens-named : (old new : List Item) (x : Item) (cell outer : ℕ) (n : Slotted) (s : List Slotted)
     → (cell ≡ length old) × (new ≡ x ∷ old)
-    → IsSound old
+    → AreItemsSound old
     → IsScope old outer s
     → IsBelow (length old) x
-    → IsHeld (length old) (scope_at old) (tasks_at old) x
+    → IsItemHeld (length old) (scope_at old) (tasks_at old) x
     → free_in x ≤ length old
     → scope_in (scope_at old) x ≡ n ∷ scope_at old outer
     → Opens old new cell (n ∷ s)
@@ -145,10 +145,10 @@ opens-named old new x cell outer n s pushed sound scope below held placed are =
       opened = record { within = omega (arith, pushed.0); is = scope-here x old cell pushed.0 ∙ are ∙ ap (λ (l : List Slotted). n ∷ l) scope.is };
     })
 
-pub opens-none : (old : List Item) (cell : ℕ) (s : List Slotted) → IsSound old → IsScope old cell s → Opens old old cell s
+pub opens-none : (old : List Item) (cell : ℕ) (s : List Slotted) → AreItemsSound old → IsScope old cell s → Opens old old cell s
 opens-none old cell s sound scope = record { extends = extends-none old; sound = sound; opened = scope }
 
-pub opens-then : {a b c : List Item} {cell : ℕ} {s : List Slotted} → Extends a b → Opens b c cell s → Opens a c cell s
+pub opens-then : {a b c : List Item} {cell : ℕ} {s : List Slotted} → ExtendsItems a b → Opens b c cell s → Opens a c cell s
 opens-then {a = a} {b = b} {c = c} p h = record { extends = extends-then a b c p h.extends; sound = h.sound; opened = h.opened }
 
 pub opens-as : {a b : List Item} {cell : ℕ} {s s' : List Slotted} → s ≡ s' → Opens a b cell s → Opens a b cell s'
@@ -158,10 +158,10 @@ opens-as {a = a} {b = b} {cell = cell} e h =
 
 -- ---- tasks before tasks
 
-pub adds-none : (old : List Item) (rest : ℕ) → IsReady old rest → Adds old old rest [] rest
+pub adds-none : (old : List Item) (rest : ℕ) → IsCellReady old rest → AddsCells old old rest [] rest
 adds-none old rest ready = record { extends = extends-none old; sound = ready.sound; within = ready.within; is = refl }
 
-pub then : {a b c : List Item} {cell mid rest : ℕ} {first later : List Task} → Adds b c cell first mid → Adds a b mid later rest → Adds a c cell (first ++ later) rest
+pub then : {a b c : List Item} {cell mid rest : ℕ} {first later : List Task} → AddsCells b c cell first mid → AddsCells a b mid later rest → AddsCells a c cell (first ++ later) rest
 then {a = a} {b = b} {c = c} {rest = rest} {first = first} {later = later} f l = record {
   extends = extends-then a b c l.extends f.extends;
   sound = f.sound;
@@ -169,16 +169,16 @@ then {a = a} {b = b} {c = c} {rest = rest} {first = first} {later = later} f l =
   is = f.is ∙ ap (λ (t : List Task). first ++ t) l.is ∙ sym (append_assoc first later (tasks_at a rest));
 }
 
-pub ready : {old new : List Item} {cell rest : ℕ} {tasks : List Task} → Adds old new cell tasks rest → IsReady new cell
+pub ready : {old new : List Item} {cell rest : ℕ} {tasks : List Task} → AddsCells old new cell tasks rest → IsCellReady new cell
 ready a = record { sound = a.sound; within = a.within }
 
-pub adds-as : {old new : List Item} {cell rest : ℕ} {tasks tasks' : List Task} → tasks ≡ tasks' → Adds old new cell tasks rest → Adds old new cell tasks' rest
+pub adds-as : {old new : List Item} {cell rest : ℕ} {tasks tasks' : List Task} → tasks ≡ tasks' → AddsCells old new cell tasks rest → AddsCells old new cell tasks' rest
 adds-as {old = old} {new = new} {cell = cell} {rest = rest} e a =
-    let P : List Task → Type 0 = λ t. Adds old new cell t rest in
+    let P : List Task → Type 0 = λ t. AddsCells old new cell t rest in
     subst P e a
 
 -- after a scope is opened
-pub adds-inside : {a b c : List Item} {cell rest : ℕ} {tasks : List Task} → Extends a b → rest < length a → Adds b c cell tasks rest → Adds a c cell tasks rest
+pub adds-inside : {a b c : List Item} {cell rest : ℕ} {tasks : List Task} → ExtendsItems a b → rest < length a → AddsCells b c cell tasks rest → AddsCells a c cell tasks rest
 adds-inside {a = a} {b = b} {c = c} {rest = rest} {tasks = tasks} p h x = record {
   extends = extends-then a b c p x.extends;
   sound = x.sound;
@@ -207,18 +207,18 @@ slots-first params first others slot next type s p q r =
 
 pub adds-does : (old new : List Item) (cell rest : ℕ) (action : Action)
     → (cell ≡ length old) × (new ≡ item.Does action rest ∷ old)
-    → IsReady old rest
-    → Adds old new cell (walk.Does (event_of action) ∷ []) rest
+    → IsCellReady old rest
+    → AddsCells old new cell (walk.Does (event_of action) ∷ []) rest
 adds-does old new cell rest action pushed r =
     adds-push old new (item.Does action rest) cell rest (walk.Does (event_of action) ∷ []) pushed r.sound r.within tt (omega arith) refl
 
 pub adds-evaluates : (old new : List Item) (cell scope slot rest : ℕ) (expr : _) (s : List Slotted)
     → (cell ≡ length old) × (new ≡ item.Evaluates scope slot expr rest ∷ old)
-    → IsReady old rest
+    → IsCellReady old rest
     → IsScope old scope s
     → IsAnnotated (names s) expr.now
     → slot ≤ length old
-    → Adds old new cell (walk.Evaluates s slot (expr_view expr.now) ∷ []) rest
+    → AddsCells old new cell (walk.Evaluates s slot (expr_view expr.now) ∷ []) rest
 adds-evaluates old new cell scope slot rest expr s pushed r within typed placed =
     let P : List Slotted → Type 0 = λ l. IsAnnotated (names l) expr.now in
     adds-push old new (item.Evaluates scope slot expr rest) cell rest (walk.Evaluates s slot (expr_view expr.now) ∷ []) pushed r.sound (within.within, r.within) (subst P (sym within.is) typed) placed
@@ -226,12 +226,12 @@ adds-evaluates old new cell scope slot rest expr s pushed r within typed placed 
 
 pub adds-enters : (old new : List Item) (cell scope slot rest : ℕ) (bindings body : _) (s : List Slotted)
     → (cell ≡ length old) × (new ≡ item.Enters scope slot bindings body rest ∷ old)
-    → IsReady old rest
+    → IsCellReady old rest
     → IsScope old scope s
     → AreBindingsAnnotated (names s) bindings.now
     → IsAnnotated (with_bindings (names s) (bindings_of bindings.now)) body.now
     → slot ≤ length old
-    → Adds old new cell (walk.Enters s slot (bindings_of bindings.now) (expr_view body.now) ∷ []) rest
+    → AddsCells old new cell (walk.Enters s slot (bindings_of bindings.now) (expr_view body.now) ∷ []) rest
 adds-enters old new cell scope slot rest bindings body s pushed r within typed body_typed placed =
     let P : List Slotted → Type 0 = λ l. AreBindingsAnnotated (names l) bindings.now × IsAnnotated (with_bindings (names l) (bindings_of bindings.now)) body.now in
     adds-push old new (item.Enters scope slot bindings body rest) cell rest (walk.Enters s slot (bindings_of bindings.now) (expr_view body.now) ∷ []) pushed r.sound (within.within, r.within) (subst P (sym within.is) (typed, body_typed)) placed

@@ -18,7 +18,7 @@ use Rattle.cmm_types.specs.Annotated.{IsAnnotated, RowTyped, BindingsTyped, Case
 use Rattle.cmm_types.specs.Lists.{AreAnnotated, AreBindingsAnnotated, AreCasesAnnotated, AreHandlersAnnotated}
 use Rattle.cmm_tree.specs.Rows.{row_of, bindings_of, cases_of, handlers_of}
 use Rattle.cmm_types.specs.Types.{Scoped, with_bindings}
-use Rattle.walk_tables.specs.Sound.{Adds}
+use Rattle.walk_tables.specs.Sound.{AddsCells}
 use Rattle.walk_tables.specs.Walks.{Slotted, names, tasks_of}
 use Rattle.walk_tables.specs.declared.items.Item.{Item}
 use Rattle.walk_tables.proofs.Pushed.{adds-as}
@@ -61,8 +61,8 @@ pub by-shape : {old new : List Item} {cell rest : ℕ} (s : List Slotted) (slot 
     → e.form ≡ f
     → Shape (names s) e.at f t Parts
     → IsAnnotated (names s) e
-    → (Parts → Adds old new cell (tasks_of s slot t) rest)
-    → Adds old new cell (tasks_of s slot (expr_view e)) rest
+    → (Parts → AddsCells old new cell (tasks_of s slot t) rest)
+    → AddsCells old new cell (tasks_of s slot (expr_view e)) rest
 by-shape s slot e f t Parts is shape typed adds =
     let P : Form → Type 0 = λ x. PartsTyped (names s) x in
     adds-as (ap (λ (x : Expression). tasks_of s slot x) (sym (ap (λ (x : Form). form_view e.at x) is ∙ shape.view))) (adds (shape.parts (subst P is typed.below)))

@@ -2,7 +2,7 @@
 use Rattle.std.proofs.Common.{◌≡◌, ℕ, Bool, true, List, [], ◌∷◌, ◌++◌, sym, ap, refl, subst, append_assoc}
 use Rattle.std.specs.List.{Contains}
 use Rattle.cmm_tree.specs.Tree.{FunctionTree}
-use Rattle.walk_tables.specs.Walks.{Event, Binds, Uses, Passes, Task, Does, Evaluates, Enters, OneOf, MayRaise, Raises, Exits, Catches, Handles, tasks_of, entering, Walk, stops, walk_tasks, Next, does, evaluates, enters, one_of, goes_on, may_raise, raises, exits, leaves_catch, leaves_try}
+use Rattle.walk_tables.specs.Walks.{Event, Binds, Uses, Passes, Task, Does, Evaluates, Enters, OneOf, MayRaise, Raises, Exits, Catches, Handles, tasks_of, entering, Walk, stops, walk_tasks, NextTasks, does, evaluates, enters, one_of, goes_on, may_raise, raises, exits, leaves_catch, leaves_try}
 use Rattle.walk_tables.specs.Walks as walk
 use Rattle.walk_tables.specs.AddrLive.{IsLiveIn}
 use Rattle.walk_tables.specs.Table.{shown, step_at, next_at, Trail, here, goes, LeadsToUse, LeadsToPoint, LeadsToBinding}
@@ -11,7 +11,7 @@ use Rattle.walk_tables.specs.declared.node.Step.TheVariants as step
 use Rattle.walk_tables.specs.declared.node.Node as node
 
 -- a step before a walk
-before_walk : (tasks tasks' : List Task) (es events : List Event) → Next tasks es tasks' → Walk tasks' events → Walk tasks (es ++ events)
+before_walk : (tasks tasks' : List Task) (es events : List Event) → NextTasks tasks es tasks' → Walk tasks' events → Walk tasks (es ++ events)
 before_walk tasks tasks' es events next w = walk.goes tasks tasks' es events next w
 
 -- what a step leads to
@@ -24,7 +24,7 @@ pub record StepsTo (nodes : List node.Node) (stands : ℕ → List Task → Type
 -- what a next node stands for
 pub record StepsFrom (stands : ℕ → List Task → Type 0) (tasks : List Task) (es : List Event) (q : ℕ) : Type 0 where
   pub left : List Task
-  pub next : Next tasks es left
+  pub next : NextTasks tasks es left
   pub at : stands q left
 
 pub record IsDoing (tasks : List Task) (event : Event) : Type 0 where
@@ -33,7 +33,7 @@ pub record IsDoing (tasks : List Task) (event : Event) : Type 0 where
 
 -- each node that stands for tasks goes on as they do
 pub record Agrees (nodes : List node.Node) (stands : ℕ → List Task → Type 0) : Type 0 where
-  pub forth : (p : ℕ) (tasks tasks' : List Task) (es : List Event) → stands p tasks → Next tasks es tasks' → StepsTo nodes stands p es tasks'
+  pub forth : (p : ℕ) (tasks tasks' : List Task) (es : List Event) → stands p tasks → NextTasks tasks es tasks' → StepsTo nodes stands p es tasks'
   pub back : (p q : ℕ) (tasks : List Task) → stands p tasks → Contains (next_at nodes p) q → StepsFrom stands tasks (shown (step_at nodes p)) q
   pub doing : (p : ℕ) (tasks : List Task) (event : Event) → stands p tasks → shown (step_at nodes p) ≡ event ∷ [] → IsDoing tasks event
 
@@ -170,7 +170,7 @@ led_on : (nodes : List node.Node) (stands : ℕ → List Task → Type 0) → Ag
     → stands p tasks → shown (step_at nodes p) ≡ event ∷ [] → Contains (next_at nodes p) q → Led stands tasks (event ∷ []) q
 led_on nodes stands a p q event tasks at e next =
     let s = a.back p q tasks at next in
-    let P : List Event → Type 0 = λ l. Next tasks l s.left in
+    let P : List Event → Type 0 = λ l. NextTasks tasks l s.left in
     record { left = s.left; at = s.at; walks = λ rest w. before_walk tasks s.left (event ∷ []) rest (subst P e s.next) w }
 
 -- the event of a node alone

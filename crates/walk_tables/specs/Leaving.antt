@@ -47,9 +47,9 @@ own_handler label scopes tasks (item.Handler scope slot handlers own first rest)
     (handlers_of handlers.now)
 own_handler label scopes tasks _ = None
 
-abbrev pub exit_rest : LabelTree → (ℕ → List Task) → Option ℕ → Option (List Task)
-exit_rest label tasks None = None
-exit_rest label tasks (Some rest) = behind_exit label (tasks rest)
+abbrev pub exit_tasks : LabelTree → (ℕ → List Task) → Option ℕ → Option (List Task)
+exit_tasks label tasks None = None
+exit_tasks label tasks (Some rest) = behind_exit label (tasks rest)
 
 abbrev pub raise_rest : (ℕ → List Task) → Option ℕ → Option (List Task)
 raise_rest tasks None = None

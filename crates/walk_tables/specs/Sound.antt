@@ -9,7 +9,7 @@ use Rattle.cmm_types.specs.Lists.{AreBindingsAnnotated, AreCasesAnnotated, AreHa
 use Rattle.cmm_tree.specs.Rows.{bindings_of}
 use Rattle.cmm_types.specs.Types.{with_bindings, with_parameters}
 use Rattle.walk_tables.specs.Cells.{item_at, scope_at, tasks_at, handler_tasks}
-use Rattle.walk_tables.specs.Walks.{Event, Slotted, Task, Does, Evaluates, names, handling, Next}
+use Rattle.walk_tables.specs.Walks.{Event, Slotted, Task, Does, Evaluates, names, handling, NextTasks}
 use Rattle.walk_tables.specs.Table.{shown, next_cells}
 use Rattle.walk_tables.specs.declared.items.Item.{Item}
 use Rattle.walk_tables.specs.declared.items.Item.TheVariants as item
@@ -48,28 +48,28 @@ HandlersAt count tasks cell scope slot all behind (h ∷ rest) =
     (suc cell) scope slot all behind rest
 
 -- of so many cells: what is evaluated holds its types, and the handlers are there
-abbrev pub IsHeld : ℕ → (ℕ → List Slotted) → (ℕ → List Task) → Item → Type 0
-IsHeld count scopes tasks (item.Evaluates scope slot expr rest) =
+abbrev pub IsItemHeld : ℕ → (ℕ → List Slotted) → (ℕ → List Task) → Item → Type 0
+IsItemHeld count scopes tasks (item.Evaluates scope slot expr rest) =
     IsAnnotated (names (scopes scope)) expr.now
-IsHeld count scopes tasks (item.Enters scope slot bindings body rest) =
+IsItemHeld count scopes tasks (item.Enters scope slot bindings body rest) =
     AreBindingsAnnotated (names (scopes scope)) bindings.now
     × IsAnnotated (with_bindings (names (scopes scope)) (bindings_of bindings.now)) body.now
-IsHeld count scopes tasks (item.Either scope slot on_true on_false rest) =
+IsItemHeld count scopes tasks (item.Either scope slot on_true on_false rest) =
     IsAnnotated (names (scopes scope)) on_true.now × IsAnnotated (names (scopes scope)) on_false.now
-IsHeld count scopes tasks (item.OneOf scope slot cases rest) =
+IsItemHeld count scopes tasks (item.OneOf scope slot cases rest) =
     AreCasesAnnotated (names (scopes scope)) cases.now
-IsHeld count scopes tasks (item.Catches scope slot in_handler handlers first rest) =
+IsItemHeld count scopes tasks (item.Catches scope slot in_handler handlers first rest) =
     AreHandlersAnnotated (names (scopes scope)) handlers.now
     × HandlersAt count tasks first (scopes scope) slot handlers.now (tasks rest) handlers.now
-IsHeld count scopes tasks (item.Handler scope slot handlers own first rest) =
+IsItemHeld count scopes tasks (item.Handler scope slot handlers own first rest) =
     AreHandlersAnnotated (names (scopes scope)) handlers.now
     × HandlersAt count tasks first (scopes scope) slot handlers.now (tasks rest) handlers.now
     × IsAnnotated (with_parameters (params_view own.now.params.items)
     (names (scopes scope))) own.now.body
-IsHeld count scopes tasks (item.Handles scope slot name_at name handler entry rest) =
+IsItemHeld count scopes tasks (item.Handles scope slot name_at name handler entry rest) =
     (entry < count) × (tasks entry ≡ handling (scopes scope) slot name_at name.now
     (expr_view handler.now) ++ tasks rest)
-IsHeld count scopes tasks _ = Unit {0}
+IsItemHeld count scopes tasks _ = Unit {0}
 
 -- the slot from which on slots are free for what it evaluates, or 0
 abbrev pub free_in : Item → ℕ
@@ -81,21 +81,21 @@ free_in (item.Handler scope slot handlers own first rest) = slot
 free_in _ = 0
 
 -- Each slot in use has a cell before: that which binds it or takes it.
-pub record IsSound (items : List Item) : Type 0 where
+pub record AreItemsSound (items : List Item) : Type 0 where
   pub below : (c : ℕ) (x : Item) → item_at items c ≡ Some x → IsBelow c x
   pub held : (c : ℕ) (x : Item)
       → item_at items c ≡ Some x
-      → IsHeld (length items) (scope_at items) (tasks_at items) x
+      → IsItemHeld (length items) (scope_at items) (tasks_at items) x
   pub placed : (c : ℕ) (x : Item) → item_at items c ≡ Some x → free_in x ≤ c
 
 -- further cells
-pub record Extends (old new : List Item) : Type 0 where
+pub record ExtendsItems (old new : List Item) : Type 0 where
   pub more : List Item
   pub is : new ≡ more ++ old
 
 -- this cell may be after a further one
-pub record IsReady (items : List Item) (rest : ℕ) : Type 0 where
-  pub sound : IsSound items
+pub record IsCellReady (items : List Item) (rest : ℕ) : Type 0 where
+  pub sound : AreItemsSound items
   pub within : rest < length items
 
 -- the names of this cell
@@ -104,16 +104,16 @@ pub record IsScope (items : List Item) (cell : ℕ) (scope : List Slotted) : Typ
   pub is : scope_at items cell ≡ scope
 
 -- further cells, of which this one stands for these tasks, and then for those of a former one
-pub record Adds (old new : List Item) (cell : ℕ) (tasks : List Task) (rest : ℕ) : Type 0 where
-  pub extends : Extends old new
-  pub sound : IsSound new
+pub record AddsCells (old new : List Item) (cell : ℕ) (tasks : List Task) (rest : ℕ) : Type 0 where
+  pub extends : ExtendsItems old new
+  pub sound : AreItemsSound new
   pub within : cell < length new
   pub is : tasks_at new cell ≡ tasks ++ tasks_at old rest
 
 -- further cells, of which this one stands for these names
 pub record Opens (old new : List Item) (cell : ℕ) (scope : List Slotted) : Type 0 where
-  pub extends : Extends old new
-  pub sound : IsSound new
+  pub extends : ExtendsItems old new
+  pub sound : AreItemsSound new
   pub opened : IsScope new cell scope
 
 -- a handler of this catch
@@ -153,18 +153,18 @@ pub record GoesTo (items : List Item) (next : List ℕ) (tasks : List Task) : Ty
 -- a node with this step and these next nodes goes on as tasks do
 pub record GoesAs (items : List Item) (tasks : List Task) (step : Step)
     (next : List ℕ) : Type 0 where
-  pub shows : (es : List Event) (left : List Task) → Next tasks es left → es ≡ shown step
-  pub forth : (es : List Event) (left : List Task) → Next tasks es left → GoesTo items next left
+  pub shows : (es : List Event) (left : List Task) → NextTasks tasks es left → es ≡ shown step
+  pub forth : (es : List Event) (left : List Task) → NextTasks tasks es left → GoesTo items next left
   pub linked : All (λ q. q < length items) next
-  pub back : (q : ℕ) → Contains next q → Next tasks (shown step) (tasks_at items q)
+  pub back : (q : ℕ) → Contains next q → NextTasks tasks (shown step) (tasks_at items q)
   pub doing : (event : Event)
       → shown step ≡ event ∷ []
       → (left : List Task) × (tasks ≡ Does event ∷ left)
 
 -- further cells, and a node for these tasks
 pub record Steps (old new : List Item) (tasks : List Task) (n : node.Node) : Type 0 where
-  pub extends : Extends old new
-  pub sound : IsSound new
+  pub extends : ExtendsItems old new
+  pub sound : AreItemsSound new
   pub goes : GoesAs new tasks n.step (next_cells n.next)
 
 -- cells for the evaluation of each of these, and then for these tasks
@@ -179,8 +179,8 @@ BodiesAt items s slot behind _ _ = ⊥
 -- further cells, which are such cells, and their numbers after former ones
 pub record AddsBodies (old new : List Item) (s : List Slotted) (slot : ℕ) (behind : List Task)
     (former next : List ℕ) (es : List Expression) : Type 0 where
-  pub extends : Extends old new
-  pub sound : IsSound new
+  pub extends : ExtendsItems old new
+  pub sound : AreItemsSound new
   pub more : List ℕ
   pub is : next ≡ former ++ more
   pub row : BodiesAt new s slot behind more es

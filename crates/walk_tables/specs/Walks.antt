@@ -84,9 +84,9 @@ operand scope free slot e =
     ∷ []
 
 -- the operation at this place takes so many operands, the first of them in this slot
-abbrev pub takes : ℕ → ℕ → ℕ → List Task
-takes at slot zero = []
-takes at slot (suc count) = Does (Uses slot at) ∷ takes at (suc slot) count
+abbrev pub operand_uses : ℕ → ℕ → ℕ → List Task
+operand_uses at slot zero = []
+operand_uses at slot (suc count) = Does (Uses slot at) ∷ operand_uses at (suc slot) count
 
 -- ---- operands: the first is in `slot`, the next in the slot after, and `free` is after the last
 
@@ -98,25 +98,25 @@ waiting scope free slot (More e rest) =
     (operand scope free slot e)
 
 -- and then the light addresses, right to left
-abbrev pub filled : List Slotted → ℕ → ℕ → Expressions → List Task
-filled scope free slot NoMore = []
-filled scope free slot (More e rest) =
-    filled scope free (suc slot) rest ++ cond (is_light_address (names scope) e)
+abbrev pub filled_slots : List Slotted → ℕ → ℕ → Expressions → List Task
+filled_slots scope free slot NoMore = []
+filled_slots scope free slot (More e rest) =
+    filled_slots scope free (suc slot) rest ++ cond (is_light_address (names scope) e)
     (operand scope free slot e) []
 
 abbrev pub all_operands : List Slotted → ℕ → Expressions → List Task
 all_operands scope slot es =
-    waiting scope (slot + count_of es) slot es ++ filled scope (slot + count_of es) slot es
+    waiting scope (slot + count_of es) slot es ++ filled_slots scope (slot + count_of es) slot es
 
-abbrev pub two : Expression → Expression → Expressions
-two a b = More a (More b NoMore)
+abbrev pub two_expressions : Expression → Expression → Expressions
+two_expressions a b = More a (More b NoMore)
 
 -- an operation on one operand, and on two
 abbrev pub on_one : List Slotted → ℕ → ℕ → Expression → List Task
-on_one scope slot at e = all_operands scope slot (More e NoMore) ++ takes at slot 1
+on_one scope slot at e = all_operands scope slot (More e NoMore) ++ operand_uses at slot 1
 
 abbrev pub on_two : List Slotted → ℕ → ℕ → Expression → Expression → List Task
-on_two scope slot at a b = all_operands scope slot (two a b) ++ takes at slot 2
+on_two scope slot at a b = all_operands scope slot (two_expressions a b) ++ operand_uses at slot 2
 
 -- ---- the tasks of each form
 
@@ -129,9 +129,9 @@ abbrev pub bound_at : ℕ → Ty → Option ℕ → List Task
 bound_at at type (Some slot) = Does (Binds slot (is_address type) at) ∷ []
 bound_at at type None = []
 
-abbrev pub in_order : List Slotted → ℕ → Expressions → List Task
-in_order scope slot NoMore = []
-in_order scope slot (More e rest) = Evaluates scope slot e ∷ in_order scope slot rest
+abbrev pub tasks_in_order : List Slotted → ℕ → Expressions → List Task
+tasks_in_order scope slot NoMore = []
+tasks_in_order scope slot (More e rest) = Evaluates scope slot e ∷ tasks_in_order scope slot rest
 
 abbrev pub bodies : Cases → List Expression
 bodies NoCase = []
@@ -139,8 +139,8 @@ bodies (Choose indexes body rest) = body ∷ bodies rest
 
 -- after the operands of a call: an app and a frame call are a frame point, at their parenthesis, and may raise
 -- there; another external call is none, and does not
-abbrev pub called : Bool → ℕ → List Task
-called passes at = cond passes (Does (Passes at) ∷ MayRaise ∷ []) []
+abbrev pub call_tasks : Bool → ℕ → List Task
+call_tasks passes at = cond passes (Does (Passes at) ∷ MayRaise ∷ []) []
 
 -- an app and a frame call use their operands before their frame point, an alloc after it; a light address of an
 -- alloc is evaluated after it, too
@@ -160,16 +160,16 @@ tasks_of scope slot (Store at chunk address value) = on_two scope slot at addres
 tasks_of scope slot (Alloc at header_at header operands) =
     waiting scope (slot + count_of operands) slot operands
     ++ (Does (Passes at) ∷
-    (filled scope (slot + count_of operands) slot operands ++ takes at slot (count_of operands)))
+    (filled_slots scope (slot + count_of operands) slot operands ++ operand_uses at slot (count_of operands)))
 tasks_of scope slot (App at callee arguments result result_at) =
     all_operands scope slot (More callee arguments)
-    ++ (takes at slot (suc (count_of arguments)) ++ called true at)
+    ++ (operand_uses at slot (suc (count_of arguments)) ++ call_tasks true at)
 tasks_of scope slot (Extcall at frame name arguments result result_at) =
-    all_operands scope slot arguments ++ (takes at slot (count_of arguments) ++ called frame at)
+    all_operands scope slot arguments ++ (operand_uses at slot (count_of arguments) ++ call_tasks frame at)
 tasks_of scope slot (Checkbound at bound index) =
     on_two scope slot at bound index ++ (MayRaise ∷ [])
 tasks_of scope slot (Raise at value) = on_one scope slot at value ++ (Raises ∷ [])
-tasks_of scope slot (Seq at elements) = in_order scope slot elements
+tasks_of scope slot (Seq at elements) = tasks_in_order scope slot elements
 tasks_of scope slot (If at condition on_true on_false) =
     on_one scope slot at condition ++ (OneOf scope slot (on_true ∷ on_false ∷ []) ∷ [])
 tasks_of scope slot (Switch at size_at size selector cases) =
@@ -177,7 +177,7 @@ tasks_of scope slot (Switch at size_at size selector cases) =
 tasks_of scope slot (Catch at body handlers) =
     Evaluates scope slot body ∷ Catches scope slot false handlers ∷ []
 tasks_of scope slot (Exit at label_at label arguments) =
-    all_operands scope slot arguments ++ (takes at slot (count_of arguments) ++ (Exits label ∷ []))
+    all_operands scope slot arguments ++ (operand_uses at slot (count_of arguments) ++ (Exits label ∷ []))
 tasks_of scope slot (Try at body name_at name handler) =
     Evaluates scope slot body ∷ Handles scope slot name_at name handler ∷ []
 
@@ -247,37 +247,37 @@ behind_raise (_ ∷ rest) = behind_raise rest
 -- ---- walks
 
 -- One step of a walk, with its event, if it has one.
-pub data Next : List Task → List Event → List Task → Type 0 where
-  does : (event : Event) (tasks : List Task) → Next (Does event ∷ tasks) (event ∷ []) tasks
+pub data NextTasks : List Task → List Event → List Task → Type 0 where
+  does : (event : Event) (tasks : List Task) → NextTasks (Does event ∷ tasks) (event ∷ []) tasks
   evaluates : (scope : List Slotted) (slot : ℕ) (e : Expression) (tasks : List Task)
-      → Next (Evaluates scope slot e ∷ tasks) [] (tasks_of scope slot e ++ tasks)
+      → NextTasks (Evaluates scope slot e ∷ tasks) [] (tasks_of scope slot e ++ tasks)
   enters : (scope : List Slotted) (slot : ℕ) (bindings : Bindings) (body : Expression)
       (tasks : List Task)
-      → Next (Enters scope slot bindings body ∷ tasks) []
+      → NextTasks (Enters scope slot bindings body ∷ tasks) []
       (entering scope slot bindings body ++ tasks)
   one_of : (scope : List Slotted) (slot : ℕ) (es : List Expression) (e : Expression)
       (tasks : List Task)
-      → Contains es e → Next (OneOf scope slot es ∷ tasks) [] (Evaluates scope slot e ∷ tasks)
-  goes_on : (tasks : List Task) → Next (MayRaise ∷ tasks) [] tasks
-  may_raise : (tasks : List Task) → Next (MayRaise ∷ tasks) [] (Raises ∷ tasks)
+      → Contains es e → NextTasks (OneOf scope slot es ∷ tasks) [] (Evaluates scope slot e ∷ tasks)
+  goes_on : (tasks : List Task) → NextTasks (MayRaise ∷ tasks) [] tasks
+  may_raise : (tasks : List Task) → NextTasks (MayRaise ∷ tasks) [] (Raises ∷ tasks)
   raises : (tasks handler : List Task)
       → behind_raise tasks ≡ Some handler
-      → Next (Raises ∷ tasks) [] handler
+      → NextTasks (Raises ∷ tasks) [] handler
   exits : (label : LabelTree) (tasks handler : List Task)
       → behind_exit label tasks ≡ Some handler
-      → Next (Exits label ∷ tasks) [] handler
+      → NextTasks (Exits label ∷ tasks) [] handler
   leaves_catch : (scope : List Slotted) (slot : ℕ) (in_handler : Bool) (handlers : Handlers)
       (tasks : List Task)
-      → Next (Catches scope slot in_handler handlers ∷ tasks) [] tasks
+      → NextTasks (Catches scope slot in_handler handlers ∷ tasks) [] tasks
   leaves_try : (scope : List Slotted) (slot name_at : ℕ) (name : List ℕ) (handler : Expression)
       (tasks : List Task)
-      → Next (Handles scope slot name_at name handler ∷ tasks) [] tasks
+      → NextTasks (Handles scope slot name_at name handler ∷ tasks) [] tasks
 
 -- What may happen where these tasks are left, up to any point.
 pub data Walk : List Task → List Event → Type 0 where
   stops : (tasks : List Task) → Walk tasks []
   goes : (tasks left : List Task) (es events : List Event)
-      → Next tasks es left
+      → NextTasks tasks es left
       → Walk left events
       → Walk tasks (es ++ events)
 

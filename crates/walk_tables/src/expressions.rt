@@ -7,12 +7,12 @@ ghost use Rattle.cmm_types.specs.Annotated.{IsAnnotated};
 ghost use Rattle.cmm_types.specs.Lists.{AreAnnotated, AreBindingsAnnotated, AreCasesAnnotated, AreHandlersAnnotated};
 ghost use Rattle.cmm_tree.specs.Rows.{row_of, bindings_of, cases_of, handlers_of};
 ghost use Rattle.walk_tables.specs.Walks.{Slotted, Does, Evaluates, Enters, Passes, OneOf, MayRaise, Raises, Exits};
-ghost use Rattle.walk_tables.specs.Walks.{Catches, Handles, names, used_at, bound_at, slot_of, takes, waiting};
+ghost use Rattle.walk_tables.specs.Walks.{Catches, Handles, names, used_at, bound_at, slot_of, operand_uses, waiting};
 ghost use Rattle.cmm_tree.specs.Measures.{count_of};
-ghost use Rattle.walk_tables.specs.Walks.{filled, all_operands, on_one, on_two, bodies, handling, called, tasks_of};
+ghost use Rattle.walk_tables.specs.Walks.{filled_slots, all_operands, on_one, on_two, bodies, handling, call_tasks, tasks_of};
 ghost use Rattle.cmm_types.specs.Types.{type_named, with_bindings};
 ghost use Rattle.walk_tables.specs.Cells.{cells};
-ghost use Rattle.walk_tables.specs.Sound.{IsReady, IsScope, Adds, AddsHandlers};
+ghost use Rattle.walk_tables.specs.Sound.{IsCellReady, IsScope, AddsCells, AddsHandlers};
 
 use crate::items::{Action, Cells, Item};
 use bs_words::{Name, Ty};
@@ -23,8 +23,8 @@ use std::alloc::AllocError;
 impl<'a> Cells<'a> {
     /// A call or a test, which may raise.
     fn may_raise(&mut self, rest: usize) -> Result<usize, AllocError>
-        ensures adds { IfOk result (λ cell. IsReady (cells self.old) rest →
-            Adds (cells self.old) (cells self.new) cell (MayRaise ∷ []) rest) }
+        ensures adds { IfOk result (λ cell. IsCellReady (cells self.old) rest →
+            AddsCells (cells self.old) (cells self.new) cell (MayRaise ∷ []) rest) }
         ensures more { IfOk result (λ _. length (cells self.new) ≡ suc (length (cells self.old))) }
     {
         let cell = self.push(Item::MayRaise { rest })?;
@@ -33,8 +33,8 @@ impl<'a> Cells<'a> {
 
     /// A raise. The only error is want of memory.
     pub fn raises(&mut self, rest: usize) -> Result<usize, AllocError>
-        ensures adds { IfOk result (λ cell. IsReady (cells self.old) rest →
-            Adds (cells self.old) (cells self.new) cell (Raises ∷ []) rest) }
+        ensures adds { IfOk result (λ cell. IsCellReady (cells self.old) rest →
+            AddsCells (cells self.old) (cells self.new) cell (Raises ∷ []) rest) }
         ensures more { IfOk result (λ _. length (cells self.new) ≡ suc (length (cells self.old))) }
     {
         let cell = self.push(Item::Raises { rest })?;
@@ -51,9 +51,9 @@ impl<'a> Cells<'a> {
         rest: usize,
     ) -> Result<usize, AllocError>
         requires { slot ≤ length (cells self.old) }
-        ensures { IfOk result (λ cell. (s : List Slotted) → IsReady (cells self.old) rest →
+        ensures { IfOk result (λ cell. (s : List Slotted) → IsCellReady (cells self.old) rest →
             IsScope (cells self.old) scope s → IsAnnotated (names s) expr.now →
-            Adds (cells self.old) (cells self.new) cell (on_one s slot at
+            AddsCells (cells self.old) (cells self.new) cell (on_one s slot at
             (expr_view expr.now)) rest) }
     {
         let free = slot + 1;
@@ -74,10 +74,10 @@ impl<'a> Cells<'a> {
         rest: usize,
     ) -> Result<usize, AllocError>
         requires { slot ≤ length (cells self.old) }
-        ensures { IfOk result (λ cell. (s : List Slotted) → IsReady (cells self.old) rest →
+        ensures { IfOk result (λ cell. (s : List Slotted) → IsCellReady (cells self.old) rest →
             IsScope (cells self.old) scope s → IsAnnotated (names s) left.now →
             IsAnnotated (names s) right.now →
-            Adds (cells self.old) (cells self.new) cell (on_two s slot at
+            AddsCells (cells self.old) (cells self.new) cell (on_two s slot at
             (expr_view left.now) (expr_view right.now)) rest) }
     {
         let free = slot + 2;
@@ -100,10 +100,10 @@ impl<'a> Cells<'a> {
         rest: usize,
     ) -> Result<usize, AllocError>
         requires { slot ≤ length (cells self.old) }
-        ensures { IfOk result (λ cell. (s : List Slotted) → IsReady (cells self.old) rest →
+        ensures { IfOk result (λ cell. (s : List Slotted) → IsCellReady (cells self.old) rest →
             IsScope (cells self.old) scope s → AreAnnotated (names s) exprs.now →
-            Adds (cells self.old) (cells self.new) cell (all_operands s slot
-            (row_of exprs.now) ++ takes at slot (count_of (row_of exprs.now))) rest) }
+            AddsCells (cells self.old) (cells self.new) cell (all_operands s slot
+            (row_of exprs.now) ++ operand_uses at slot (count_of (row_of exprs.now))) rest) }
     {
         let taken = self.takes(at, slot, exprs.len(), rest)?;
         let cell = self.all_operands(scope, slot, exprs, taken)?;
@@ -120,11 +120,11 @@ impl<'a> Cells<'a> {
         rest: usize,
     ) -> Result<usize, AllocError>
         requires { slot ≤ length (cells self.old) }
-        ensures { IfOk result (λ cell. (s : List Slotted) → IsReady (cells self.old) rest →
+        ensures { IfOk result (λ cell. (s : List Slotted) → IsCellReady (cells self.old) rest →
             IsScope (cells self.old) scope s → AreAnnotated (names s) exprs.now →
-            Adds (cells self.old) (cells self.new) cell (waiting s (slot + count_of
-            (row_of exprs.now)) slot (row_of exprs.now) ++ (Does (Passes at) ∷ (filled s
-            (slot + count_of (row_of exprs.now)) slot (row_of exprs.now) ++ takes at slot
+            AddsCells (cells self.old) (cells self.new) cell (waiting s (slot + count_of
+            (row_of exprs.now)) slot (row_of exprs.now) ++ (Does (Passes at) ∷ (filled_slots s
+            (slot + count_of (row_of exprs.now)) slot (row_of exprs.now) ++ operand_uses at slot
             (count_of (row_of exprs.now))))) rest) }
     {
         let free = slot + exprs.len();
@@ -137,8 +137,8 @@ impl<'a> Cells<'a> {
 
     /// What is after the operands of a call: the frame point of an app or a frame call, and a raise out of it.
     fn called(&mut self, frame: bool, at: u32, rest: usize) -> Result<usize, AllocError>
-        ensures adds { IfOk result (λ cell. IsReady (cells self.old) rest →
-            Adds (cells self.old) (cells self.new) cell (called frame at) rest) }
+        ensures adds { IfOk result (λ cell. IsCellReady (cells self.old) rest →
+            AddsCells (cells self.old) (cells self.new) cell (call_tasks frame at) rest) }
         ensures more { IfOk result (λ _. length (cells self.old) ≤ length (cells self.new)) }
     {
         if frame {
@@ -161,11 +161,11 @@ impl<'a> Cells<'a> {
         rest: usize,
     ) -> Result<usize, AllocError>
         requires { slot ≤ length (cells self.old) }
-        ensures { IfOk result (λ cell. (s : List Slotted) → IsReady (cells self.old) rest →
+        ensures { IfOk result (λ cell. (s : List Slotted) → IsCellReady (cells self.old) rest →
             IsScope (cells self.old) scope s → AreAnnotated (names s) exprs.now →
-            Adds (cells self.old) (cells self.new) cell (all_operands s slot
-            (row_of exprs.now) ++ (takes at slot (count_of
-            (row_of exprs.now)) ++ called frame at)) rest) }
+            AddsCells (cells self.old) (cells self.new) cell (all_operands s slot
+            (row_of exprs.now) ++ (operand_uses at slot (count_of
+            (row_of exprs.now)) ++ call_tasks frame at)) rest) }
     {
         let called = self.called(frame, at, rest)?;
         let cell = self.on_all(scope, slot, at, exprs, called)?;
@@ -181,9 +181,9 @@ impl<'a> Cells<'a> {
         rest: usize,
     ) -> Result<usize, AllocError>
         requires { slot + suc arguments ≤ usize.MAX }
-        ensures adds { IfOk result (λ cell. IsReady (cells self.old) rest →
-            Adds (cells self.old) (cells self.new) cell (takes at slot
-            (suc arguments) ++ called true at) rest) }
+        ensures adds { IfOk result (λ cell. IsCellReady (cells self.old) rest →
+            AddsCells (cells self.old) (cells self.new) cell (operand_uses at slot
+            (suc arguments) ++ call_tasks true at) rest) }
         ensures more { IfOk result (λ _.
             length (cells self.old) + suc arguments ≤ length (cells self.new)) }
     {
@@ -205,12 +205,12 @@ impl<'a> Cells<'a> {
         rest: usize,
     ) -> Result<usize, AllocError>
         requires { slot ≤ length (cells self.old) }
-        ensures { IfOk result (λ cell. (s : List Slotted) → IsReady (cells self.old) rest →
+        ensures { IfOk result (λ cell. (s : List Slotted) → IsCellReady (cells self.old) rest →
             IsScope (cells self.old) scope s → IsAnnotated (names s) callee.now →
             AreAnnotated (names s) exprs.now →
-            Adds (cells self.old) (cells self.new) cell (all_operands s slot (More
-            (expr_view callee.now) (row_of exprs.now)) ++ (takes at slot (suc (count_of
-            (row_of exprs.now))) ++ called true at)) rest) }
+            AddsCells (cells self.old) (cells self.new) cell (all_operands s slot (More
+            (expr_view callee.now) (row_of exprs.now)) ++ (operand_uses at slot (suc (count_of
+            (row_of exprs.now))) ++ call_tasks true at)) rest) }
     {
         let second = slot + 1;
         let free = second + exprs.len();
@@ -224,9 +224,9 @@ impl<'a> Cells<'a> {
 
     /// A use of a name.
     fn used(&mut self, scope: usize, at: u32, name: &Name, rest: usize) -> Result<usize, AllocError>
-        ensures { IfOk result (λ cell. (s : List Slotted) → IsReady (cells self.old) rest →
+        ensures { IfOk result (λ cell. (s : List Slotted) → IsCellReady (cells self.old) rest →
             IsScope (cells self.old) scope s →
-            Adds (cells self.old) (cells self.new) cell (used_at at (slot_of s name.now)) rest) }
+            AddsCells (cells self.old) (cells self.new) cell (used_at at (slot_of s name.now)) rest) }
     {
         match self.find(scope, name) {
             None => Ok(rest),
@@ -245,9 +245,9 @@ impl<'a> Cells<'a> {
         name: &Name,
         rest: usize,
     ) -> Result<usize, AllocError>
-        ensures { IfOk result (λ cell. (s : List Slotted) → IsReady (cells self.old) rest →
+        ensures { IfOk result (λ cell. (s : List Slotted) → IsCellReady (cells self.old) rest →
             IsScope (cells self.old) scope s →
-            Adds (cells self.old) (cells self.new) cell (bound_at at (type_named
+            AddsCells (cells self.old) (cells self.new) cell (bound_at at (type_named
             (names s) name.now) (slot_of s name.now)) rest) }
     {
         match self.find(scope, name) {
@@ -271,9 +271,9 @@ impl<'a> Cells<'a> {
         rest: usize,
     ) -> Result<usize, AllocError>
         requires { slot ≤ length (cells self.old) }
-        ensures { IfOk result (λ cell. (s : List Slotted) → IsReady (cells self.old) rest →
+        ensures { IfOk result (λ cell. (s : List Slotted) → IsCellReady (cells self.old) rest →
             IsScope (cells self.old) scope s → IsAnnotated (names s) value.now →
-            Adds (cells self.old) (cells self.new) cell (Evaluates s slot
+            AddsCells (cells self.old) (cells self.new) cell (Evaluates s slot
             (expr_view value.now) ∷ bound_at at (type_named (names s) name.now)
             (slot_of s name.now)) rest) }
     {
@@ -293,10 +293,10 @@ impl<'a> Cells<'a> {
         rest: usize,
     ) -> Result<usize, AllocError>
         requires { slot ≤ length (cells self.old) }
-        ensures { IfOk result (λ cell. (s : List Slotted) → IsReady (cells self.old) rest →
+        ensures { IfOk result (λ cell. (s : List Slotted) → IsCellReady (cells self.old) rest →
             IsScope (cells self.old) scope s → IsAnnotated (names s) bound.now →
             IsAnnotated (names s) index.now →
-            Adds (cells self.old) (cells self.new) cell (on_two s slot at
+            AddsCells (cells self.old) (cells self.new) cell (on_two s slot at
             (expr_view bound.now) (expr_view index.now) ++ (MayRaise ∷ [])) rest) }
     {
         let may_raise = self.may_raise(rest)?;
@@ -314,9 +314,9 @@ impl<'a> Cells<'a> {
         rest: usize,
     ) -> Result<usize, AllocError>
         requires { slot ≤ length (cells self.old) }
-        ensures { IfOk result (λ cell. (s : List Slotted) → IsReady (cells self.old) rest →
+        ensures { IfOk result (λ cell. (s : List Slotted) → IsCellReady (cells self.old) rest →
             IsScope (cells self.old) scope s → IsAnnotated (names s) value.now →
-            Adds (cells self.old) (cells self.new) cell (on_one s slot at
+            AddsCells (cells self.old) (cells self.new) cell (on_one s slot at
             (expr_view value.now) ++ (Raises ∷ [])) rest) }
     {
         let raises = self.raises(rest)?;
@@ -334,10 +334,10 @@ impl<'a> Cells<'a> {
         rest: usize,
     ) -> Result<usize, AllocError>
         requires { slot ≤ length (cells self.old) }
-        ensures adds { IfOk result (λ cell. (s : List Slotted) → IsReady (cells self.old) rest →
+        ensures adds { IfOk result (λ cell. (s : List Slotted) → IsCellReady (cells self.old) rest →
             IsScope (cells self.old) scope s → IsAnnotated (names s) on_true.now →
             IsAnnotated (names s) on_false.now →
-            Adds (cells self.old) (cells self.new) cell (OneOf s slot
+            AddsCells (cells self.old) (cells self.new) cell (OneOf s slot
             (expr_view on_true.now ∷ expr_view on_false.now ∷ []) ∷ []) rest) }
         ensures more { IfOk result (λ _. length (cells self.new) ≡ suc (length (cells self.old))) }
     {
@@ -362,10 +362,10 @@ impl<'a> Cells<'a> {
         rest: usize,
     ) -> Result<usize, AllocError>
         requires { slot ≤ length (cells self.old) }
-        ensures { IfOk result (λ cell. (s : List Slotted) → IsReady (cells self.old) rest →
+        ensures { IfOk result (λ cell. (s : List Slotted) → IsCellReady (cells self.old) rest →
             IsScope (cells self.old) scope s →
             IsAnnotated (names s) selector.now → AreCasesAnnotated (names s) cases.now →
-            Adds (cells self.old) (cells self.new) cell (on_one s slot at
+            AddsCells (cells self.old) (cells self.new) cell (on_one s slot at
             (expr_view selector.now) ++ (OneOf s slot (bodies (cases_of cases.now)) ∷ [])) rest) }
     {
         let one_of = self.push(Item::OneOf {
@@ -389,10 +389,10 @@ impl<'a> Cells<'a> {
         rest: usize,
     ) -> Result<usize, AllocError>
         requires { slot ≤ length (cells self.old) }
-        ensures { IfOk result (λ cell. (s : List Slotted) → IsReady (cells self.old) rest →
+        ensures { IfOk result (λ cell. (s : List Slotted) → IsCellReady (cells self.old) rest →
             IsScope (cells self.old) scope s → AreAnnotated (names s) exprs.now →
-            Adds (cells self.old) (cells self.new) cell (all_operands s slot
-            (row_of exprs.now) ++ (takes at slot (count_of (row_of exprs.now)) ++
+            AddsCells (cells self.old) (cells self.new) cell (all_operands s slot
+            (row_of exprs.now) ++ (operand_uses at slot (count_of (row_of exprs.now)) ++
             (Exits (label_view label.now) ∷ []))) rest) }
     {
         let exits = self.push(Item::Exits { label, rest })?;
@@ -443,10 +443,10 @@ impl<'a> Cells<'a> {
         rest: usize,
     ) -> Result<usize, AllocError>
         requires { slot ≤ length (cells self.old) }
-        ensures { IfOk result (λ cell. (s : List Slotted) → IsReady (cells self.old) rest →
+        ensures { IfOk result (λ cell. (s : List Slotted) → IsCellReady (cells self.old) rest →
             IsScope (cells self.old) scope s →
             IsAnnotated (names s) body.now → AreHandlersAnnotated (names s) handlers.now →
-            Adds (cells self.old) (cells self.new) cell (Evaluates s slot
+            AddsCells (cells self.old) (cells self.new) cell (Evaluates s slot
             (expr_view body.now) ∷ Catches s slot false (handlers_of handlers.now) ∷ []) rest) }
     {
         let first = self.len();
@@ -475,13 +475,13 @@ impl<'a> Cells<'a> {
         rest: usize,
     ) -> Result<usize, AllocError>
         requires { slot ≤ length (cells self.old) }
-        ensures { IfOk result (λ cell. (s : List Slotted) → IsReady (cells self.old) rest →
+        ensures { IfOk result (λ cell. (s : List Slotted) → IsCellReady (cells self.old) rest →
             IsScope (cells self.old) scope s → IsAnnotated (record {
               name = name.now;
               type = ty.Val;
               mutable = false;
             } ∷ names s) handler.now →
-            Adds (cells self.old) (cells self.new) cell
+            AddsCells (cells self.old) (cells self.new) cell
             (handling s slot name_at name.now (expr_view handler.now)) rest) }
     {
         let next = slot + 1;
@@ -504,13 +504,13 @@ impl<'a> Cells<'a> {
         rest: usize,
     ) -> Result<usize, AllocError>
         requires { slot ≤ length (cells self.old) }
-        ensures { IfOk result (λ cell. (s : List Slotted) → IsReady (cells self.old) rest →
+        ensures { IfOk result (λ cell. (s : List Slotted) → IsCellReady (cells self.old) rest →
             IsScope (cells self.old) scope s → IsAnnotated (record {
               name = name.now;
               type = ty.Val;
               mutable = false;
             } ∷ names s) handler.now →
-            Adds (cells self.old) (cells self.new) cell (Handles s slot name_at name.now
+            AddsCells (cells self.old) (cells self.new) cell (Handles s slot name_at name.now
             (expr_view handler.now) ∷ []) rest) }
     {
         let entry = self.handling(scope, slot, name_at, name, handler, rest)?;
@@ -536,11 +536,11 @@ impl<'a> Cells<'a> {
         rest: usize,
     ) -> Result<usize, AllocError>
         requires { slot ≤ length (cells self.old) }
-        ensures { IfOk result (λ cell. (s : List Slotted) → IsReady (cells self.old) rest →
+        ensures { IfOk result (λ cell. (s : List Slotted) → IsCellReady (cells self.old) rest →
             IsScope (cells self.old) scope s →
             AreBindingsAnnotated (names s) bindings.now →
             IsAnnotated (with_bindings (names s) (bindings_of bindings.now)) body.now →
-            Adds (cells self.old) (cells self.new) cell (Enters s slot
+            AddsCells (cells self.old) (cells self.new) cell (Enters s slot
             (bindings_of bindings.now) (expr_view body.now) ∷ []) rest) }
     {
         let cell = self.push(Item::Enters {
@@ -562,9 +562,9 @@ impl<'a> Cells<'a> {
         rest: usize,
     ) -> Result<usize, AllocError>
         requires { slot ≤ length (cells self.old) }
-        ensures { IfOk result (λ cell. (s : List Slotted) → IsReady (cells self.old) rest →
+        ensures { IfOk result (λ cell. (s : List Slotted) → IsCellReady (cells self.old) rest →
             IsScope (cells self.old) scope s → IsAnnotated (names s) expr.now →
-            Adds (cells self.old) (cells self.new) cell (tasks_of s slot
+            AddsCells (cells self.old) (cells self.new) cell (tasks_of s slot
             (expr_view expr.now)) rest) }
     {
         let at = expr.at;

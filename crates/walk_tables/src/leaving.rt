@@ -6,8 +6,8 @@ ghost use Rattle.cmm_tree.specs.Rows.{handlers_of};
 ghost use Rattle.walk_tables.specs.Walks.{Slotted, Task, handler_for, behind_exit, behind_raise};
 ghost use Rattle.cmm_tree.specs.Tree.{same_label, is_bare};
 ghost use Rattle.walk_tables.specs.Cells.{cells, item_at, tasks_at};
-ghost use Rattle.walk_tables.specs.Sound.{IsSound, IsHeld, HandlersAt, LeadsTo};
-ghost use Rattle.walk_tables.specs.Leaving.{IsRow, HasRow, rest_in, own_handler, exit_rest, raise_rest};
+ghost use Rattle.walk_tables.specs.Sound.{AreItemsSound, IsItemHeld, HandlersAt, LeadsTo};
+ghost use Rattle.walk_tables.specs.Leaving.{IsRow, HasRow, rest_in, own_handler, exit_tasks, raise_rest};
 
 use crate::items::{Cells, Item};
 use cmm_tree::{Handler, Label};
@@ -54,7 +54,7 @@ fn find_handler(
 fn own_handler(label: &Label, item: Item<'_>) -> Option<usize>
     requires { HasRow item }
     ensures { (count : ℕ) (scopes : ℕ → List Slotted) (tasks : ℕ →
-        List Task) → IsHeld count scopes tasks item.entry →
+        List Task) → IsItemHeld count scopes tasks item.entry →
         LeadsTo count tasks result (own_handler (label_view label.now) scopes tasks item.entry) }
 {
     match item {
@@ -108,7 +108,7 @@ impl<'a> Cells<'a> {
     /// The cell to which an exit leads from this one, if a handler of its label is visible.
     #[cycle(exit)]
     pub fn exit(&self, label: &Label, cell: usize) -> Option<usize>
-        requires { IsSound (cells self.now) }
+        requires { AreItemsSound (cells self.now) }
         ensures { LeadsTo (length (cells self.now)) (tasks_at (cells self.now)) result
             (behind_exit (label_view label.now) (tasks_at (cells self.now) cell)) }
     {
@@ -120,7 +120,7 @@ impl<'a> Cells<'a> {
 
     #[cycle(exit)]
     fn exit_in(&self, label: &Label, cell: usize, item: Item<'a>) -> Option<usize>
-        requires sound { IsSound (cells self.now) }
+        requires sound { AreItemsSound (cells self.now) }
         requires here { item_at (cells self.now) cell ≡ Some item }
         ensures { LeadsTo (length (cells self.now)) (tasks_at (cells self.now)) result
             (behind_exit (label_view label.now) (tasks_at (cells self.now) cell)) }
@@ -133,10 +133,10 @@ impl<'a> Cells<'a> {
 
     #[cycle(exit)]
     fn exit_behind(&self, label: &Label, cell: usize, item: Item<'a>) -> Option<usize>
-        requires sound { IsSound (cells self.now) }
+        requires sound { AreItemsSound (cells self.now) }
         requires here { item_at (cells self.now) cell ≡ Some item }
         ensures { LeadsTo (length (cells self.now)) (tasks_at (cells self.now)) result
-            (exit_rest (label_view label.now) (tasks_at (cells self.now)) (rest_in item.entry)) }
+            (exit_tasks (label_view label.now) (tasks_at (cells self.now)) (rest_in item.entry)) }
     {
         match rest_of(item) {
             None => None,
@@ -152,7 +152,7 @@ impl<'a> Cells<'a> {
     /// The cell to which a raise leads from this one, if a try of the function is active.
     #[cycle(raise)]
     pub fn raise(&self, cell: usize) -> Option<usize>
-        ensures { IsSound (cells self.now) → LeadsTo (length (cells self.now)) (tasks_at
+        ensures { AreItemsSound (cells self.now) → LeadsTo (length (cells self.now)) (tasks_at
             (cells self.now)) result (behind_raise (tasks_at (cells self.now) cell)) }
     {
         match self.get(cell) {
@@ -163,7 +163,7 @@ impl<'a> Cells<'a> {
 
     #[cycle(raise)]
     fn raise_in(&self, cell: usize, item: Item<'a>) -> Option<usize>
-        ensures { IsSound (cells self.now) → item_at (cells self.now) cell ≡ Some item.entry →
+        ensures { AreItemsSound (cells self.now) → item_at (cells self.now) cell ≡ Some item.entry →
             LeadsTo (length (cells self.now)) (tasks_at (cells self.now)) result
             (behind_raise (tasks_at (cells self.now) cell)) }
     {
@@ -186,7 +186,7 @@ impl<'a> Cells<'a> {
 
     #[cycle(raise)]
     fn raise_behind(&self, cell: usize, item: Item<'a>) -> Option<usize>
-        ensures { IsSound (cells self.now) → item_at (cells self.now) cell ≡ Some item.entry →
+        ensures { AreItemsSound (cells self.now) → item_at (cells self.now) cell ≡ Some item.entry →
             LeadsTo (length (cells self.now)) (tasks_at (cells self.now)) result
             (raise_rest (tasks_at (cells self.now)) (rest_in item.entry)) }
     {

@@ -4,7 +4,7 @@ ghost use Rattle.cmm_tree.specs.View.{expr_view, params_view};
 ghost use Rattle.cmm_types.specs.Light.{is_immutable, is_light, is_light_address};
 ghost use Rattle.walk_tables.specs.Walks.{Slotted, names, with_slots};
 ghost use Rattle.walk_tables.specs.Cells.{cells, item_at};
-ghost use Rattle.walk_tables.specs.Sound.{IsSound, IsScope, Opens};
+ghost use Rattle.walk_tables.specs.Sound.{AreItemsSound, IsScope, Opens};
 ghost use Rattle.walk_tables.specs.Found.{found_in};
 
 use crate::items::{Cells, Item};
@@ -34,7 +34,7 @@ impl<'a> Cells<'a> {
         mutable: bool,
         slot: usize,
     ) -> Result<usize, AllocError>
-        ensures opens { IfOk result (λ cell. (s : List Slotted) → IsSound (cells self.old) →
+        ensures opens { IfOk result (λ cell. (s : List Slotted) → AreItemsSound (cells self.old) →
             IsScope (cells self.old) outer s →
             Opens (cells self.old) (cells self.new) cell
             (record {
@@ -62,7 +62,7 @@ impl<'a> Cells<'a> {
         params: &'a [Param],
     ) -> Result<usize, AllocError>
         requires { slot + length params.now ≤ usize.MAX }
-        ensures opens { IfOk result (λ cell. (s : List Slotted) → IsSound (cells self.old) →
+        ensures opens { IfOk result (λ cell. (s : List Slotted) → AreItemsSound (cells self.old) →
             IsScope (cells self.old) scope s →
             Opens (cells self.old) (cells self.new) cell (with_slots slot
             (params_view params.now) s)) }
@@ -84,7 +84,7 @@ impl<'a> Cells<'a> {
     /// The innermost binding of the name.
     #[cycle(find)]
     pub fn find(&self, scope: usize, name: &Name) -> Option<Found>
-        ensures { (s : List Slotted) → IsSound (cells self.now) →
+        ensures { (s : List Slotted) → AreItemsSound (cells self.now) →
             IsScope (cells self.now) scope s → result ≡ found_in s name.now }
     {
         match self.get(scope) {
@@ -96,7 +96,7 @@ impl<'a> Cells<'a> {
     /// The innermost binding of the name, in the scope that this cell is.
     #[cycle(find)]
     fn find_in(&self, scope: usize, item: Item<'a>, name: &Name) -> Option<Found>
-        ensures { (s : List Slotted) → IsSound (cells self.now) →
+        ensures { (s : List Slotted) → AreItemsSound (cells self.now) →
             IsScope (cells self.now) scope s →
             item_at (cells self.now) scope ≡ Some item.entry → result ≡ found_in s name.now }
     {
@@ -133,7 +133,7 @@ impl<'a> Cells<'a> {
 
     /// Whether it is a name that is not mutable.
     fn is_immutable(&self, scope: usize, name: &Name) -> bool
-        ensures { (s : List Slotted) → IsSound (cells self.now) →
+        ensures { (s : List Slotted) → AreItemsSound (cells self.now) →
             IsScope (cells self.now) scope s → result ≡ is_immutable (names s) name.now }
     {
         match self.find(scope, name) {
@@ -144,7 +144,7 @@ impl<'a> Cells<'a> {
 
     /// Whether it is an integer, a symbol, an immutable name, or an operator over two light expressions.
     fn is_light(&self, scope: usize, expr: &Expr) -> bool
-        ensures { (s : List Slotted) → IsSound (cells self.now) →
+        ensures { (s : List Slotted) → AreItemsSound (cells self.now) →
             IsScope (cells self.now) scope s → result ≡ is_light (names s) (expr_view expr.now) }
     {
         match &expr.form {
@@ -179,7 +179,7 @@ impl<'a> Cells<'a> {
 
     /// Whether it is a light expression whose outermost operator is `+a`.
     pub fn is_light_address(&self, scope: usize, expr: &Expr) -> bool
-        ensures { (s : List Slotted) → IsSound (cells self.now) →
+        ensures { (s : List Slotted) → AreItemsSound (cells self.now) →
             IsScope (cells self.now) scope s →
             result ≡ is_light_address (names s) (expr_view expr.now) }
     {

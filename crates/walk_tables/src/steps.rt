@@ -7,7 +7,7 @@ ghost use Rattle.cmm_tree.specs.Rows.{bindings_of, cases_of};
 ghost use Rattle.cmm_types.specs.Types.{with_bindings, with_parameters};
 ghost use Rattle.walk_tables.specs.Walks.{Slotted, Evaluates, Enters, OneOf, MayRaise, Raises, Exits, names, bodies, parameters_bound};
 ghost use Rattle.walk_tables.specs.Cells.{cells, scope_at, tasks_at, tasks_in, handler_tasks};
-ghost use Rattle.walk_tables.specs.Sound.{free_in, IsSound, IsBelow, IsHeld, IsReady, IsScope, HandlersAt, Steps, AddsBodies};
+ghost use Rattle.walk_tables.specs.Sound.{free_in, AreItemsSound, IsBelow, IsItemHeld, IsCellReady, IsScope, HandlersAt, Steps, AddsBodies};
 
 use crate::items::{Action, Cells, Item};
 use crate::node::{Node, any_of, forked, last, quiet, telling};
@@ -34,7 +34,7 @@ impl<'a> Cells<'a> {
         rest: usize,
     ) -> Result<Node, AllocError>
         requires { slot ≤ length (cells self.old) }
-        ensures { IfOk result (λ node. (s : List Slotted) → IsReady (cells self.old) rest →
+        ensures { IfOk result (λ node. (s : List Slotted) → IsCellReady (cells self.old) rest →
             IsScope (cells self.old) scope s → IsAnnotated (names s) expr.now →
             Steps (cells self.old) (cells self.new) (Evaluates s slot
             (expr_view expr.now) ∷ tasks_at (cells self.old) rest) node) }
@@ -53,7 +53,7 @@ impl<'a> Cells<'a> {
         rest: usize,
     ) -> Result<Node, AllocError>
         requires { slot ≤ length (cells self.old) }
-        ensures { IfOk result (λ node. (s : List Slotted) → IsReady (cells self.old) rest →
+        ensures { IfOk result (λ node. (s : List Slotted) → IsCellReady (cells self.old) rest →
             IsScope (cells self.old) scope s →
             AreBindingsAnnotated (names s) bindings.now →
             IsAnnotated (with_bindings (names s) (bindings_of bindings.now)) body.now →
@@ -75,7 +75,7 @@ impl<'a> Cells<'a> {
         rest: usize,
     ) -> Result<Node, AllocError>
         requires { slot ≤ length (cells self.old) }
-        ensures { IfOk result (λ node. (s : List Slotted) → IsReady (cells self.old) rest →
+        ensures { IfOk result (λ node. (s : List Slotted) → IsCellReady (cells self.old) rest →
             IsScope (cells self.old) scope s → IsAnnotated (names s) on_true.now →
             IsAnnotated (names s) on_false.now →
             Steps (cells self.old) (cells self.new) (OneOf s slot
@@ -96,7 +96,7 @@ impl<'a> Cells<'a> {
         rest: usize,
         next: &mut Vec<usize>,
     ) -> Result<(), AllocError>
-        ensures { IfOk result (λ _. (s : List Slotted) → IsReady (cells self.old) rest →
+        ensures { IfOk result (λ _. (s : List Slotted) → IsCellReady (cells self.old) rest →
             IsScope (cells self.old) scope s →
             AreCasesAnnotated (names s) cases.now →
             slot ≤ length (cells self.old) →
@@ -124,7 +124,7 @@ impl<'a> Cells<'a> {
         rest: usize,
     ) -> Result<Node, AllocError>
         requires { slot ≤ length (cells self.old) }
-        ensures { IfOk result (λ node. (s : List Slotted) → IsReady (cells self.old) rest →
+        ensures { IfOk result (λ node. (s : List Slotted) → IsCellReady (cells self.old) rest →
             IsScope (cells self.old) scope s → AreCasesAnnotated (names s) cases.now →
             Steps (cells self.old) (cells self.new) (OneOf s slot (bodies
             (cases_of cases.now)) ∷ tasks_at (cells self.old) rest) node) }
@@ -136,7 +136,7 @@ impl<'a> Cells<'a> {
 
     /// The node of a call or a test.
     fn go_on_or_raise(&mut self, rest: usize) -> Result<Node, AllocError>
-        ensures { IfOk result (λ node. IsReady (cells self.old) rest →
+        ensures { IfOk result (λ node. IsCellReady (cells self.old) rest →
             Steps (cells self.old) (cells self.new) (MayRaise ∷ tasks_at
             (cells self.old) rest) node) }
     {
@@ -146,7 +146,7 @@ impl<'a> Cells<'a> {
 
     /// The node of a raise.
     fn leave_by_raise(&self, rest: usize) -> Node
-        ensures { IsSound (cells self.now) →
+        ensures { AreItemsSound (cells self.now) →
             Steps (cells self.now) (cells self.now) (Raises ∷ tasks_at
             (cells self.now) rest) result }
     {
@@ -158,7 +158,7 @@ impl<'a> Cells<'a> {
 
     /// The node of an exit.
     fn leave_by_exit(&self, label: &Label, rest: usize) -> Node
-        requires { IsSound (cells self.now) }
+        requires { AreItemsSound (cells self.now) }
         ensures { Steps (cells self.now) (cells self.now) (Exits
             (label_view label.now) ∷ tasks_at (cells self.now) rest) result }
     {
@@ -178,7 +178,7 @@ impl<'a> Cells<'a> {
     ) -> Result<Node, AllocError>
         requires { slot + suc (length others.now) ≤ usize.MAX }
         ensures { IfOk result (λ node. (s : List Slotted) →
-            IsReady (cells self.old) handled.entry.caught →
+            IsCellReady (cells self.old) handled.entry.caught →
             IsScope (cells self.old) handled.entry.scope s →
             IsAnnotated (names s) handled.entry.body.now →
             handled.entry.free ≤ length (cells self.old) →
@@ -205,7 +205,7 @@ impl<'a> Cells<'a> {
         caught: usize,
     ) -> Result<Node, AllocError>
         requires { slot + length params.now ≤ length (cells self.old) }
-        ensures { IfOk result (λ node. (s : List Slotted) → IsReady (cells self.old) caught →
+        ensures { IfOk result (λ node. (s : List Slotted) → IsCellReady (cells self.old) caught →
             IsScope (cells self.old) inner s → IsAnnotated (names s) body.now →
             Steps (cells self.old) (cells self.new) (parameters_bound slot
             (params_view params.now) ++ (Evaluates s (slot + length
@@ -238,7 +238,7 @@ impl<'a> Cells<'a> {
         rest: usize,
     ) -> Result<Node, AllocError>
         requires { slot ≤ length (cells self.old) }
-        ensures { IfOk result (λ node. (s : List Slotted) → IsReady (cells self.old) rest →
+        ensures { IfOk result (λ node. (s : List Slotted) → IsCellReady (cells self.old) rest →
             IsScope (cells self.old) scope s →
             AreHandlersAnnotated (names s) handlers.now →
             HandlersAt (length (cells self.old)) (tasks_at
@@ -265,10 +265,10 @@ impl<'a> Cells<'a> {
 
     /// The node of a cell. The only error is want of memory.
     pub fn step(&mut self, alloc: Global, item: Item<'a>) -> Result<Node, AllocError>
-        requires sound { IsSound (cells self.old) }
+        requires sound { AreItemsSound (cells self.old) }
         requires placed { free_in item ≤ length (cells self.old) }
         ensures { IfOk result (λ node. IsBelow (length (cells self.old)) item.entry →
-            IsHeld (length (cells self.old)) (scope_at (cells self.old)) (tasks_at
+            IsItemHeld (length (cells self.old)) (scope_at (cells self.old)) (tasks_at
             (cells self.old)) item.entry →
             Steps (cells self.old) (cells self.new) (tasks_in (scope_at
             (cells self.old)) (tasks_at (cells self.old)) item.entry) node) }

@@ -6,8 +6,8 @@ ghost use Rattle.cmm_types.specs.Annotated.{IsAnnotated};
 ghost use Rattle.cmm_types.specs.Types.{with_parameters};
 ghost use Rattle.walk_tables.specs.AddrLive.{IsLiveIn};
 ghost use Rattle.walk_tables.specs.Cells.{cells};
-ghost use Rattle.walk_tables.specs.Made.{Begins, Filled};
-ghost use Rattle.walk_tables.specs.Sound.{IsSound};
+ghost use Rattle.walk_tables.specs.Made.{StandsForTasks, Filled};
+ghost use Rattle.walk_tables.specs.Sound.{AreItemsSound};
 ghost use Rattle.walk_tables.specs.Table.{AreLinked, LeadsToBinding};
 ghost use Rattle.walk_tables.specs.Walks.{walk_tasks};
 
@@ -31,7 +31,7 @@ impl<'a> Cells<'a> {
         ensures { IfOk result (λ cell. cells self.old ≡ [] →
             IsAnnotated (with_parameters (params_view
             (contents function.now.params)) []) function.now.body →
-            Begins (cells self.new) cell (walk_tasks (function_view function.now))) }
+            StandsForTasks (cells self.new) cell (walk_tasks (function_view function.now))) }
     {
         let params = function.params.as_slice();
         let end = self.push(Item::Empty)?;
@@ -43,7 +43,7 @@ impl<'a> Cells<'a> {
 
     /// The nodes of all cells, and of those that come with them.
     fn nodes(&mut self, alloc: Global) -> Result<Vec<Node>, AllocError>
-        requires { IsSound (cells self.old) }
+        requires { AreItemsSound (cells self.old) }
         ensures { IfOk result (λ nodes.
             Filled (cells self.old) (cells self.new) nodes.items (length (cells self.new))) }
     {

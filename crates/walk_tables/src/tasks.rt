@@ -6,10 +6,10 @@ ghost use Rattle.cmm_types.specs.Light.{is_light_address};
 ghost use Rattle.cmm_types.specs.Lists.{AreAnnotated, AreBindingsAnnotated};
 ghost use Rattle.cmm_tree.specs.Rows.{row_of, bindings_of};
 ghost use Rattle.cmm_types.specs.Types.{with_bindings};
-ghost use Rattle.walk_tables.specs.Walks.{Slotted, Does, Evaluates, names, operand, takes, waiting, filled};
-ghost use Rattle.walk_tables.specs.Walks.{all_operands, in_order, parameters_bound, entering};
+ghost use Rattle.walk_tables.specs.Walks.{Slotted, Does, Evaluates, names, operand, operand_uses, waiting, filled_slots};
+ghost use Rattle.walk_tables.specs.Walks.{all_operands, tasks_in_order, parameters_bound, entering};
 ghost use Rattle.walk_tables.specs.Cells.{cells, event_of};
-ghost use Rattle.walk_tables.specs.Sound.{IsReady, IsScope, Adds};
+ghost use Rattle.walk_tables.specs.Sound.{IsCellReady, IsScope, AddsCells};
 
 use crate::items::{Action, Cells, Item};
 use cmm_tree::{Binding, Expr, Param};
@@ -19,8 +19,8 @@ use std::alloc::AllocError;
 impl<'a> Cells<'a> {
     /// The event comes. The only error is want of memory.
     pub fn does(&mut self, action: Action, rest: usize) -> Result<usize, AllocError>
-        ensures adds { IfOk result (λ cell. IsReady (cells self.old) rest →
-            Adds (cells self.old) (cells self.new) cell (Does (event_of action) ∷ []) rest) }
+        ensures adds { IfOk result (λ cell. IsCellReady (cells self.old) rest →
+            AddsCells (cells self.old) (cells self.new) cell (Does (event_of action) ∷ []) rest) }
         ensures more { IfOk result (λ _. length (cells self.new) ≡ suc (length (cells self.old))) }
     {
         let cell = self.push(Item::Does { action, rest })?;
@@ -36,10 +36,10 @@ impl<'a> Cells<'a> {
         expr: &'a Expr,
         rest: usize,
     ) -> Result<usize, AllocError>
-        ensures { IfOk result (λ cell. (s : List Slotted) → IsReady (cells self.old) rest →
+        ensures { IfOk result (λ cell. (s : List Slotted) → IsCellReady (cells self.old) rest →
             IsScope (cells self.old) scope s → IsAnnotated (names s) expr.now →
             slot ≤ length (cells self.old) →
-            Adds (cells self.old) (cells self.new) cell (Evaluates s slot
+            AddsCells (cells self.old) (cells self.new) cell (Evaluates s slot
             (expr_view expr.now) ∷ []) rest) }
     {
         let cell = self.push(Item::Evaluates {
@@ -60,10 +60,10 @@ impl<'a> Cells<'a> {
         expr: &'a Expr,
         rest: usize,
     ) -> Result<usize, AllocError>
-        ensures { IfOk result (λ cell. (s : List Slotted) → IsReady (cells self.old) rest →
+        ensures { IfOk result (λ cell. (s : List Slotted) → IsCellReady (cells self.old) rest →
             IsScope (cells self.old) scope s → IsAnnotated (names s) expr.now →
             free ≤ length (cells self.old) →
-            Adds (cells self.old) (cells self.new) cell (operand s free slot
+            AddsCells (cells self.old) (cells self.new) cell (operand s free slot
             (expr_view expr.now)) rest) }
     {
         let address = is_address(expr.ty);
@@ -83,8 +83,8 @@ impl<'a> Cells<'a> {
         rest: usize,
     ) -> Result<usize, AllocError>
         requires { slot + count ≤ usize.MAX }
-        ensures adds { IfOk result (λ cell. IsReady (cells self.old) rest →
-            Adds (cells self.old) (cells self.new) cell (takes at slot count) rest) }
+        ensures adds { IfOk result (λ cell. IsCellReady (cells self.old) rest →
+            AddsCells (cells self.old) (cells self.new) cell (operand_uses at slot count) rest) }
         ensures more { IfOk result (λ _.
             length (cells self.old) + count ≤ length (cells self.new)) }
     {
@@ -106,10 +106,10 @@ impl<'a> Cells<'a> {
         expr: &'a Expr,
         rest: usize,
     ) -> Result<usize, AllocError>
-        ensures { IfOk result (λ cell. (s : List Slotted) → IsReady (cells self.old) rest →
+        ensures { IfOk result (λ cell. (s : List Slotted) → IsCellReady (cells self.old) rest →
             IsScope (cells self.old) scope s → IsAnnotated (names s) expr.now →
             free ≤ length (cells self.old) →
-            Adds (cells self.old) (cells self.new) cell (cond (is_light_address
+            AddsCells (cells self.old) (cells self.new) cell (cond (is_light_address
             (names s) (expr_view expr.now)) [] (operand s free slot (expr_view expr.now))) rest) }
     {
         if self.is_light_address(scope, expr) {
@@ -128,10 +128,10 @@ impl<'a> Cells<'a> {
         expr: &'a Expr,
         rest: usize,
     ) -> Result<usize, AllocError>
-        ensures { IfOk result (λ cell. (s : List Slotted) → IsReady (cells self.old) rest →
+        ensures { IfOk result (λ cell. (s : List Slotted) → IsCellReady (cells self.old) rest →
             IsScope (cells self.old) scope s → IsAnnotated (names s) expr.now →
             free ≤ length (cells self.old) →
-            Adds (cells self.old) (cells self.new) cell (cond (is_light_address
+            AddsCells (cells self.old) (cells self.new) cell (cond (is_light_address
             (names s) (expr_view expr.now)) (operand s free slot (expr_view expr.now)) []) rest) }
     {
         if self.is_light_address(scope, expr) {
@@ -151,10 +151,10 @@ impl<'a> Cells<'a> {
         rest: usize,
     ) -> Result<usize, AllocError>
         requires { slot + length exprs.now ≤ free }
-        ensures { IfOk result (λ cell. (s : List Slotted) → IsReady (cells self.old) rest →
+        ensures { IfOk result (λ cell. (s : List Slotted) → IsCellReady (cells self.old) rest →
             IsScope (cells self.old) scope s → AreAnnotated (names s) exprs.now →
             free ≤ length (cells self.old) →
-            Adds (cells self.old) (cells self.new) cell (waiting s free slot
+            AddsCells (cells self.old) (cells self.new) cell (waiting s free slot
             (row_of exprs.now)) rest) }
     {
         match exprs {
@@ -178,10 +178,10 @@ impl<'a> Cells<'a> {
         rest: usize,
     ) -> Result<usize, AllocError>
         requires { slot + length exprs.now ≤ free }
-        ensures { IfOk result (λ cell. (s : List Slotted) → IsReady (cells self.old) rest →
+        ensures { IfOk result (λ cell. (s : List Slotted) → IsCellReady (cells self.old) rest →
             IsScope (cells self.old) scope s → AreAnnotated (names s) exprs.now →
             free ≤ length (cells self.old) →
-            Adds (cells self.old) (cells self.new) cell (filled s free slot
+            AddsCells (cells self.old) (cells self.new) cell (filled_slots s free slot
             (row_of exprs.now)) rest) }
     {
         match exprs {
@@ -204,10 +204,10 @@ impl<'a> Cells<'a> {
         rest: usize,
     ) -> Result<usize, AllocError>
         requires { slot + length exprs.now ≤ usize.MAX }
-        ensures { IfOk result (λ cell. (s : List Slotted) → IsReady (cells self.old) rest →
+        ensures { IfOk result (λ cell. (s : List Slotted) → IsCellReady (cells self.old) rest →
             IsScope (cells self.old) scope s → AreAnnotated (names s) exprs.now →
             slot + length exprs.now ≤ length (cells self.old) →
-            Adds (cells self.old) (cells self.new) cell (all_operands s slot
+            AddsCells (cells self.old) (cells self.new) cell (all_operands s slot
             (row_of exprs.now)) rest) }
     {
         let free = slot + exprs.len();
@@ -225,9 +225,9 @@ impl<'a> Cells<'a> {
         rest: usize,
     ) -> Result<usize, AllocError>
         requires { slot ≤ length (cells self.old) }
-        ensures { IfOk result (λ cell. (s : List Slotted) → IsReady (cells self.old) rest →
+        ensures { IfOk result (λ cell. (s : List Slotted) → IsCellReady (cells self.old) rest →
             IsScope (cells self.old) scope s → AreAnnotated (names s) exprs.now →
-            Adds (cells self.old) (cells self.new) cell (in_order s slot
+            AddsCells (cells self.old) (cells self.new) cell (tasks_in_order s slot
             (row_of exprs.now)) rest) }
     {
         match exprs {
@@ -248,8 +248,8 @@ impl<'a> Cells<'a> {
         rest: usize,
     ) -> Result<usize, AllocError>
         requires { slot + length params.now ≤ usize.MAX }
-        ensures { IfOk result (λ cell. IsReady (cells self.old) rest →
-            Adds (cells self.old) (cells self.new) cell (parameters_bound slot
+        ensures { IfOk result (λ cell. IsCellReady (cells self.old) rest →
+            AddsCells (cells self.old) (cells self.new) cell (parameters_bound slot
             (params_view params.now)) rest) }
     {
         match params {
@@ -276,11 +276,11 @@ impl<'a> Cells<'a> {
         rest: usize,
     ) -> Result<usize, AllocError>
         requires { slot ≤ length (cells self.old) }
-        ensures { IfOk result (λ cell. (s : List Slotted) → IsReady (cells self.old) rest →
+        ensures { IfOk result (λ cell. (s : List Slotted) → IsCellReady (cells self.old) rest →
             IsScope (cells self.old) scope s →
             AreBindingsAnnotated (names s) bindings.now →
             IsAnnotated (with_bindings (names s) (bindings_of bindings.now)) body.now →
-            Adds (cells self.old) (cells self.new) cell (entering s slot
+            AddsCells (cells self.old) (cells self.new) cell (entering s slot
             (bindings_of bindings.now) (expr_view body.now)) rest) }
     {
         match bindings {
@@ -306,12 +306,12 @@ impl<'a> Cells<'a> {
         rest: usize,
     ) -> Result<usize, AllocError>
         requires { slot ≤ length (cells self.old) }
-        ensures { IfOk result (λ cell. (s : List Slotted) → IsReady (cells self.old) rest →
+        ensures { IfOk result (λ cell. (s : List Slotted) → IsCellReady (cells self.old) rest →
             IsScope (cells self.old) scope s →
             AreBindingsAnnotated (names s) (first.now ∷ others.now) →
             IsAnnotated (with_bindings (names s) (bindings_of
             (first.now ∷ others.now))) body.now →
-            Adds (cells self.old) (cells self.new) cell (entering s slot (bindings_of
+            AddsCells (cells self.old) (cells self.new) cell (entering s slot (bindings_of
             (first.now ∷ others.now)) (expr_view body.now)) rest) }
     {
         let ty = type_bound(first.declared, first.value.ty);

@@ -3,7 +3,7 @@ use Rattle.std.specs.List.{AllByRecursion, list_all}
 use Rattle.image_form.specs.Tables.{tables}
 use Rattle.rv_machine.specs.Frames.{frames_from, most_frames}
 use Rattle.rv_machine.specs.Placement.{bytes_used, is_in_heap, new_places}
-use Rattle.rv_machine.specs.Space.{IsKept}
+use Rattle.rv_machine.specs.Space.{IsHeapBlock}
 use Rattle.alloc_service.specs.Attempt.{IsPrepared, Parts, moved_to}
 use Rattle.alloc_service.specs.Forward.{root_by, roots_by}
 use Rattle.alloc_service.specs.Plan.{plan_of}
@@ -44,7 +44,7 @@ returns-in-Fine-clause-kept c = λ _.
     let image = tables c.args.image.now in
     let prepared = subst (λ bs. IsPrepared c.args.caller.heap bs (new_places c.args.caller.heap c.args.caller.number bs (plan_of c.args.plan bs)) c.prepare.new.space) c.deref.ensures.value c.prepare.ensures in
     let inside = ap (list_all (is_in_heap c.args.caller.heap)) prepared.chosen ∙ prepared.inside in
-    subst (AllByRecursion (IsKept c.args.caller.heap)) (sym c.move_all.ensures.places)
+    subst (AllByRecursion (IsHeapBlock c.args.caller.heap)) (sym c.move_all.ensures.places)
     (new_kept c.args.caller.heap olds starts (cells_of_small olds (small_of c.args.caller.heap olds c.requires.placed)) inside)
 
 pub returns-in-Fine-clause-bytes : goal.returns-in-Fine-clause-bytes

@@ -1,15 +1,15 @@
 use Rattle.std.proofs.Common.{◌≡◌, ℕ, ◌*◌, inl, ◌++◌, true, List, length, refl, ap, arith, ◌∙◌, sym, subst}
 use Rattle.std.specs.List.{AllByRecursion}
 use Rattle.image_form.specs.Tables.{tables}
-use Rattle.rv_machine.specs.Relocation.{root_cells}
+use Rattle.rv_machine.specs.Relocation.{root_addresses}
 use Rattle.rv_machine.specs.Frames.{most_frames, registers_of, slots_of}
 use Rattle.rv_machine.specs.Hart.{Placed}
 use Rattle.rv_machine.specs.Memory.{Region}
 use Rattle.rv_machine.specs.Moving.{moved_memory, redirected_registers, rewritten, vacated}
 use Rattle.rv_machine.specs.Placement.{placed_at}
-use Rattle.rv_machine.specs.Space.{IsKept}
+use Rattle.rv_machine.specs.Space.{IsHeapBlock}
 use Rattle.alloc_service.specs.Attempt.{Parts}
-use Rattle.alloc_service.specs.Forward.{IsLow, forward, poured, words_moved, words_of}
+use Rattle.alloc_service.specs.Forward.{IsLow, forward, poured, words_moved, words_of_blocks}
 use Rattle.machine_laws.proofs.Apart.{all_of, new_kept}
 use Rattle.alloc_service.proofs.Placing.{cells_of_small, forward_is, kept_low, length-moved, moved_is, new_words, same_function, small_of, words_bound}
 use Rattle.alloc_service.proofs.Walking.{cells_rise, stacked}
@@ -19,7 +19,7 @@ use Rattle.alloc_service.proofs.attempt.move_all.Goals as goal
 pub gather-requires-clause-room : goal.gather-requires-clause-room
 gather-requires-clause-room c =
     let none : length c.args.space.now.words.items ≡ 0 = ap (λ (ws : List ℕ). length ws) c.requires.prepared.no_words in
-    omega (arith, none, c.args.space.now.words.ok.0, ap words_of c.deref.ensures.value, words_bound c.args.blocks.now.items, c.requires.fits, c.requires.prepared.words)
+    omega (arith, none, c.args.space.now.words.ok.0, ap words_of_blocks c.deref.ensures.value, words_bound c.args.blocks.now.items, c.requires.fits, c.requires.prepared.words)
 
 pub pour-requires-clause-small : goal.pour-requires-clause-small
 pour-requires-clause-small c =
@@ -28,7 +28,7 @@ pour-requires-clause-small c =
     let prepared = c.requires.prepared in
     let placed : c.deref-7.result.now ≡ placed_at olds starts = c.deref-7.ensures.value ∙ c.place.ensures.placed ∙ ap (placed_at olds) c.deref-5.ensures.value in
     subst (AllByRecursion IsLow) (sym placed)
-    (all_of (IsKept c.args.caller.heap) IsLow (λ b k. kept_low c.args.caller.heap b c.requires.most k) (placed_at olds starts)
+    (all_of (IsHeapBlock c.args.caller.heap) IsLow (λ b k. kept_low c.args.caller.heap b c.requires.most k) (placed_at olds starts)
     (new_kept c.args.caller.heap olds starts (cells_of_small olds (small_of c.args.caller.heap olds c.requires.placed)) prepared.inside))
 
 pub pour-requires-clause-enough : goal.pour-requires-clause-enough
@@ -39,7 +39,7 @@ pour-requires-clause-enough c =
     let f = forward c.args.space.now.table in
     ap (λ (ws : List ℕ). length ws) (c.deref-6.ensures.value ∙ c.gather.ensures.gathered ∙ ap (λ (ws : List ℕ). ws ++ words_moved f c.args.memory.now c.deref.result.now) c.requires.prepared.no_words
     ∙ ap (words_moved f c.args.memory.now) c.deref.ensures.value)
-    ∙ length-moved f c.args.memory.now olds ∙ sym (ap words_of placed ∙ new_words olds starts)
+    ∙ length-moved f c.args.memory.now olds ∙ sym (ap words_of_blocks placed ∙ new_words olds starts)
 
 pub returns-clause-moved : goal.returns-clause-moved
 returns-clause-moved c = λ fs e.
@@ -61,10 +61,10 @@ returns-clause-moved c = λ fs e.
     let gathered : c.deref-6.result.now ≡ words_moved g c.args.memory.now olds =
     c.deref-6.ensures.value ∙ c.gather.ensures.gathered ∙ ap (λ (ws : List ℕ). ws ++ words_moved g c.args.memory.now c.deref.result.now) prepared.no_words
     ∙ ap (words_moved g c.args.memory.now) c.deref.ensures.value in
-    let memory : c.pour.new.memory ≡ moved_memory olds news c.args.memory.now (slots_of fs ++ root_cells image) =
-    moved_is g f olds starts c.args.memory.now c.redirect_slots.new.memory c.redirect_roots.new.memory c.vacate.new.memory c.pour.new.memory (slots_of fs) (root_cells image) c.deref-6.result.now 0x10000000 0x20000000 0x40000000
+    let memory : c.pour.new.memory ≡ moved_memory olds news c.args.memory.now (slots_of fs ++ root_addresses image) =
+    moved_is g f olds starts c.args.memory.now c.redirect_slots.new.memory c.redirect_roots.new.memory c.vacate.new.memory c.pour.new.memory (slots_of fs) (root_addresses image) c.deref-6.result.now 0x10000000 0x20000000 0x40000000
     same refl (c.redirect_slots.ensures.each fs e) c.redirect_roots.ensures (c.vacate.ensures ∙ ap (vacated c.redirect_roots.new.memory) c.deref-2.ensures.value)
     (c.pour.ensures ∙ ap (poured c.vacate.new.memory c.deref-6.result.now) (c.deref-7.ensures.value ∙ placed)) gathered
     (frames.slots 0x20000000 (inl (omega (arith, c.requires.low)))) (cells_rise image c.requires.image) prepared.lengths in
     ap (λ r. parts r c.pour.new.memory c.place.new.blocks.items) registers ∙ ap (λ m. parts (redirected_registers f c.args.registers.now (registers_of fs) c.args.registers.now) m c.place.new.blocks.items) memory
-    ∙ ap (parts (redirected_registers f c.args.registers.now (registers_of fs) c.args.registers.now) (moved_memory olds news c.args.memory.now (slots_of fs ++ root_cells image))) placed
+    ∙ ap (parts (redirected_registers f c.args.registers.now (registers_of fs) c.args.registers.now) (moved_memory olds news c.args.memory.now (slots_of fs ++ root_addresses image))) placed

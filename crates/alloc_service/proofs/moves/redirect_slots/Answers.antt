@@ -3,7 +3,7 @@ use Rattle.bs_words.specs.Contents.{contents}
 use Rattle.bs_words.specs.Word.{add_word}
 use Rattle.image_form.specs.Tables.{desc}
 use Rattle.rv_machine.specs.Frames.{Frame, frames_from, return_slot, slots_named, slots_of}
-use Rattle.rv_machine.specs.Memory.{Region, word}
+use Rattle.rv_machine.specs.Memory.{Region, memory_word}
 use Rattle.alloc_service.specs.Forward.{forward, redirected_now}
 use Rattle.alloc_service.proofs.Walking.{Walks, at_stub, desc_rules, no_desc, walks_more}
 use Rattle.alloc_service.proofs.moves.redirect_slots.Goals as goal
@@ -61,12 +61,12 @@ loop-most-preserved c =
     let more = walks_more f descs c.args.base c.args.memory.now c.loop-most.memory c.redirect_frame.new.memory c.args.address c.args.sp c.loop-most.most w.0 c.loop-most.address c.loop-most.at d c.args.image.now.version (4 * length (contents c.args.image.now.code))
     c.loop-most-test.true c.if-address-eq-CODE_START.false (sym c.in-Some.ensures) rules w.2
     (c.redirect_frame.ensures ∙ ap (λ es. redirected_now f c.loop-most.memory (slots_named c.loop-most.at es)) c.as_slice.ensures) w.1 in
-    let address : c.word-address.result ≡ word c.loop-most.memory (return_slot c.loop-most.at d) =
-    c.word-address.ensures ∙ ap (word c.loop-most.memory) (c.add.ensures ∙ ap (λ s. add_word c.loop-most.at (s - 8)) c.from-size.ensures) in
+    let address : c.word-address.result ≡ memory_word c.loop-most.memory (return_slot c.loop-most.at d) =
+    c.word-address.ensures ∙ ap (memory_word c.loop-most.memory) (c.add.ensures ∙ ap (λ s. add_word c.loop-most.at (s - 8)) c.from-size.ensures) in
     let at : c.add-at.result ≡ add_word c.loop-most.at d.size = c.add-at.ensures ∙ ap (add_word c.loop-most.at) c.from-size.ensures in (
       false,
       subst (λ a. Walks f descs c.args.base c.args.memory.now c.redirect_frame.new.memory c.args.address c.args.sp (c.loop-most.most - 1) false a c.add-at.result) (sym address)
-          (subst (Walks f descs c.args.base c.args.memory.now c.redirect_frame.new.memory c.args.address c.args.sp (c.loop-most.most - 1) false (word c.loop-most.memory (return_slot c.loop-most.at d))) (sym at) more),
+          (subst (Walks f descs c.args.base c.args.memory.now c.redirect_frame.new.memory c.args.address c.args.sp (c.loop-most.most - 1) false (memory_word c.loop-most.memory (return_slot c.loop-most.at d))) (sym at) more),
       c.add-at.type_inv,
     )
 

@@ -3,7 +3,7 @@ use Rattle.std.proofs.lemmas.Bool.{cond-true}
 use Rattle.bs_words.specs.Contents.{contents}
 use Rattle.image_form.specs.Tables.{desc, tables}
 use Rattle.rv_machine.specs.Frames.{Frame, frames_from, is_frame, return_slot}
-use Rattle.rv_machine.specs.Memory.{word}
+use Rattle.rv_machine.specs.Memory.{memory_word}
 use Rattle.bs_words.specs.Word.{add_word}
 use Rattle.alloc_service.specs.Forward.{root_by, roots_by}
 use Rattle.alloc_service.proofs.Walking.{desc_rules, one_frame, surveyed}
@@ -32,7 +32,7 @@ loop-most-preserved c =
     (one_frame descs c.args.base m here.most here.first here.address here.at d c.loop-most-test.true c.if-address-eq-CODE_START.false (sym c.in-Some.ensures)
     ∙ cond-true (is_frame here.first c.args.base here.at d) _ _ (sym c.if-not-is_frame.ensures))
     ∙ surveyed test c.args.registers.now m here.first here.fine c.are_roots-here.result f _ c.are_roots-here.ensures
-    ∙ ap (λ fine. option_map (λ (fs : List Frame). fine && roots_by test c.args.registers.now m false fs) (frames_from (here.most - 1) descs c.args.base m false (word m (return_slot here.at d)) (add_word here.at d.size))) (sym c.both-fine.ensures)
-    ∙ ap (λ size. option_map (λ (fs : List Frame). c.both-fine.result && roots_by test c.args.registers.now m false fs) (frames_from (here.most - 1) descs c.args.base m false (word m (add_word here.at (size - 8))) (add_word here.at size))) (sym c.from-size.ensures)
-    ∙ ap (λ a. option_map (λ (fs : List Frame). c.both-fine.result && roots_by test c.args.registers.now m false fs) (frames_from (here.most - 1) descs c.args.base m false a (add_word here.at c.from-size.result))) (ap (word m) (sym c.add.ensures) ∙ sym c.word-address.ensures)
+    ∙ ap (λ fine. option_map (λ (fs : List Frame). fine && roots_by test c.args.registers.now m false fs) (frames_from (here.most - 1) descs c.args.base m false (memory_word m (return_slot here.at d)) (add_word here.at d.size))) (sym c.both-fine.ensures)
+    ∙ ap (λ size. option_map (λ (fs : List Frame). c.both-fine.result && roots_by test c.args.registers.now m false fs) (frames_from (here.most - 1) descs c.args.base m false (memory_word m (add_word here.at (size - 8))) (add_word here.at size))) (sym c.from-size.ensures)
+    ∙ ap (λ a. option_map (λ (fs : List Frame). c.both-fine.result && roots_by test c.args.registers.now m false fs) (frames_from (here.most - 1) descs c.args.base m false a (add_word here.at c.from-size.result))) (ap (memory_word m) (sym c.add.ensures) ∙ sym c.word-address.ensures)
     ∙ ap (λ a. option_map (λ (fs : List Frame). c.both-fine.result && roots_by test c.args.registers.now m false fs) (frames_from (here.most - 1) descs c.args.base m false c.word-address.result a)) (sym c.add-at.ensures)

@@ -1,12 +1,12 @@
 use Rattle.std.proofs.Common.{◌≡◌, ◌-◌, ◌%◌, arith}
 use Rattle.cmm_gen.specs.Drawn.{Sum, Difference, Product, Choice, Cell, Attempt}
-use Rattle.cmm_gen.specs.Drawing.{number, variable, two, four, expression}
+use Rattle.cmm_gen.specs.Drawing.{draw_number, variable, draw_two, four, draw_expression}
 use Rattle.cmm_gen.proofs.Draws.{leaf, above, text_of_same, words_of_same, words_drawn, attempt_text}
 use Rattle.cmm_gen.proofs.texts.+expression.Goals as goal
 
 pub write_expression-returns-then-next_word-eq0 : goal.write_expression-returns-then-next_word-eq0
 write_expression-returns-then-next_word-eq0 t c =
-    let same : expression c.args.depth c.args.words.now ≡ number c.next_word.new.self =
+    let same : draw_expression c.args.depth c.args.words.now ≡ draw_number c.next_word.new.self =
     leaf c.args.depth 0 c.next_word.result c.args.words.now c.next_word.new.self c.if-depth-eq0.true c.next_word.ensures c.if-next_word-eq0.true in
     record {
       text = text_of_same c.write_number.result _ _ same _ _ c.write_number.ensures.text;
@@ -16,7 +16,7 @@ write_expression-returns-then-next_word-eq0 t c =
 pub write_expression-returns-else-next_word-eq0 : goal.write_expression-returns-else-next_word-eq0
 write_expression-returns-else-next_word-eq0 t c =
     let odd : c.next_word.result % 2 ≡ 1 = omega arith in
-    let same : expression c.args.depth c.args.words.now ≡ variable c.next_word.new.self =
+    let same : draw_expression c.args.depth c.args.words.now ≡ variable c.next_word.new.self =
     leaf c.args.depth 1 c.next_word.result c.args.words.now c.next_word.new.self c.if-depth-eq0.true c.next_word.ensures odd in
     record {
       text = text_of_same c.write_variable.result _ _ same _ _ c.write_variable.ensures.text;
@@ -25,7 +25,7 @@ write_expression-returns-else-next_word-eq0 t c =
 
 pub write_expression-returns-in-0 : goal.write_expression-returns-in-0
 write_expression-returns-in-0 t c =
-    let same : expression c.args.depth c.args.words.now ≡ number c.next_word-2.new.self =
+    let same : draw_expression c.args.depth c.args.words.now ≡ draw_number c.next_word-2.new.self =
     above c.args.depth 0 c.next_word-2.result c.args.words.now c.next_word-2.new.self c.if-depth-eq0.false c.next_word-2.ensures c.in-0.is in
     record {
       text = text_of_same c.write_number-in-0.result _ _ same _ _ c.write_number-in-0.ensures.text;
@@ -34,7 +34,7 @@ write_expression-returns-in-0 t c =
 
 pub write_expression-returns-in-1 : goal.write_expression-returns-in-1
 write_expression-returns-in-1 t c =
-    let same : expression c.args.depth c.args.words.now ≡ variable c.next_word-2.new.self =
+    let same : draw_expression c.args.depth c.args.words.now ≡ variable c.next_word-2.new.self =
     above c.args.depth 1 c.next_word-2.result c.args.words.now c.next_word-2.new.self c.if-depth-eq0.false c.next_word-2.ensures c.in-1.is in
     record {
       text = text_of_same c.write_variable-in-1.result _ _ same _ _ c.write_variable-in-1.ensures.text;
@@ -43,7 +43,7 @@ write_expression-returns-in-1 t c =
 
 pub write_expression-returns-in-2 : goal.write_expression-returns-in-2
 write_expression-returns-in-2 t c =
-    let same : expression c.args.depth c.args.words.now ≡ two (expression (c.args.depth - 1)) Sum c.next_word-2.new.self =
+    let same : draw_expression c.args.depth c.args.words.now ≡ draw_two (draw_expression (c.args.depth - 1)) Sum c.next_word-2.new.self =
     above c.args.depth 2 c.next_word-2.result c.args.words.now c.next_word-2.new.self c.if-depth-eq0.false c.next_word-2.ensures c.in-2.is in
     record {
       text = text_of_same c.write_two.result _ _ same _ _ c.write_two.ensures.text;
@@ -52,7 +52,7 @@ write_expression-returns-in-2 t c =
 
 pub write_expression-returns-in-3 : goal.write_expression-returns-in-3
 write_expression-returns-in-3 t c =
-    let same : expression c.args.depth c.args.words.now ≡ two (expression (c.args.depth - 1)) Difference c.next_word-2.new.self =
+    let same : draw_expression c.args.depth c.args.words.now ≡ draw_two (draw_expression (c.args.depth - 1)) Difference c.next_word-2.new.self =
     above c.args.depth 3 c.next_word-2.result c.args.words.now c.next_word-2.new.self c.if-depth-eq0.false c.next_word-2.ensures c.in-3.is in
     record {
       text = text_of_same c.write_two-in-3.result _ _ same _ _ c.write_two-in-3.ensures.text;
@@ -61,7 +61,7 @@ write_expression-returns-in-3 t c =
 
 pub write_expression-returns-in-4 : goal.write_expression-returns-in-4
 write_expression-returns-in-4 t c =
-    let same : expression c.args.depth c.args.words.now ≡ two (expression (c.args.depth - 1)) Product c.next_word-2.new.self =
+    let same : draw_expression c.args.depth c.args.words.now ≡ draw_two (draw_expression (c.args.depth - 1)) Product c.next_word-2.new.self =
     above c.args.depth 4 c.next_word-2.result c.args.words.now c.next_word-2.new.self c.if-depth-eq0.false c.next_word-2.ensures c.in-4.is in
     record {
       text = text_of_same c.write_two-in-4.result _ _ same _ _ c.write_two-in-4.ensures.text;
@@ -70,7 +70,7 @@ write_expression-returns-in-4 t c =
 
 pub write_expression-returns-in-5 : goal.write_expression-returns-in-5
 write_expression-returns-in-5 t c =
-    let same : expression c.args.depth c.args.words.now ≡ four (expression (c.args.depth - 1)) Choice c.next_word-2.new.self =
+    let same : draw_expression c.args.depth c.args.words.now ≡ four (draw_expression (c.args.depth - 1)) Choice c.next_word-2.new.self =
     above c.args.depth 5 c.next_word-2.result c.args.words.now c.next_word-2.new.self c.if-depth-eq0.false c.next_word-2.ensures c.in-5.is in
     record {
       text = text_of_same c.write_choice.result _ _ same _ _ c.write_choice.ensures.text;
@@ -79,7 +79,7 @@ write_expression-returns-in-5 t c =
 
 pub write_expression-returns-in-6 : goal.write_expression-returns-in-6
 write_expression-returns-in-6 t c =
-    let same : expression c.args.depth c.args.words.now ≡ two (expression (c.args.depth - 1)) Cell c.next_word-2.new.self =
+    let same : draw_expression c.args.depth c.args.words.now ≡ draw_two (draw_expression (c.args.depth - 1)) Cell c.next_word-2.new.self =
     above c.args.depth 6 c.next_word-2.result c.args.words.now c.next_word-2.new.self c.if-depth-eq0.false c.next_word-2.ensures c.in-6.is in
     record {
       text = text_of_same c.write_two-in-6.result _ _ same _ _ c.write_two-in-6.ensures.text;
@@ -89,7 +89,7 @@ write_expression-returns-in-6 t c =
 pub write_expression-returns-in_default : goal.write_expression-returns-in_default
 write_expression-returns-in_default t c =
     let last : c.next_word-2.result % 8 ≡ 7 = omega arith in
-    let same : expression c.args.depth c.args.words.now ≡ four (expression (c.args.depth - 1)) Attempt c.next_word-2.new.self =
+    let same : draw_expression c.args.depth c.args.words.now ≡ four (draw_expression (c.args.depth - 1)) Attempt c.next_word-2.new.self =
     above c.args.depth 7 c.next_word-2.result c.args.words.now c.next_word-2.new.self c.if-depth-eq0.false c.next_word-2.ensures last in
     record {
       text = text_of_same c.write_attempt.result _ _ same _ _ c.write_attempt.ensures.text;

@@ -2,7 +2,7 @@ use Rattle.std.proofs.Common.{◌≤◌, List, length, sym, ap, subst, ◌∙◌
 use Rattle.std.proofs.lemmas.List.{length-set}
 use Rattle.bs_words.specs.declared.types.Loc.{Loc}
 use Rattle.mach_ir.specs.declared.graph.Node.{Node}
-use Rattle.colouring.specs.Chosen.{fixed, chosen, coloured, IsOrder}
+use Rattle.colouring.specs.Chosen.{fixed, chosen_location, greedily_coloured, IsOrder}
 use Rattle.colouring.specs.Tables.{places_by, referred}
 use Rattle.colouring.proofs.Fold.{is_safe, no_needless_slot}
 use Rattle.colouring.proofs.Turn.{is_within, goes_on, is_coloured}
@@ -29,10 +29,10 @@ loop-node-preserved c =
     record {
       on = goes_on c.args.graph.now c.loop-node.places.items c.deref-node-items.result.now c.loop-node.node-index
           c.node-item.result c.choose-place.result
-          (coloured c.args.graph.now (fixed c.args.graph.now) (referred c.deref-node-items.result.now))
+          (greedily_coloured c.args.graph.now (fixed c.args.graph.now) (referred c.deref-node-items.result.now))
           c.loop-node-test.true c.node-item.is (omega (arith, within, len))
           (c.choose-place.ensures ∙
-          ap (λ (l : List Loc). chosen c.args.graph.now (places_by l) c.node-item.result.now)
+          ap (λ (l : List Loc). chosen_location c.args.graph.now (places_by l) c.node-item.result.now)
           c.as_slice-in-loop-node.ensures.value)
           c.loop-node.invariant.on;
       len = length-set _ _ _ ∙ len;

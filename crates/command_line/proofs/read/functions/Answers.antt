@@ -1,6 +1,6 @@
 use Rattle.std.proofs.Common.{refl, sym, subst}
 use Rattle.command_line.specs.declared.form.Slot.TheVariants.{Functions}
-use Rattle.command_line.specs.Program.{Stands}
+use Rattle.command_line.specs.Program.{IsSlotText}
 use Rattle.command_line.specs.View.{texts}
 use Rattle.command_line.specs.Values.{IsCounted, most_functions}
 use Rattle.command_line.proofs.Gives.{stands_given, tells_value, tells_bad}
@@ -8,10 +8,10 @@ use Rattle.command_line.proofs.read.functions.Goals as goal
 
 pub returns-clause-value : goal.returns-clause-value
 returns-clause-value c =
-    tells_value (texts c.args.others.now) Functions (IsCounted most_functions) c.as_bytes.result.now (stands_given (texts c.args.others.now) Functions c.as_bytes.result.now refl (subst (Stands (texts c.args.others.now) Functions) (sym c.as_bytes.ensures.value) c.text_for-text.ensures)) c.counted.result c.ok_or.result
+    tells_value (texts c.args.others.now) Functions (IsCounted most_functions) c.as_bytes.result.now (stands_given (texts c.args.others.now) Functions c.as_bytes.result.now refl (subst (IsSlotText (texts c.args.others.now) Functions) (sym c.as_bytes.ensures.value) c.text_for-text.ensures)) c.counted.result c.ok_or.result
     c.ok_or.ensures.value c.counted.ensures
 
 pub returns-clause-bad : goal.returns-clause-bad
 returns-clause-bad c = λ e.
-    tells_bad (texts c.args.others.now) Functions (IsCounted most_functions) c.as_bytes.result.now c.requires.once (stands_given (texts c.args.others.now) Functions c.as_bytes.result.now refl (subst (Stands (texts c.args.others.now) Functions) (sym c.as_bytes.ensures.value) c.text_for-text.ensures)) c.counted.result c.ok_or.result
+    tells_bad (texts c.args.others.now) Functions (IsCounted most_functions) c.as_bytes.result.now c.requires.once (stands_given (texts c.args.others.now) Functions c.as_bytes.result.now refl (subst (IsSlotText (texts c.args.others.now) Functions) (sym c.as_bytes.ensures.value) c.text_for-text.ensures)) c.counted.result c.ok_or.result
     c.ok_or.ensures.value c.counted.ensures e

@@ -1,5 +1,5 @@
 use Rattle.std.proofs.Common.{sym, subst}
-use Rattle.command_line.specs.Program.{Stands}
+use Rattle.command_line.specs.Program.{IsSlotText}
 use Rattle.command_line.specs.declared.form.Slot.TheVariants.{Moves}
 use Rattle.command_line.specs.Command.{default_moves}
 use Rattle.command_line.specs.View.{texts}
@@ -10,10 +10,10 @@ use Rattle.command_line.proofs.read.moves.Goals as goal
 
 pub returns-clause-value : goal.returns-clause-value
 returns-clause-value c =
-    sets_value (texts c.args.others.now) Moves IsMoves default_moves c.as_bytes.result.now moves_left_out (subst (Stands (texts c.args.others.now) Moves) (sym c.as_bytes.ensures.value) c.text_for-text.ensures) c.moves.result c.ok_or.result
+    sets_value (texts c.args.others.now) Moves IsMoves default_moves c.as_bytes.result.now moves_left_out (subst (IsSlotText (texts c.args.others.now) Moves) (sym c.as_bytes.ensures.value) c.text_for-text.ensures) c.moves.result c.ok_or.result
     c.ok_or.ensures.value c.moves.ensures
 
 pub returns-clause-bad : goal.returns-clause-bad
 returns-clause-bad c = λ e.
-    sets_bad (texts c.args.others.now) Moves IsMoves default_moves c.as_bytes.result.now c.requires.once moves_left_out (subst (Stands (texts c.args.others.now) Moves) (sym c.as_bytes.ensures.value) c.text_for-text.ensures) c.moves.result c.ok_or.result
+    sets_bad (texts c.args.others.now) Moves IsMoves default_moves c.as_bytes.result.now c.requires.once moves_left_out (subst (IsSlotText (texts c.args.others.now) Moves) (sym c.as_bytes.ensures.value) c.text_for-text.ensures) c.moves.result c.ok_or.result
     c.ok_or.ensures.value c.moves.ensures e

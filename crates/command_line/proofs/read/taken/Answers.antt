@@ -4,7 +4,7 @@ use Rattle.command_line.specs.declared.form.CommandWord.{CommandWord}
 use Rattle.command_line.specs.declared.form.Slot.{Slot}
 use Rattle.command_line.specs.Program.{HasText, id_of}
 use Rattle.command_line.specs.View.{texts}
-use Rattle.command_line.specs.Words.{word_of}
+use Rattle.command_line.specs.Words.{command_text}
 use Rattle.command_line.proofs.Entered.{entered, named, texts_are}
 use Rattle.command_line.proofs.Unique.{word-unique, form_at, stands_at, command_of, no_command}
 use Rattle.command_line.proofs.read.taken.Goals as goal
@@ -48,7 +48,7 @@ returns-clause-command c =
     (sym (c.as_bytes.ensures.value
     ∙ named (texts c.args.words.now) form.0 others form.1 form.2 c.args.matches.now c.requires.matches c.in-Some.name.now c.in-Some.ensures.name)
     ∙ c.in-Some-named.ensures) in
-    command_of command (texts c.args.words.now) (word_of command) others c.meant.result (form.1 ∙ ap (λ (w : CommandWord). word_of w ∷ others) same) refl
+    command_of command (texts c.args.words.now) (command_text command) others c.meant.result (form.1 ∙ ap (λ (w : CommandWord). command_text w ∷ others) same) refl
     (form_at others form.0 command same form.2) c.meant.ensures.value
 
 pub returns-clause-bad : goal.returns-clause-bad
@@ -61,4 +61,4 @@ returns-clause-bad c = λ e.
     (sym (c.as_bytes.ensures.value
     ∙ named (texts c.args.words.now) form.0 others form.1 form.2 c.args.matches.now c.requires.matches c.in-Some.name.now c.in-Some.ensures.name)
     ∙ c.in-Some-named.ensures) in
-    no_command command (texts c.args.words.now) (word_of command) others (form.1 ∙ ap (λ (w : CommandWord). word_of w ∷ others) same) refl (c.meant.ensures.bad e)
+    no_command command (texts c.args.words.now) (command_text command) others (form.1 ∙ ap (λ (w : CommandWord). command_text w ∷ others) same) refl (c.meant.ensures.bad e)

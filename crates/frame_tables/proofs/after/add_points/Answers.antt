@@ -1,12 +1,12 @@
 use Rattle.std.proofs.Common.{◌<◌, length, sym, ◌∙◌, arith}
 use Rattle.frame_tables.proofs.Pointing.{points_begun, points_skip, pointed_more, no_frame_at, no_point_at}
-use Rattle.lin_flow.specs.Search.{all_of}
+use Rattle.lin_flow.specs.Search.{all_positions}
 use Rattle.frame_tables.proofs.after.add_points.Goals as goal
 use Rattle.frame_tables.proofs.after.add_points.Goals.{then-passes_frame+in_ok-node+in_ok-push+in_ok-push-2, else-passes_frame}
 
 pub loop-place-init : goal.loop-place-init
 loop-place-init c =
-    points_begun c.args.lin.now (all_of c.args.search.now) c.args.nodes.now.items c.new-points.result.items c.new-points.ensures.items
+    points_begun c.args.lin.now (all_positions c.args.search.now) c.args.nodes.now.items c.new-points.result.items c.new-points.ensures.items
     c.requires.searched.len c.requires.searched.are
 
 pub loop-place-preserved : goal.loop-place-preserved
@@ -23,7 +23,7 @@ loop-place-preserved c =
           w.in_ok-push.ensures.items w.in_ok-push-2.ensures.items)
       | else-passes_frame w ↦
           rw (w.nodes-is, w.points-is)
-          (points_skip c.args.lin.now (all_of c.args.search.now) c.loop-place.nodes.items c.loop-place.points.items c.loop-place.place
+          (points_skip c.args.lin.now (all_positions c.args.search.now) c.loop-place.nodes.items c.loop-place.points.items c.loop-place.place
           c.loop-place.invariant
           (no_frame_at c.args.lin.now c.loop-place.place c.index-code-place.result c.as_slice-code.result.now c.as_slice-code.ensures lt
           c.index-code-place.is (sym c.passes_frame.ensures ∙ w.if-passes_frame.false))

@@ -1,7 +1,7 @@
 use Rattle.std.proofs.Common.{length, sym, subst}
 use Rattle.lin_flow.proofs.Begun.{are_numbered}
 use Rattle.lin_flow.specs.Nodes.{AreWalkedTo}
-use Rattle.lin_flow.specs.Search.{all_of}
+use Rattle.lin_flow.specs.Search.{all_positions}
 use Rattle.frame_tables.specs.Pushed.{AreTabled}
 use Rattle.frame_tables.proofs.Bounds.{countable_by}
 use Rattle.frame_tables.proofs.Pushing.{counted_by}
@@ -21,5 +21,5 @@ table_of-requires-clause-walked c =
 
 pub returns : goal.returns
 returns c =
-    counted_by c.args.lin.now (all_of c.in_ok-search.field-0.search) c.in_ok-search.ensures.reached c.in_ok-traps.traps.items
+    counted_by c.args.lin.now (all_positions c.in_ok-search.field-0.search) c.in_ok-search.ensures.reached c.in_ok-traps.traps.items
     (subst (λ xs. AreTabled c.args.lin.now xs (length xs) c.in_ok-traps.traps.items) c.as_slice.ensures.value c.in_ok-traps.ensures)

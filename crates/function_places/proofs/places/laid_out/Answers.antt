@@ -2,7 +2,7 @@ use Rattle.std.proofs.Common.{length, ap, ap₂, ◌∙◌, subst, arith}
 use Rattle.std.specs.Prelude.{sum_by}
 use Rattle.function_places.specs.Sizes.{piece_size}
 use Rattle.function_places.proofs.Bounds.{length_most, code_most}
-use Rattle.layout_rules.specs.Forms.{total_words, place_of, none_far, AreForms}
+use Rattle.layout_rules.specs.Forms.{total_words, label_word_offset, none_far, AreForms}
 use Rattle.layout_rules.proofs.Functions.{forms_length}
 use Rattle.function_places.proofs.places.laid_out.Goals as goal
 
@@ -16,7 +16,7 @@ pub total_words-words-requires-clause-same : goal.total_words-words-requires-cla
 total_words-words-requires-clause-same c =
     let code = c.as_slice-code.result.now in
     let own = c.in_ok-forms.forms.items in
-    ap length c.as_slice.ensures.value ∙ forms_length (place_of code own) 0 code own c.in_ok-forms.ensures.suffice
+    ap length c.as_slice.ensures.value ∙ forms_length (label_word_offset code own) 0 code own c.in_ok-forms.ensures.suffice
 
 pub code_size-descs-requires : goal.code_size-descs-requires
 code_size-descs-requires c =

@@ -4,7 +4,7 @@ use Rattle.mach_ir.specs.declared.mach.Instr.{Instr}
 use Rattle.hoist.specs.Constants.{makes_wide}
 use Rattle.hoist.specs.Loops.{IsFirstCall, IsCalmWide, AreFlags}
 use Rattle.hoist.specs.Moves.{none_moves, StaysAt}
-use Rattle.hoist.specs.Tables.{entry}
+use Rattle.hoist.specs.Tables.{table_entry}
 use Rattle.hoist.proofs.Flags.{chosen_none, chosen_quiet, chosen_once}
 use Rattle.hoist.proofs.choosing.chosen.Goals as goal
 
@@ -36,7 +36,7 @@ returns c =
     let calls = c.first_call-calls.result in
     let flags = c.in_ok-flags.flags.items in
     let kept = c.in_ok-kept.kept.items in
-    let writes = entry c.in_ok-writes.writes in
+    let writes = table_entry c.in_ok-writes.writes in
     let known = subst (λ (code : List Instr). IsFirstCall code calls) same c.first_call-calls.ensures in
     let are = subst (λ (code : List Instr). AreFlags (IsCalmWide code calls) calls flags) same c.in_ok-flags.ensures in
     let given = subst (λ (fs : List Bool). AreFlags (StaysAt fs c.as_slice-code.result.now writes) (length fs) kept) c.as_slice-2.ensures.value c.in_ok-kept.ensures in

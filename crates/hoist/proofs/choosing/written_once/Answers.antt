@@ -2,7 +2,7 @@ use Rattle.std.proofs.Common.{◌<◌, length, refl, arith}
 use Rattle.std.proofs.lemmas.Option.{slice_get_read}
 use Rattle.hoist.specs.Loops.{flag_at}
 use Rattle.hoist.specs.Moves.{StaysAt}
-use Rattle.hoist.specs.Tables.{entry}
+use Rattle.hoist.specs.Tables.{table_entry}
 use Rattle.hoist.proofs.Reaching.{flags_more}
 use Rattle.hoist.proofs.Flags.{stays_is}
 use Rattle.hoist.proofs.choosing.written_once.Goals as goal
@@ -11,7 +11,7 @@ pub loop-place-preserved : goal.loop-place-preserved
 loop-place-preserved c =
     let flags = c.args.flags.now in
     let code = c.args.code.now in
-    let writes = entry c.args.writes.now in
+    let writes = table_entry c.args.writes.now in
     let p = c.loop-place.place in
     let within = c.requires in
     let test = c.loop-place-test.true in

@@ -1,7 +1,7 @@
 use Rattle.hoist.specs.Loops.{AreFlags}
 use Rattle.hoist.specs.Moves.{StaysAt}
-use Rattle.hoist.specs.Tables.{entry}
+use Rattle.hoist.specs.Tables.{table_entry}
 use Rattle.hoist.proofs.choosing.written_once.Given as goal
 
 abbrev pub invariant-loop-place : goal.invariant-loop-place
-invariant-loop-place l = AreFlags (StaysAt l.flags l.code (entry l.writes)) l.place l.kept.items
+invariant-loop-place l = AreFlags (StaysAt l.flags l.code (table_entry l.writes)) l.place l.kept.items

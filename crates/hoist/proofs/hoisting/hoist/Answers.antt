@@ -1,7 +1,7 @@
 use Rattle.std.proofs.Common.{◌∙◌, ◌++◌, Bool, List, length, sym, ap}
 use Rattle.mach_ir.specs.declared.mach.Instr.{Instr}
 use Rattle.mach_laws.specs.Expand.{expand}
-use Rattle.hoist_rules.specs.Hoisted.{moved}
+use Rattle.hoist_rules.specs.Hoisted.{hoisted_instruction}
 use Rattle.hoist.specs.Moves.{none_moves, moves_by, left}
 use Rattle.hoist.proofs.Flags.{first_by, as_it_is}
 use Rattle.hoist.proofs.hoisting.hoist.Goals as goal
@@ -20,6 +20,6 @@ returns c =
     c.in_ok-code.ensures
     ∙ ap
     (λ (fs : List Bool).
-    expand (moved (moves_by fs (length m.code))) m.code ++ expand (left (moves_by fs (length m.code))) m.code)
+    expand (hoisted_instruction (moves_by fs (length m.code))) m.code ++ expand (left (moves_by fs (length m.code))) m.code)
     c.as_slice-2.ensures.value in
     first_by m _ flags c.in_ok-flags.ensures (ap (λ (code : List Instr). record m { code = code }) made)

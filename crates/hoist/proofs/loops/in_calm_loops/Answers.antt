@@ -1,7 +1,7 @@
 use Rattle.std.proofs.Common.{rules, ◌≡◌, ◌∙◌, ◌<◌, max, length, refl, ap, arith}
 use Rattle.std.proofs.lemmas.Option.{slice_get_read}
 use Rattle.hoist.specs.Loops.{IsCalmWide}
-use Rattle.hoist.specs.Tables.{entry}
+use Rattle.hoist.specs.Tables.{table_entry}
 use Rattle.hoist.proofs.Reaching.{reach_more, flags_more, calm_wide_is}
 use Rattle.hoist.proofs.loops.in_calm_loops.Goals as goal
 
@@ -12,7 +12,7 @@ loop-place-preserved c =
     let p = c.loop-place.place in
     let i = c.index-code-place.result in
     let r = c.max-reach.result in
-    let ends = entry c.args.ends.now in
+    let ends = table_entry c.args.ends.now in
     let within = c.requires.within in
     let test = c.loop-place-test.true in
     let inside : p < length code = omega (arith, within, test) in

@@ -1,6 +1,6 @@
-use Rattle.hoist.specs.Tables.{entry}
+use Rattle.hoist.specs.Tables.{table_entry}
 use Rattle.hoist.proofs.Reaching.{EndsBefore}
 use Rattle.hoist.proofs.loops.last_exits.Given as goal
 
 abbrev pub invariant-loop-place : goal.invariant-loop-place
-invariant-loop-place l = EndsBefore l.code l.place (entry l.ends)
+invariant-loop-place l = EndsBefore l.code l.place (table_entry l.ends)

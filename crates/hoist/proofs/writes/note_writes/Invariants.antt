@@ -1,8 +1,8 @@
 use Rattle.std.proofs.Common.{◌≡◌, ℕ, drop}
-use Rattle.hoist.specs.Tables.{entry}
-use Rattle.hoist.specs.Written.{noted}
+use Rattle.hoist.specs.Tables.{table_entry}
+use Rattle.hoist.specs.Written.{writes_counted}
 use Rattle.hoist.proofs.writes.note_writes.Given as goal
 
 abbrev pub invariant-loop-reg : goal.invariant-loop-reg
 invariant-loop-reg l =
-    (n : ℕ) → noted n (drop l.reg-index l.regs) (entry l.writes n) ≡ noted n l.regs (entry l.initial.writes n)
+    (n : ℕ) → writes_counted n (drop l.reg-index l.regs) (table_entry l.writes n) ≡ writes_counted n l.regs (table_entry l.initial.writes n)

@@ -1,8 +1,8 @@
 use Rattle.std.proofs.Common.{None, take}
 use Rattle.mach_ir.specs.declared.reg.Reg.{Reg}
-use Rattle.interfere.specs.Pairs.{Adds, ForOne, MeetsSet}
+use Rattle.interfere.specs.Pairs.{AddsPairs, ForOne, MeetsSet}
 use Rattle.interfere.proofs.joining.join_params.Given as goal
 
 abbrev pub invariant-loop-reg : goal.invariant-loop-reg
 invariant-loop-reg l =
-    Adds l.initial.joined l.joined (ForOne (λ (r : Reg). MeetsSet None l.set r.number) (take l.reg-index l.params))
+    AddsPairs l.initial.joined l.joined (ForOne (λ (r : Reg). MeetsSet None l.set r.number) (take l.reg-index l.params))

@@ -3,7 +3,7 @@ use Rattle.bs_bits.specs.Set.{has}
 use Rattle.bs_words.specs.Contents.{contents}
 use Rattle.mach_ir.specs.declared.reg.Reg.{Reg}
 use Rattle.mach_ir.specs.Walks.{is_param}
-use Rattle.interfere.specs.Pairs.{Adds, ForOne, MeetsSet}
+use Rattle.interfere.specs.Pairs.{AddsPairs, ForOne, MeetsSet}
 use Rattle.interfere.proofs.Entering.{regs_small}
 use Rattle.interfere.proofs.Meetings.{live_below, writes_below, joined_begun, joined_more, joined_all}
 use Rattle.interfere.proofs.Nodes.{node_read, places_small, within}
@@ -24,7 +24,7 @@ pub loop-place-init : goal.loop-place-init
 loop-place-init c =
     joined_begun c.args.mach.now c.args.size c.args.live.now c.at.result.now c.in_ok-joined.joined c.join_params.new.joined c.requires.live
     c.at.ensures c.in_ok-joined.ensures.len c.in_ok-joined.ensures.none
-    (subst (λ rs. Adds c.in_ok-joined.joined c.join_params.new.joined (ForOne (λ (r : Reg). MeetsSet None c.at.result.now r.number) rs))
+    (subst (λ rs. AddsPairs c.in_ok-joined.joined c.join_params.new.joined (ForOne (λ (r : Reg). MeetsSet None c.at.result.now r.number) rs))
     c.as_slice-params.ensures c.in_ok-join_params.ensures)
 
 pub join_writes-requires-clause-numbers : goal.join_writes-requires-clause-numbers

@@ -1,6 +1,6 @@
 use Rattle.std.proofs.Common.{◌<◌, length, ap, arith}
 use Rattle.std.proofs.lemmas.List.{length_push}
-use Rattle.lin_flow.specs.Search.{all_of}
+use Rattle.lin_flow.specs.Search.{all_positions}
 use Rattle.lin_flow.proofs.Visiting.{spreads_none, spreads_more}
 use Rattle.lin_flow.proofs.nodes.spread.Goals as goal
 
@@ -21,7 +21,7 @@ pub loop-visit-preserved : goal.loop-visit-preserved
 loop-visit-preserved c =
     let spreads = c.loop-visit.invariant.spreads in
     let visited = c.loop-visit.invariant.visited in
-    let lt : c.len-number.result < length (all_of c.loop-visit.search) =
+    let lt : c.len-number.result < length (all_positions c.loop-visit.search) =
     omega (arith, spreads.ready.fewer, c.len-number.ensures, c.len.ensures, c.if-number-len.false) in
     let more = ap length c.in_ok-push.ensures.items in
     let pushed = length_push c.loop-visit.nodes.items c.in_ok-node.node in

@@ -1,6 +1,6 @@
 use Rattle.std.proofs.Common.{sym, subst}
 use Rattle.lin_laws.specs.Graph.{AreNumbered}
-use Rattle.linear_tidy.specs.Sizes.{HasRoom}
+use Rattle.linear_tidy.specs.Sizes.{HasTidyRoom}
 use Rattle.linear_pass.proofs.Promised.{lowered_numbered, linear_ok}
 use Rattle.linear_pass.proofs.Room.{slots_room, tidy_room}
 use Rattle.linear_pass.proofs.whole.linear.Goals as goal
@@ -14,7 +14,7 @@ tidy-requires c =
     let same = sym c.in_ok-lowered.ensures in
     record {
       numbered = subst AreNumbered same (lowered_numbered p c.requires.well_formed c.requires.placed);
-      room = subst HasRoom same (tidy_room p c.requires.room c.requires.well_formed c.requires.placed c.requires.seated);
+      room = subst HasTidyRoom same (tidy_room p c.requires.room c.requires.well_formed c.requires.placed c.requires.seated);
     }
 
 pub returns : goal.returns

@@ -1,6 +1,6 @@
 use Rattle.std.proofs.Common.{◌≡◌, drop, max}
-use Rattle.linear_rules.specs.Lowered.{limit_of}
+use Rattle.linear_rules.specs.Lowered.{limit_above}
 use Rattle.linearise.proofs.slots.limit.Given as goal
 
 abbrev pub invariant-loop-slot : goal.invariant-loop-slot
-invariant-loop-slot l = max l.limit (limit_of (drop l.slot-index l.slots)) ≡ limit_of l.slots
+invariant-loop-slot l = max l.limit (limit_above (drop l.slot-index l.slots)) ≡ limit_above l.slots

@@ -1,6 +1,6 @@
 use Rattle.std.proofs.Common.{refl, subst}
 use Rattle.std.proofs.lemmas.List.{take_all}
-use Rattle.liveness.specs.Numbers.{IsAbove}
+use Rattle.liveness.specs.Numbers.{IsLeastAbove}
 use Rattle.liveness.proofs.Bounds.{above_begun, above_step}
 use Rattle.liveness.proofs.numbers.above.Goals as goal
 
@@ -14,5 +14,5 @@ loop-reg-preserved c =
 
 pub returns : goal.returns
 returns c =
-    subst (λ rs. IsAbove c.args.bound rs c.loop-reg.above) (take_all c.loop-reg.reg-index c.args.regs.now c.loop-reg-test.false)
+    subst (λ rs. IsLeastAbove c.args.bound rs c.loop-reg.above) (take_all c.loop-reg.reg-index c.args.regs.now c.loop-reg-test.false)
     c.loop-reg.invariant

@@ -1,5 +1,5 @@
 use Rattle.std.proofs.Common.{suc, ◌<◌, sym, subst}
-use Rattle.liveness.specs.Numbers.{IsAbove, IsAboveCode}
+use Rattle.liveness.specs.Numbers.{IsLeastAbove, IsAboveCode}
 use Rattle.mach_ir.specs.Sizes.{number_limit}
 use Rattle.mach_ir.specs.Walks.{InCode, is_param, is_colour, is_in_code}
 use Rattle.mach_ir.specs.declared.reg.Reg.{Reg}
@@ -11,8 +11,8 @@ use Rattle.liveness.proofs.numbers.first_free.Goals as goal
 pub returns-clause-least : goal.returns-clause-least
 returns-clause-least c =
     first_least c.args.mach.now c.above-above_params.result c.above-above_colours.result c.above_code.result
-    (subst (λ rs. IsAbove 0 rs c.above-above_params.result) c.as_slice.ensures c.above-above_params.ensures)
-    (subst (λ rs. IsAbove c.above-above_params.result rs c.above-above_colours.result) c.as_slice-2.ensures
+    (subst (λ rs. IsLeastAbove 0 rs c.above-above_params.result) c.as_slice.ensures c.above-above_params.ensures)
+    (subst (λ rs. IsLeastAbove c.above-above_params.result rs c.above-above_colours.result) c.as_slice-2.ensures
     c.above-above_colours.ensures)
     (subst (λ xs. IsAboveCode c.above-above_colours.result xs c.above_code.result) c.as_slice-3.ensures c.above_code.ensures)
 

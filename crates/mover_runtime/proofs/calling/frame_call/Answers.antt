@@ -7,9 +7,9 @@ use Rattle.image_form.specs.Tables.{ext, tables}
 use Rattle.rv_machine.specs.Hart.{register}
 use Rattle.rv_machine.specs.Services.{Stopped, frame_call}
 use Rattle.rv_machine.specs.declared.cause.Cause.TheVariants.{BadService}
-use Rattle.mover_runtime.specs.Outcome.{Serves, calling_none, progress_text, last_line}
+use Rattle.mover_runtime.specs.Outcome.{ServesRun, calling_none, progress_text, last_line}
 use Rattle.mover_runtime.specs.Schedules.{schedule_of}
-use Rattle.mover_runtime.specs.Written.{Writes}
+use Rattle.mover_runtime.specs.Written.{AppendsResult}
 use Rattle.mover_runtime.proofs.Rows.{ext_at, has_at}
 use Rattle.mover_runtime.proofs.Writing.{writes_fault}
 use Rattle.mover_runtime.proofs.calling.frame_call.Goals as goal
@@ -24,19 +24,19 @@ answer_frame_call-requires-clause-few g c =
 pub returns-in-Some-clause-reported : goal.returns-in-Some-clause-reported
 returns-in-Some-clause-reported g c =
     let at = ext_at c.image.result.now c.args.machine.now.image c.register-number.result (register c.args.machine.now 5) (Some c.in-Some.row.now) c.image.ensures.same c.register-number.ensures c.in-Some.ensures in
-    subst (λ (o : Option External). IfOk c.answer_frame_call.result (λ end. Serves end (frame_call ((schedule_of c.args.schedule.now).plan c.args.machine.now.services) o (calling_none c.args.machine.now c.args.returns (drop c.args.taken.now c.args.answers.now))) c.answer_frame_call.new.machine c.args.returns (drop c.answer_frame_call.new.taken c.args.answers.now)))
+    subst (λ (o : Option External). IfOk c.answer_frame_call.result (λ end. ServesRun end (frame_call ((schedule_of c.args.schedule.now).plan c.args.machine.now.services) o (calling_none c.args.machine.now c.args.returns (drop c.args.taken.now c.args.answers.now))) c.answer_frame_call.new.machine c.args.returns (drop c.answer_frame_call.new.taken c.args.answers.now)))
     (sym at) c.answer_frame_call.ensures.reported
 
 pub returns-in-Some-clause-text : goal.returns-in-Some-clause-text
 returns-in-Some-clause-text g c =
     let at = ext_at c.image.result.now c.args.machine.now.image c.register-number.result (register c.args.machine.now 5) (Some c.in-Some.row.now) c.image.ensures.same c.register-number.ensures c.in-Some.ensures in
-    subst (λ (o : Option External). Writes c.answer_frame_call.result (g.K.Sink.held c.args.out.now) (g.K.Sink.held c.answer_frame_call.new.out) (progress_text (frame_call ((schedule_of c.args.schedule.now).plan c.args.machine.now.services) o (calling_none c.args.machine.now c.args.returns (drop c.args.taken.now c.args.answers.now)))))
+    subst (λ (o : Option External). AppendsResult c.answer_frame_call.result (g.K.Sink.held c.args.out.now) (g.K.Sink.held c.answer_frame_call.new.out) (progress_text (frame_call ((schedule_of c.args.schedule.now).plan c.args.machine.now.services) o (calling_none c.args.machine.now c.args.returns (drop c.args.taken.now c.args.answers.now)))))
     (sym at) c.answer_frame_call.ensures.text
 
 pub returns-in_ok-end-in-None-clause-reported : goal.returns-in_ok-end-in-None-clause-reported
 returns-in_ok-end-in-None-clause-reported g c =
     let at = ext_at c.image.result.now c.args.machine.now.image c.register-number.result (register c.args.machine.now 5) None c.image.ensures.same c.register-number.ensures c.in-None.ensures in
-    subst (λ (o : Option External). Serves (Some c.in_ok-end-in-None.end) (frame_call ((schedule_of c.args.schedule.now).plan c.args.machine.now.services) o (calling_none c.args.machine.now c.args.returns (drop c.args.taken.now c.args.answers.now))) c.args.machine.now c.args.returns (drop c.args.taken.now c.args.answers.now))
+    subst (λ (o : Option External). ServesRun (Some c.in_ok-end-in-None.end) (frame_call ((schedule_of c.args.schedule.now).plan c.args.machine.now.services) o (calling_none c.args.machine.now c.args.returns (drop c.args.taken.now c.args.answers.now))) c.args.machine.now c.args.returns (drop c.args.taken.now c.args.answers.now))
     (sym at) ([], Stopped BadService, refl, c.in_ok-end-in-None.ensures.reported)
 
 pub returns-in_ok-end-in-None-clause-text : goal.returns-in_ok-end-in-None-clause-text
@@ -48,5 +48,5 @@ returns-in_ok-end-in-None-clause-text g c =
 pub returns-in_err-end-in-None-clause-text : goal.returns-in_err-end-in-None-clause-text
 returns-in_err-end-in-None-clause-text g c =
     let at = ext_at c.image.result.now c.args.machine.now.image c.register-number.result (register c.args.machine.now 5) None c.image.ensures.same c.register-number.ensures c.in-None.ensures in
-    subst (λ (o : Option External). Writes c.from_residual.result (g.K.Sink.held c.args.out.now) (g.K.Sink.held c.end_stopped.new.out) (progress_text (frame_call ((schedule_of c.args.schedule.now).plan c.args.machine.now.services) o (calling_none c.args.machine.now c.args.returns (drop c.args.taken.now c.args.answers.now)))))
+    subst (λ (o : Option External). AppendsResult c.from_residual.result (g.K.Sink.held c.args.out.now) (g.K.Sink.held c.end_stopped.new.out) (progress_text (frame_call ((schedule_of c.args.schedule.now).plan c.args.machine.now.services) o (calling_none c.args.machine.now c.args.returns (drop c.args.taken.now c.args.answers.now)))))
     (sym at) (writes_fault c.from_residual.result (g.K.Sink.held c.args.out.now) (g.K.Sink.held c.end_stopped.new.out) (last_line (Stopped BadService)) c.from_residual.ensures.0 c.in_err-end-in-None.ensures.text)

@@ -1,7 +1,7 @@
 use Rattle.std.proofs.Common.{◌≡◌, ◌-◌, ◌≤◌, List, length, drop}
 use Rattle.std.specs.Io.KnownBytes.{Appends}
 use Rattle.bs_words.specs.Observed.{Made}
-use Rattle.rv_machine.specs.Run.{after}
+use Rattle.rv_machine.specs.Run.{now_after}
 use Rattle.rv_machine.specs.Services.{Going}
 use Rattle.rv_machine.specs.Text.{calls_text}
 use Rattle.mover_runtime.specs.Outcome.{calling_none, entry_result}
@@ -13,8 +13,8 @@ use Rattle.mover_runtime.proofs.run.run_image.Given as goal
 abbrev pub invariant-loop-count : goal.invariant-loop-count
 invariant-loop-count g l =
     ((calls : List Made) × Appends (g.K.Sink.held l.fn.out) (g.K.Sink.held l.out) (calls_text calls)
-    × (after (schedule_of l.schedule) l.limit (Going (calling_none l.fn.machine (entry_result l.fn.machine) l.answers))
-    ≡ after (schedule_of l.schedule) (l.limit - l.count) (Going (state l.machine l.returns (drop l.taken l.answers) calls))))
+    × (now_after (schedule_of l.schedule) l.limit (Going (calling_none l.fn.machine (entry_result l.fn.machine) l.answers))
+    ≡ now_after (schedule_of l.schedule) (l.limit - l.count) (Going (state l.machine l.returns (drop l.taken l.answers) calls))))
     × (l.count ≤ l.limit) × (l.machine.retired ≡ l.count) × (l.taken ≤ length l.answers) × (g.K.Sink.faults l.fn.out ≤ g.K.Sink.faults l.out)
     × StandsAt l.schedule l.count l.asks × (l.machine.services ≤ l.count)
 

@@ -3,7 +3,7 @@ use Rattle.std.specs.Prelude.{codes}
 use Rattle.std.specs.Io.KnownBytes.{Appends}
 use Rattle.bs_words.specs.declared.values.Obs.TheVariants.{Word}
 use Rattle.rv_machine.specs.Text.{obs_text, shown_text}
-use Rattle.mover_runtime.specs.Written.{Writes}
+use Rattle.mover_runtime.specs.Written.{AppendsResult}
 use Rattle.mover_runtime.proofs.Shown.{seen_next, seen_all}
 use Rattle.mover_runtime.proofs.Writing.{appends_nothing, appends_then, writes_then, writes_first}
 use Rattle.mover_runtime.proofs.text.write_shown.Goals as goal
@@ -32,7 +32,7 @@ returns-in_err-put_obs-clause-text g c =
     let piece = codes " " ++ obs_text (get_or c.args.shown.now c.loop-obs.obs-index (Word 0)) in
     let k = c.loop-obs.obs-index in
     let rest = shown_text (drop (k + 1) c.args.shown.now) in
-    subst (Writes c.from_residual.result (g.K.Sink.held c.args.out.now) (g.K.Sink.held c.put_obs.new.out))
+    subst (AppendsResult c.from_residual.result (g.K.Sink.held c.args.out.now) (g.K.Sink.held c.put_obs.new.out))
     (sym (inv.0.2 ∙ ap (λ (t : List ℕ). inv.0.0 ++ t) (seen_next c.args.shown.now k c.loop-obs-test.true)))
     (writes_then c.from_residual.result (g.K.Sink.held c.args.out.now) (g.K.Sink.held c.loop-obs.out) (g.K.Sink.held c.put_obs.new.out) inv.0.0 (piece ++ rest) inv.0.1
     (writes_first c.from_residual.result (g.K.Sink.held c.loop-obs.out) (g.K.Sink.held c.put_obs.new.out) piece rest c.from_residual.ensures.0 c.in_err-put_obs.ensures.text))

@@ -1,4 +1,4 @@
-use Rattle.mach_ir.specs.Graph.{place_in}
+use Rattle.mach_ir.specs.Graph.{coloured_location}
 use Rattle.mach_laws.proofs.Colouring.{colourable, colouring_of}
 use Rattle.pass_rules.specs.Measures.{other_operands}
 use Rattle.reload_rules.proofs.Room.{room_counts}
@@ -15,5 +15,5 @@ colour-requires c = colourable c.args.mach c.in_ok-graph.graph c.in_ok-graph.ens
 
 pub reload-requires-clause-colouring : goal.reload-requires-clause-colouring
 reload-requires-clause-colouring c =
-    colouring_of c.args.mach c.in_ok-graph.graph c.in_ok-graph.ensures (place_in c.in_ok-colours.colours)
+    colouring_of c.args.mach c.in_ok-graph.graph c.in_ok-graph.ensures (coloured_location c.in_ok-colours.colours)
     c.in_ok-colours.ensures.safe

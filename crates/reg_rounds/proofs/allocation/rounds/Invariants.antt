@@ -1,5 +1,5 @@
-use Rattle.rounds_rules.specs.Rounds.{Asked}
+use Rattle.rounds_rules.specs.Rounds.{RoundsAsked}
 use Rattle.reg_rounds.proofs.allocation.rounds.Given as goal
 
 abbrev pub invariant-loop-rounds : goal.invariant-loop-rounds
-invariant-loop-rounds l = Asked l.by l.fresh l.fn.mach l.rounds l.current
+invariant-loop-rounds l = RoundsAsked l.by l.fresh l.fn.mach l.rounds l.current

@@ -1,14 +1,14 @@
 -- What the fields of the word have for their row is what the word decodes to.
 use Rattle.std.proofs.Common.{◌≡◌, ◌<◌, ◌^◌, ap, ◌∙◌, IfSome, subst, sym, arith}
 use Rattle.rv_isa.specs.Encoding.{InstrFits, encoded}
-use Rattle.rv_isa.specs.Decoding.{decoded, row}
+use Rattle.rv_isa.specs.Decoding.{decoded, row_of_fields}
 use Rattle.rv_isa.proofs.Converse.{InstrFits-decoded, encoded-decoded}
 use Rattle.rv_isa.proofs.decoding.decode.Goals as goal
 use Rattle.rv_isa.proofs.decoding.decode.Goals.{After-row}
 
 result_is : (c : After-row) → c.row.result ≡ decoded c.args.word
 unfolding decoded
-result_is c = c.row.ensures ∙ ap row c.split.ensures.exact
+result_is c = c.row.ensures ∙ ap row_of_fields c.split.ensures.exact
 
 pub returns-clause-exact : goal.returns-clause-exact
 returns-clause-exact c = result_is c

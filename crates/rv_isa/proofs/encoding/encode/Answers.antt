@@ -1,6 +1,6 @@
 -- The word is that of the instruction, and this decodes to it.
 use Rattle.std.proofs.Common.{◌≡◌, ap, ◌∙◌}
-use Rattle.rv_isa.specs.Word.{joined}
+use Rattle.rv_isa.specs.Word.{word_of_fields}
 use Rattle.rv_isa.specs.Encoding.{encoded}
 use Rattle.rv_isa.specs.Decoding.{decoded}
 use Rattle.rv_isa.proofs.RoundTrip.{decoded-encoded}
@@ -9,7 +9,7 @@ use Rattle.rv_isa.proofs.encoding.encode.Goals.{After-join}
 
 result_is : (c : After-join) → c.join.result ≡ encoded c.args.instr
 unfolding encoded
-result_is c = c.join.ensures ∙ ap joined c.fields.ensures.exact
+result_is c = c.join.ensures ∙ ap word_of_fields c.fields.ensures.exact
 
 pub returns-clause-exact : goal.returns-clause-exact
 returns-clause-exact c = result_is c

@@ -2,7 +2,7 @@ use Rattle.std.proofs.Common.{[], ◌∷◌, ap, ◌∙◌, arith}
 use Rattle.layout_rules.specs.declared.form.Form.TheVariants.{Near}
 use Rattle.layout_rules.specs.Forms.{ranks, none_far, grown_from}
 use Rattle.layout_rules.proofs.Relaxing.{ranks_append}
-use Rattle.rv_layout.specs.Tables.{places_of}
+use Rattle.rv_layout.specs.Tables.{words_of_labels}
 use Rattle.rv_layout.proofs.Steps.{grown_step}
 use Rattle.rv_layout.proofs.forms.grow.Goals as goal
 
@@ -16,6 +16,6 @@ loop-index-preserved c =
       few = omega (arith, c.rank-sum.ensures.most, c.loop-index.invariant.few);
       ranks = omega (arith, sum, c.rank-sum.ensures.exact, c.loop-index.invariant.ranks);
       grown = rw (pushed, c.longer-larger.ensures, c.needed.ensures, c.words_of-at.ensures.exact)
-          (grown_step (places_of c.args.labels.now) c.args.code.now c.args.forms.now next (grown_from none_far (places_of c.args.labels.now) 0 c.args.code.now c.args.forms.now)
+          (grown_step (words_of_labels c.args.labels.now) c.args.code.now c.args.forms.now next (grown_from none_far (words_of_labels c.args.labels.now) 0 c.args.code.now c.args.forms.now)
           c.loop-index.index c.loop-index.at c.index-code-index.result Near c.loop-index-test.true c.index-code-index.is (omega (arith, c.loop-index-test.true, c.requires.same)) c.loop-index.invariant.grown);
     }

@@ -1,6 +1,6 @@
 use Rattle.std.proofs.Common.{◌≡◌, ◌*◌, ◌≤◌, ◌++◌, drop}
 use Rattle.layout_rules.specs.Forms.{ranks, none_far, grown_from}
-use Rattle.rv_layout.specs.Tables.{places_of}
+use Rattle.rv_layout.specs.Tables.{words_of_labels}
 use Rattle.rv_layout.proofs.forms.grow.Given as goal
 
 abbrev pub invariant-loop-index : goal.invariant-loop-index
@@ -8,5 +8,5 @@ invariant-loop-index l = record {
   most : l.at ≤ 3 * l.index;
   few : l.sum ≤ 2 * l.index;
   ranks : l.sum ≡ ranks l.next.items;
-  grown : l.next.items ++ grown_from none_far (places_of l.labels) l.at (drop l.index l.code) (drop l.index l.forms) ≡ grown_from none_far (places_of l.labels) 0 l.code l.forms;
+  grown : l.next.items ++ grown_from none_far (words_of_labels l.labels) l.at (drop l.index l.code) (drop l.index l.forms) ≡ grown_from none_far (words_of_labels l.labels) 0 l.code l.forms;
 }

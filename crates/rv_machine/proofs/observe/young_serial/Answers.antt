@@ -1,6 +1,6 @@
 use Rattle.std.proofs.Common.{◌≡◌, ℕ, ◌+◌, ◌*◌, ◌-◌, ◌/◌, ◌≤◌, ap, sym, ◌∙◌, Option, arith, subst}
 use Rattle.std.specs.Prelude.{IfSome}
-use Rattle.rv_machine.specs.Observation.{young_blocks, blocks_from, cells_of}
+use Rattle.rv_machine.specs.Observation.{young_blocks, blocks_from, cells_of_header}
 use Rattle.rv_machine.proofs.Young.{found_in, found_all, one_more, at_top, no_header, not_whole, one_block, whole_bounds, passed_below}
 use Rattle.rv_machine.proofs.observe.young_serial.Goals as goal
 
@@ -27,8 +27,8 @@ loop-most-preserved c =
     record {
       rest = c.loop-most.invariant.rest
           ∙ ap (found_in c.args.address c.loop-most.found) (one_block c.loop-most.most c.args.memory.now c.loop-most.at c.in_ok-words.field-0 c.loop-most-test.true c.if-at-eq-YOUNG_TOP.false (sym c.in_ok-words.ensures.exact) (sym c.if-not-is_whole.ensures))
-          ∙ one_more c.args.address c.loop-most.found _ (blocks_from (c.loop-most.most - 1) c.args.memory.now (c.loop-most.at + 8 + 8 * cells_of c.in_ok-words.field-0))
-          ∙ ap (λ (o : Option ℕ). found_in c.args.address o (blocks_from (c.loop-most.most - 1) c.args.memory.now (c.loop-most.at + 8 + 8 * cells_of c.in_ok-words.field-0))) (sym c.passed-found.ensures);
+          ∙ one_more c.args.address c.loop-most.found _ (blocks_from (c.loop-most.most - 1) c.args.memory.now (c.loop-most.at + 8 + 8 * cells_of_header c.in_ok-words.field-0))
+          ∙ ap (λ (o : Option ℕ). found_in c.args.address o (blocks_from (c.loop-most.most - 1) c.args.memory.now (c.loop-most.at + 8 + 8 * cells_of_header c.in_ok-words.field-0))) (sym c.passed-found.ensures);
       near = omega (arith, c.loop-most.invariant.near);
       few = omega (arith, c.loop-most.invariant.few);
       below = subst (λ (o : Option ℕ). IfSome o (λ serial. serial + (c.loop-most.most - 1) ≤ 4097)) (sym c.passed-found.ensures)

@@ -1,12 +1,12 @@
 use Rattle.std.proofs.Common.{◌≡◌, not, true, length, refl, ap, ◌∙◌, arith}
 use Rattle.std.proofs.lemmas.Result.{on_ok_weaker}
 use Rattle.cmm_tree.specs.View.{expr_view, function_view}
-use Rattle.selection_rules.specs.Select.{returns as returned_by, select}
+use Rattle.selection_rules.specs.Select.{return_code as returned_by, select}
 use Rattle.selection.specs.Whole.{body_code}
 use Rattle.selection.proofs.Whole.{body-is, count-params, scope-is, typed-body}
 use Rattle.selection.specs.declared.function.Numbers.{Numbers}
 use Rattle.selection_scope.specs.Room.{most_tries}
-use Rattle.selection_scope.specs.Scoping.{Visible}
+use Rattle.selection_scope.specs.Scoping.{LexicalScope}
 use Rattle.selection.proofs.function.put_body.Goals as goal
 
 pub expr_at-requires-clause-typed : goal.expr_at-requires-clause-typed
@@ -14,7 +14,7 @@ expr_at-requires-clause-typed c =
     let f = c.args.function.now in
     let moved = c.args.numbers.moved in
     let scope = c.bind_params.new.self in
-    typed-body f moved scope (ap (λ (v : Visible). v.names) (scope-is f moved c.as_slice.result.now c.new-scope.result scope c.as_slice.ensures c.new-scope.ensures c.in_ok-bind_params.ensures)) c.requires.typed
+    typed-body f moved scope (ap (λ (v : LexicalScope). v.names) (scope-is f moved c.as_slice.result.now c.new-scope.result scope c.as_slice.ensures c.new-scope.ensures c.in_ok-bind_params.ensures)) c.requires.typed
 
 pub returns : goal.returns
 returns c =
@@ -42,7 +42,7 @@ bind_params-requires c =
 pub expr_at-requires-clause-tries : goal.expr_at-requires-clause-tries
 expr_at-requires-clause-tries c =
     let f = c.args.function.now in
-    let none = ap (λ (v : Visible). most_tries v.labels)
+    let none = ap (λ (v : LexicalScope). most_tries v.labels)
     (scope-is f c.args.numbers.moved c.as_slice.result.now c.new-scope.result c.bind_params.new.self c.as_slice.ensures c.new-scope.ensures c.in_ok-bind_params.ensures) in
     omega (arith, none)
 

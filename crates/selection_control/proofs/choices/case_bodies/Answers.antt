@@ -3,7 +3,7 @@ use Rattle.cmm_tree.specs.Rows.{cases_of}
 use Rattle.selection_rules.specs.Select.{width_cases}
 use Rattle.selection_control.proofs.LastParts.{cases-typed, cases-typed-in, cases-behind, count-behind, case-code}
 use Rattle.selection_control.proofs.Rooms.{cases-room}
-use Rattle.selection_scope.specs.Scoping.{names_in}
+use Rattle.selection_scope.specs.Scoping.{scoped_names}
 use Rattle.selection_control.proofs.choices.case_bodies.Goals as goal
 
 pub overflow_sub-base : goal.overflow_sub-base
@@ -13,7 +13,7 @@ overflow_sub-base g c =
 
 pub one-requires-clause-typed : goal.one-requires-clause-typed
 one-requires-clause-typed g c =
-    (cases-typed (names_in c.loop-last.scope) c.loop-last.rest.now c.in-Some.others.now c.in-Some.last.now c.in-Some.ensures.cases.0 c.loop-last.invariant.typed).1
+    (cases-typed (scoped_names c.loop-last.scope) c.loop-last.rest.now c.in-Some.others.now c.in-Some.last.now c.in-Some.ensures.cases.0 c.loop-last.invariant.typed).1
 
 pub loop-last-preserved : goal.loop-last-preserved
 loop-last-preserved g c =
@@ -24,7 +24,7 @@ loop-last-preserved g c =
     let rest = c.loop-last.rest.now in
     let is = c.in-Some.ensures.cases.0 in
     let choices = c.args.choices in
-    let typed = cases-typed (names_in t) rest others last is c.loop-last.invariant.typed in
+    let typed = cases-typed (scoped_names t) rest others last is c.loop-last.invariant.typed in
     let ended = cases-behind c.args.place.base c.loop-last.base rest others last is c.loop-last.invariant.base in
     let counted = count-behind choices.first c.loop-last.label rest others last is c.loop-last.invariant.label in
     let l = c.loop-last.label - 1 in

@@ -3,7 +3,7 @@ use Rattle.cmm_tree.specs.Rows.{row_of}
 use Rattle.selection_rules.specs.Select.{width_row}
 use Rattle.selection_control.proofs.LastParts.{row-typed, row-typed-in, row-end, dropped-code}
 use Rattle.selection_control.proofs.Rooms.{row-room}
-use Rattle.selection_scope.specs.Scoping.{names_in}
+use Rattle.selection_scope.specs.Scoping.{scoped_names}
 use Rattle.selection_scope.specs.declared.place.Place.{Place}
 use Rattle.selection_control.proofs.choices.dropped.Goals as goal
 
@@ -19,7 +19,7 @@ overflow_sub-end-in-Some g c =
 
 pub one-requires-clause-typed : goal.one-requires-clause-typed
 one-requires-clause-typed g c =
-    (row-typed (names_in c.loop-last.scope) c.loop-last.rest.now c.in-Some.others.now c.in-Some.last.now c.in-Some.ensures.cases.0 c.loop-last.invariant.typed).1
+    (row-typed (scoped_names c.loop-last.scope) c.loop-last.rest.now c.in-Some.others.now c.in-Some.last.now c.in-Some.ensures.cases.0 c.loop-last.invariant.typed).1
 
 pub loop-last-preserved : goal.loop-last-preserved
 loop-last-preserved g c =
@@ -30,7 +30,7 @@ loop-last-preserved g c =
     let rest = c.loop-last.rest.now in
     let is = c.in-Some.ensures.cases.0 in
     let number = c.args.number in
-    let typed = row-typed (names_in t) rest others last is c.loop-last.invariant.typed in
+    let typed = row-typed (scoped_names t) rest others last is c.loop-last.invariant.typed in
     let ended = row-end number c.loop-last.end rest others last is c.loop-last.invariant.end in
     let m = c.loop-last.end - c.width_of.result - 1 in
     let end : m ≡ number + width_row (row_of others) = omega (arith, ended, c.width_of.ensures) in

@@ -2,7 +2,7 @@ use Rattle.std.proofs.Common.{◌≡◌, ◌+◌, ◌<◌, length}
 use Rattle.cmm_tree.specs.Rows.{row_of}
 use Rattle.cmm_types.specs.Lists.{AreAnnotated}
 use Rattle.selection_scope.specs.Room.{indexes_in_row, most_numbers}
-use Rattle.selection_scope.specs.Scoping.{names_in}
+use Rattle.selection_scope.specs.Scoping.{scoped_names}
 use Rattle.selection_rules.specs.Select.{width_row}
 use Rattle.selection_control.specs.Rows.{select_dropped}
 use Rattle.selection_control.proofs.choices.dropped.Given as goal
@@ -12,7 +12,7 @@ invariant-loop-last g l =
     record {
       code : select_dropped l.initial.scope.names l.initial.scope.labels l.fn.number (row_of l.rest) l.code ≡ select_dropped l.initial.scope.names l.initial.scope.labels l.fn.number (row_of l.fn.exprs) l.initial.code;
       scope : l.scope ≡ l.initial.scope;
-      typed : AreAnnotated (names_in l.scope) l.rest;
+      typed : AreAnnotated (scoped_names l.scope) l.rest;
       room : l.fn.number + (width_row (row_of l.rest) + indexes_in_row (row_of l.rest)) < most_numbers;
       end : l.end ≡ l.fn.number + width_row (row_of l.rest);
     }

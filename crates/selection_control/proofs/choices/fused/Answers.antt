@@ -4,7 +4,7 @@ use Rattle.bs_words.specs.declared.operators.IntOp.{IntOp}
 use Rattle.cmm_tree.specs.Tree.{Operator}
 use Rattle.cmm_tree.specs.View.{expr_view}
 use Rattle.mach_ir.specs.declared.mach.Instr.{Instr}
-use Rattle.selection_rules.specs.Select.{width, select_test, comparison, shape_of, shape_op, shape_right}
+use Rattle.selection_rules.specs.Select.{width, select_test, comparison, operation_shape, shape_op, shape_right}
 use Rattle.selection_control.proofs.TwoOperands.{operands_made, both-operands, reg-is, test-made}
 use Rattle.selection_code.specs.Shapes.{shape_view}
 use Rattle.selection_control.proofs.choices.fused.Goals as goal
@@ -25,7 +25,7 @@ returns-clause-code g c =
     let k = shape_view c.args.branch.shape in
     let new = c.both.new.code in
     let step : new ≡ operands_made s c.is_left_first-left_first.result c.needs_left.result c.needs_right.result c.fresh.result c.fresh-2.result first c.behind-second.result left right c.branch-code.new.self
-    → (at : ℕ) (op : IntOp) (value : List Instr) → k ≡ shape_of op (expr_view left) (expr_view right) → comparison (shape_op k op) (shape_right k) ≡ Some c.args.branch.test
+    → (at : ℕ) (op : IntOp) (value : List Instr) → k ≡ operation_shape op (expr_view left) (expr_view right) → comparison (shape_op k op) (shape_right k) ≡ Some c.args.branch.test
     → new ≡ select_test s.names s.labels c.args.branch.otherwise b (Operator at op (expr_view left) (expr_view right)) value c.args.code.now =
     λ made at op value shape test.
     test-made s at b c.args.branch.otherwise op k c.args.branch.test left right c.fresh.result c.fresh-2.result value c.args.code.now c.branch-code.new.self new

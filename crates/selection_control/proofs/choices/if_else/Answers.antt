@@ -4,7 +4,7 @@ use Rattle.cmm_tree.specs.Tree.{If}
 use Rattle.cmm_tree.specs.View.{expr_view}
 use Rattle.mach_ir.specs.declared.mach.Test.TheVariants as test
 use Rattle.selection_rules.specs.Instructions as emit
-use Rattle.selection_rules.specs.Select.{fresh, width, select, select_test}
+use Rattle.selection_rules.specs.Select.{fresh_register, width, select, select_test}
 use Rattle.selection_control.proofs.Branches.{if-code}
 use Rattle.selection_control.proofs.LastParts.{operand_place}
 use Rattle.selection_operands.specs.Below.{node_code}
@@ -22,7 +22,7 @@ returns-clause-code g c =
     let ar : base - 3 ≡ suc b = omega (arith, ab) in
     let at_true = c.behind-true_base.ensures ∙ ap (λ n. n + width (expr_view of)) ab in
     let at_false = c.behind-false_base.ensures ∙ ap (λ n. n + width (expr_view c.args.on_true.now)) at_true in
-    let register = c.fresh.ensures ∙ ap (λ n. fresh n of.ty) ar in
+    let register = c.fresh.ensures ∙ ap (λ n. fresh_register n of.ty) ar in
     let place = c.operand_at-place.ensures ∙ ap (λ r. operand_place r base) register in
     let new = c.condition.new.code in
     let v = c.one-2.new.scope in

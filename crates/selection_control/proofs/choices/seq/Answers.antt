@@ -8,18 +8,18 @@ use Rattle.selection_control.proofs.Rooms.{row-room}
 use Rattle.selection_operands.specs.Below.{node_code}
 use Rattle.selection_control.specs.Rows.{select_dropped}
 use Rattle.selection_scope.specs.Room.{indexes_in_row, most_numbers}
-use Rattle.selection_scope.specs.Scoping.{names_in}
+use Rattle.selection_scope.specs.Scoping.{scoped_names}
 use Rattle.selection_scope.specs.declared.place.Place.{Place}
 use Rattle.selection_control.proofs.choices.seq.Goals as goal
 
 pub one-requires-clause-typed : goal.one-requires-clause-typed
 one-requires-clause-typed g c =
-    (row-typed (names_in c.args.scope.now) c.args.elements.now c.in-Some.others.now c.in-Some.last.now c.in-Some.ensures.cases.0 c.requires.typed).1
+    (row-typed (scoped_names c.args.scope.now) c.args.elements.now c.in-Some.others.now c.in-Some.last.now c.in-Some.ensures.cases.0 c.requires.typed).1
 
 pub dropped-requires-clause-typed : goal.dropped-requires-clause-typed
 dropped-requires-clause-typed g c =
     row-typed-in c.one.new.scope c.args.scope.now c.in-Some.others.now (sym c.in_ok-one-in-Some.ensures.scope)
-    (row-typed (names_in c.args.scope.now) c.args.elements.now c.in-Some.others.now c.in-Some.last.now c.in-Some.ensures.cases.0 c.requires.typed).0
+    (row-typed (scoped_names c.args.scope.now) c.args.elements.now c.in-Some.others.now c.in-Some.last.now c.in-Some.ensures.cases.0 c.requires.typed).0
 
 pub returns-in_ok-one-in-Some-clause-code : goal.returns-in_ok-one-in-Some-clause-code
 returns-in_ok-one-in-Some-clause-code g c =

@@ -1,7 +1,7 @@
 use Rattle.std.proofs.Common.{◌≡◌, ◌+◌, length}
 use Rattle.cmm_tree.specs.Rows.{bindings_of}
 use Rattle.cmm_types.specs.Lists.{AreBindingsAnnotated}
-use Rattle.selection_scope.specs.Scoping.{names_in}
+use Rattle.selection_scope.specs.Scoping.{scoped_names}
 use Rattle.selection_rules.specs.Select.{env_after, width_bound}
 use Rattle.selection_control.proofs.scoping.bind_all.Given as goal
 
@@ -11,7 +11,7 @@ invariant-loop-rest l =
       names : env_after l.scope.names l.next (bindings_of l.rest) ≡ env_after l.initial.scope.names l.fn.number (bindings_of l.fn.bindings);
       labels : l.scope.labels ≡ l.initial.scope.labels;
       room : l.next + width_bound (bindings_of l.rest) ≡ l.fn.number + width_bound (bindings_of l.fn.bindings);
-      typed : AreBindingsAnnotated (names_in l.scope) l.rest;
+      typed : AreBindingsAnnotated (scoped_names l.scope) l.rest;
     }
 
 abbrev pub decreases-loop-rest : goal.decreases-loop-rest

@@ -3,7 +3,7 @@ use Rattle.cmm_tree.specs.Rows.{handlers_of}
 use Rattle.selection_rules.specs.Select.{width_handlers, width_labels}
 use Rattle.selection_control.proofs.LastParts.{handlers-typed, handlers-typed-in, handlers-behind, labels-behind, handler-code}
 use Rattle.selection_control.proofs.Rooms.{handlers-room}
-use Rattle.selection_scope.specs.Scoping.{names_in}
+use Rattle.selection_scope.specs.Scoping.{scoped_names}
 use Rattle.selection_control.proofs.scoping.handler_bodies.Goals as goal
 
 pub overflow_sub-params : goal.overflow_sub-params
@@ -23,7 +23,7 @@ overflow_sub-base g c =
 
 pub handler_body-requires-clause-typed : goal.handler_body-requires-clause-typed
 handler_body-requires-clause-typed g c =
-    (handlers-typed (names_in c.loop-last.scope) c.loop-last.rest.now c.in-Some.others.now c.in-Some.last.now c.in-Some.ensures.cases.0 c.loop-last.invariant.typed).1
+    (handlers-typed (scoped_names c.loop-last.scope) c.loop-last.rest.now c.in-Some.others.now c.in-Some.last.now c.in-Some.ensures.cases.0 c.loop-last.invariant.typed).1
 
 pub loop-last-preserved : goal.loop-last-preserved
 loop-last-preserved g c =
@@ -33,7 +33,7 @@ loop-last-preserved g c =
     let last = c.in-Some.last.now in
     let rest = c.loop-last.rest.now in
     let is = c.in-Some.ensures.cases.0 in
-    let typed = handlers-typed (names_in t) rest others last is c.loop-last.invariant.typed in
+    let typed = handlers-typed (scoped_names t) rest others last is c.loop-last.invariant.typed in
     let ended = handlers-behind c.args.place.base c.loop-last.base rest others last is c.loop-last.invariant.base in
     let counted = labels-behind c.args.first c.loop-last.label rest others last is c.loop-last.invariant.label in
     let p = c.loop-last.label - c.len.result in

@@ -4,10 +4,10 @@ use Rattle.cmm_tree.specs.Rows.{bindings_of}
 use Rattle.cmm_tree.specs.Tree.{Let}
 use Rattle.cmm_tree.specs.View.{expr_view}
 use Rattle.cmm_types.specs.Lists.{AreBindingsAnnotated}
-use Rattle.selection_rules.specs.Select.{Named, scopes, env_after, select_bound}
+use Rattle.selection_rules.specs.Select.{NamedRegister, scopes, env_after, select_bound}
 use Rattle.selection_control.proofs.Binding.{let-code, body-typed, names-again}
 use Rattle.selection_operands.specs.Below.{node_code}
-use Rattle.selection_scope.specs.Scoping.{Visible}
+use Rattle.selection_scope.specs.Scoping.{LexicalScope}
 use Rattle.selection_control.proofs.scoping.let_in.Goals as goal
 
 pub one-requires-clause-typed : goal.one-requires-clause-typed
@@ -19,13 +19,13 @@ values-requires-clause-names g c =
     let bound = c.in_ok-bind_all.ensures in
     let same = c.in_ok-one.ensures.scope in
     let again = names-again c.args.scope.now c.bind_all.new.scope c.one.new.scope (c.args.node.place.base + 1) c.args.bindings.now bound same in
-    ap (λ (v : Visible). v.names) (same ∙ bound)
+    ap (λ (v : LexicalScope). v.names) (same ∙ bound)
     ∙ ap (λ env. env_after env (c.args.node.place.base + 1) (bindings_of c.args.bindings.now)) (sym again)
 
 pub values-requires-clause-typed : goal.values-requires-clause-typed
 values-requires-clause-typed g c =
     let again = names-again c.args.scope.now c.bind_all.new.scope c.one.new.scope (c.args.node.place.base + 1) c.args.bindings.now c.in_ok-bind_all.ensures c.in_ok-one.ensures.scope in
-    let P : List Named → Type 0 = λ env. AreBindingsAnnotated (scopes env) c.args.bindings.now in
+    let P : List NamedRegister → Type 0 = λ env. AreBindingsAnnotated (scopes env) c.args.bindings.now in
     subst P (sym again) c.requires.typed
 
 pub returns-clause-code : goal.returns-clause-code
@@ -48,5 +48,5 @@ returns-clause-scope g c =
     let same = c.in_ok-one.ensures.scope in
     let again = names-again c.args.scope.now c.bind_all.new.scope c.one.new.scope (c.args.node.place.base + 1) c.args.bindings.now bound same in
     on_ok_weaker c.values.result
-    (λ left. left ∙ ap (λ (v : Visible). record v { names = drop (length c.args.bindings.now) c.one.new.scope.names }) (same ∙ bound) ∙ ap (λ env. record c.args.scope.now { names = env }) again)
+    (λ left. left ∙ ap (λ (v : LexicalScope). record v { names = drop (length c.args.bindings.now) c.one.new.scope.names }) (same ∙ bound) ∙ ap (λ env. record c.args.scope.now { names = env }) again)
     c.values.ensures.scope

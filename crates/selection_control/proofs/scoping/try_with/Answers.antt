@@ -3,7 +3,7 @@ use Rattle.std.proofs.lemmas.Result.{on_ok_weaker}
 use Rattle.bs_words.specs.declared.types.Comp.TheVariants as comp
 use Rattle.bs_words.specs.declared.types.Ty.TheVariants as ty
 use Rattle.cmm_tree.specs.View.{expr_view}
-use Rattle.selection_rules.specs.Select.{fresh, seat, width}
+use Rattle.selection_rules.specs.Select.{fresh_register, seat, width}
 use Rattle.selection_control.proofs.Branches.{try-code}
 use Rattle.selection_scope.specs.declared.place.Place.{Place}
 use Rattle.selection_control.proofs.scoping.try_with.Goals as goal
@@ -18,7 +18,7 @@ returns-clause-code g c =
     let ae : base - 3 ≡ suc (suc b) = omega (arith, ab) in
     let ar : base - 2 ≡ suc (suc (suc b)) = omega (arith, ab) in
     let ay : base - 1 ≡ suc (suc (suc (suc b))) = omega (arith, ab) in
-    let register = c.fresh-register.ensures ∙ ap (λ n. fresh n ty.Val) ar in
+    let register = c.fresh-register.ensures ∙ ap (λ n. fresh_register n ty.Val) ar in
     let seated = c.seat-seated.ensures ∙ ap (λ n. seat 0 n comp.Val) ay in
     let inner = c.behind-inner.ensures ∙ ap (λ n. n + width (expr_view c.args.body.now)) ab in
     let place = ap (λ (p : Place). record p { tail = false }) c.part-2.ensures in

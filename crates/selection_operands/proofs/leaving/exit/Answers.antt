@@ -2,9 +2,9 @@ use Rattle.std.proofs.Common.{◌+◌, length, refl, ap, ◌∙◌}
 use Rattle.std.proofs.lemmas.Result.{on_ok_weaker}
 use Rattle.cmm_tree.specs.Rows.{row_of}
 use Rattle.cmm_tree.specs.View.{label_view}
-use Rattle.selection_rules.specs.Select.{label_of, regs_of, select_waiting}
+use Rattle.selection_rules.specs.Select.{visible_label, regs_of, select_waiting}
 use Rattle.selection_operands.proofs.RowForms.{exit-is}
-use Rattle.selection_scope.specs.Scoping.{Visible}
+use Rattle.selection_scope.specs.Scoping.{LexicalScope}
 use Rattle.selection_operands.proofs.leaving.exit.Goals as goal
 
 pub returns-clause-code : goal.returns-clause-code
@@ -13,7 +13,7 @@ returns-clause-code g c =
     let base = row + length c.args.arguments.now in
     let es = row_of c.args.arguments.now in
     let regs = regs_of c.args.scope.now.names row es in
-    let target = label_of c.args.scope.now.labels (label_view c.args.label.now) in
+    let target = visible_label c.args.scope.now.labels (label_view c.args.label.now) in
     on_ok_weaker c.waiting.result
     (λ h. λ at label_at.
     exit-is c.args.scope.now c.args.node.place (label_view c.args.label.now) c.args.arguments.now row base regs target
@@ -21,5 +21,5 @@ returns-clause-code g c =
     refl refl refl refl
     c.in_ok-put_exit.ensures
     c.in_ok-filled.ensures.code
-    (h ∙ ap (λ (s : Visible). select_waiting s.names s.labels row base es c.filled.new.code) c.in_ok-filled.ensures.scope))
+    (h ∙ ap (λ (s : LexicalScope). select_waiting s.names s.labels row base es c.filled.new.code) c.in_ok-filled.ensures.scope))
     c.waiting.ensures.code

@@ -8,7 +8,7 @@ use Rattle.selection_rules.specs.Instructions as emit
 use Rattle.selection_rules.specs.Select.{moves_all, regs_of, result_seat, seats, select_waiting}
 use Rattle.selection_operands.proofs.CallNumbers.{row-is, seated-is, given-is, base-is}
 use Rattle.selection_operands.proofs.RowForms.{extcall-is}
-use Rattle.selection_scope.specs.Scoping.{Visible, names_in}
+use Rattle.selection_scope.specs.Scoping.{LexicalScope, scoped_names}
 use Rattle.selection_operands.proofs.leaving.extcall.Goals as goal
 
 pub returns-clause-code : goal.returns-clause-code
@@ -21,10 +21,10 @@ returns-clause-code g c =
     let regs = regs_of s.names row es in
     let args = seats 0 numbers.seated regs in
     let outside = c.args.outside in
-    let comps = comps_of_arguments (names_in s) es in
+    let comps = comps_of_arguments (scoped_names s) es in
     let results = result_seat numbers.given outside.result in
     let is = c.call_numbers-numbers.ensures in
-    let called : List Reg → List Instr = λ a. emit.external outside.name.now comps outside.result outside.frame a results ∷ c.from_seat.new.self in
+    let called : List Reg → List Instr = λ a. emit.external_instruction outside.name.now comps outside.result outside.frame a results ∷ c.from_seat.new.self in
     let moved : c.put_external.new.code ≡ moves_all regs args (called args) =
     c.in_ok-put_external.ensures ∙ ap (λ k. moves_all (regs_of s.names k es) (seats 0 numbers.seated (regs_of s.names k es)) (called (seats 0 numbers.seated (regs_of s.names k es)))) (row-is row count numbers is) in
     on_ok_weaker c.waiting.result
@@ -37,5 +37,5 @@ returns-clause-code g c =
     refl
     moved
     c.in_ok-filled.ensures.code
-    (h ∙ ap (λ (v : Visible). select_waiting v.names v.labels row numbers.base es c.filled.new.code) c.in_ok-filled.ensures.scope))
+    (h ∙ ap (λ (v : LexicalScope). select_waiting v.names v.labels row numbers.base es c.filled.new.code) c.in_ok-filled.ensures.scope))
     c.waiting.ensures.code

@@ -3,7 +3,7 @@ use Rattle.std.proofs.lemmas.Result.{on_ok_weaker}
 use Rattle.cmm_tree.specs.Rows.{row_of}
 use Rattle.selection_rules.specs.Select.{chunk_for, regs_of, select_waiting}
 use Rattle.selection_operands.proofs.RowForms.{alloc-is}
-use Rattle.selection_scope.specs.Scoping.{Visible}
+use Rattle.selection_scope.specs.Scoping.{LexicalScope}
 use Rattle.selection_operands.proofs.memory.alloc.Goals as goal
 
 pub returns-clause-code : goal.returns-clause-code
@@ -20,5 +20,5 @@ returns-clause-code g c =
     c.in_ok-move_to.ensures
     c.in_ok-put_cells.ensures
     c.in_ok-filled.ensures.code c.in_ok-store.ensures c.in_ok-constant.ensures c.in_ok-allocate.ensures
-    (h ∙ ap (λ (s : Visible). select_waiting s.names s.labels row base es c.allocate.new.self) c.in_ok-filled.ensures.scope))
+    (h ∙ ap (λ (s : LexicalScope). select_waiting s.names s.labels row base es c.allocate.new.self) c.in_ok-filled.ensures.scope))
     c.waiting.ensures.code

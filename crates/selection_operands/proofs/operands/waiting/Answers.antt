@@ -5,7 +5,7 @@ use Rattle.cmm_types.specs.Lists.{AreAnnotated}
 use Rattle.selection_rules.specs.Select.{select_waiting}
 use Rattle.selection_operands.proofs.Waiting.{waiting-more, first-of}
 use Rattle.selection_operands.proofs.Rooms.{row-first, row-room-first}
-use Rattle.selection_scope.specs.Scoping.{Visible, names_in}
+use Rattle.selection_scope.specs.Scoping.{LexicalScope, scoped_names}
 use Rattle.selection_operands.proofs.operands.waiting.Goals as goal
 
 pub loop-rest-preserved : goal.loop-rest-preserved
@@ -21,16 +21,16 @@ loop-rest-preserved g c =
     let made = c.put_operand.new.code in
     let light = c.is_light_address-waits.result in
     let whole : e ∷ others ≡ rest = first-of rest e c.in-len1-up.len_at_least c.expr-item.is in
-    let P : List Expr → Type 0 = λ l. AreAnnotated (names_in s) l in
+    let P : List Expr → Type 0 = λ l. AreAnnotated (scoped_names s) l in
     let typed : P (e ∷ others) = subst P (sym whole) c.loop-rest.invariant.typed in
-    let Q : Visible → Type 0 = λ v. AreAnnotated (names_in v) others in
+    let Q : LexicalScope → Type 0 = λ v. AreAnnotated (scoped_names v) others in
     let next : number ≡ suc reg = omega arith in
     record {
       code =
-          sym (ap (λ (v : Visible). select_waiting v.names v.labels number behind (row_of others) made) c.loop-rest.invariant.scope)
+          sym (ap (λ (v : LexicalScope). select_waiting v.names v.labels number behind (row_of others) made) c.loop-rest.invariant.scope)
           ∙ waiting-more s number behind reg base c.fresh.result light (not light) e others c.loop-rest.code made next c.behind-base.ensures c.is_light_address-waits.ensures refl typed.0 c.fresh.ensures c.in_ok-put_operand.ensures.code
           ∙ ap (λ l. select_waiting s.names s.labels reg base (row_of l) c.loop-rest.code) whole
-          ∙ ap (λ (v : Visible). select_waiting v.names v.labels reg base (row_of rest) c.loop-rest.code) c.loop-rest.invariant.scope
+          ∙ ap (λ (v : LexicalScope). select_waiting v.names v.labels reg base (row_of rest) c.loop-rest.code) c.loop-rest.invariant.scope
           ∙ c.loop-rest.invariant.code;
       reg = omega (arith, c.loop-rest.invariant.reg, ap length whole);
       begins = omega (arith, c.loop-rest.invariant.begins, c.behind-base.ensures);

@@ -2,7 +2,7 @@ use Rattle.std.proofs.Common.{◌≡◌, ◌+◌, ◌<◌, ◌≤◌, length}
 use Rattle.cmm_tree.specs.Rows.{row_of}
 use Rattle.cmm_types.specs.Lists.{AreAnnotated}
 use Rattle.selection_scope.specs.Room.{indexes_in_row, most_numbers}
-use Rattle.selection_scope.specs.Scoping.{names_in}
+use Rattle.selection_scope.specs.Scoping.{scoped_names}
 use Rattle.selection_rules.specs.Select.{select_waiting, width_row}
 use Rattle.selection_operands.proofs.operands.waiting.Given as goal
 
@@ -14,7 +14,7 @@ invariant-loop-rest g l =
       reg : l.reg + length l.rest ≡ l.fn.number + length l.fn.exprs;
       begins : l.fn.first ≤ l.base;
       room : l.base + (width_row (row_of l.rest) + indexes_in_row (row_of l.rest)) < most_numbers + length l.rest;
-      typed : AreAnnotated (names_in l.scope) l.rest;
+      typed : AreAnnotated (scoped_names l.scope) l.rest;
     }
 
 abbrev pub decreases-loop-rest : goal.decreases-loop-rest

@@ -1,7 +1,7 @@
 use Rattle.std.proofs.Common.{◌≡◌, ◌+◌, ◌++◌, length}
 use Rattle.cmm_tree.specs.Rows.{row_of}
 use Rattle.cmm_types.specs.Lists.{AreAnnotated}
-use Rattle.selection_scope.specs.Scoping.{names_in}
+use Rattle.selection_scope.specs.Scoping.{scoped_names}
 use Rattle.selection_rules.specs.Select.{regs_of}
 use Rattle.selection_scope.proofs.seats.regs_of.Given as goal
 
@@ -10,7 +10,7 @@ invariant-loop-rest l =
     record {
       regs : l.made ++ regs_of l.fn.scope.names l.next (row_of l.rest) ≡ regs_of l.fn.scope.names l.fn.number (row_of l.fn.exprs);
       room : l.next + length l.rest ≡ l.fn.number + length l.fn.exprs;
-      typed : AreAnnotated (names_in l.fn.scope) l.rest;
+      typed : AreAnnotated (scoped_names l.fn.scope) l.rest;
     }
 
 abbrev pub decreases-loop-rest : goal.decreases-loop-rest

@@ -1,6 +1,6 @@
 use Rattle.std.proofs.Common.{◌≡◌, ◌∙◌, List, length, vec_len, sym, ap, arith}
 use Rattle.std.proofs.lemmas.Bool.{eqb-true}
-use Rattle.sink.specs.Moves.{code_at}
+use Rattle.sink.specs.Moves.{sunk_code}
 use Rattle.sink.specs.declared.chosen.Move.{Move}
 use Rattle.sink.proofs.Planning.{sunk_by, unsunk, none_of}
 use Rattle.sink.proofs.sinking.sink.Goals as goal
@@ -15,4 +15,4 @@ returns-then-is_empty c =
 pub returns : goal.returns
 returns c =
     sunk_by c.args.mach c.requires.formed c.in_ok-moves.moves.items c.in_ok-moves.ensures c.in_ok-code.code
-    (c.in_ok-code.ensures ∙ ap (λ (xs : List Move). code_at xs c.args.mach.code c.args.mach.code) c.deref.ensures.value)
+    (c.in_ok-code.ensures ∙ ap (λ (xs : List Move). sunk_code xs c.args.mach.code c.args.mach.code) c.deref.ensures.value)

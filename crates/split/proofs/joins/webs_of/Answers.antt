@@ -1,6 +1,6 @@
 use Rattle.std.proofs.Common.{◌≡◌, ◌<◌, ◌≤◌, ◌∙◌, ◌∷◌, suc, length, drop, subst, arith}
 use Rattle.split.specs.Joins.{JoinsReads}
-use Rattle.split.specs.Writes.{all_of}
+use Rattle.split.specs.Writes.{listed_writes}
 use Rattle.split.proofs.Joining.{indexes, at_index, still_least, webs_begun, webs_more, webs_done}
 use Rattle.split.proofs.joins.webs_of.Goals as goal
 
@@ -8,7 +8,7 @@ pub loop-place-init : goal.loop-place-init
 loop-place-init c =
     let count = c.len.ensures in
     let long = c.in_ok-labels.ensures.len in
-    let same : length c.in_ok-labels.labels.items ≡ length (all_of c.args.writes.now) = omega (arith, count, long) in
+    let same : length c.in_ok-labels.labels.items ≡ length (listed_writes c.args.writes.now) = omega (arith, count, long) in
     record {
       len = same;
       least = λ w lt. let e = c.in_ok-labels.ensures.own w (omega (arith, lt, long)) in omega (arith, e);

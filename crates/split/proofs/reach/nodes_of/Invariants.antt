@@ -1,6 +1,6 @@
 use Rattle.std.proofs.Common.{◌≡◌, ◌≤◌, length, drop}
 use Rattle.mach_ir.specs.Meaning.{tries_at}
-use Rattle.liveness.specs.Nodes.{AreNodes}
+use Rattle.liveness.specs.Nodes.{AreLivenessNodes}
 use Rattle.split.specs.Reach.{write_uses}
 use Rattle.split.proofs.reach.nodes_of.Given as goal
 
@@ -8,7 +8,7 @@ abbrev pub invariant-loop-left : goal.invariant-loop-left
 invariant-loop-left l =
     record {
       within : l.left ≤ length l.mach.code;
-      nodes : AreNodes l.mach (write_uses l.writes) (drop l.left l.mach.code) l.nodes;
+      nodes : AreLivenessNodes l.mach (write_uses l.writes) (drop l.left l.mach.code) l.nodes;
       tries : l.tries ≡ tries_at (drop l.left l.mach.code);
     }
 

@@ -1,5 +1,5 @@
 use Rattle.std.proofs.Common.{ap, ◌∙◌, arith}
-use Rattle.assemble.specs.Source.{tree_of, entries_of}
+use Rattle.assemble.specs.Source.{tree_of, source_entries}
 use Rattle.assemble.proofs.Bounds.{symbol_below}
 use Rattle.cmm_data.specs.Placement.{value_of_symbol}
 use Rattle.layout_rules.specs.Laid.{address_of_value}
@@ -9,5 +9,5 @@ pub overflow_cast-result : goal.overflow_cast-result
 overflow_cast-result c =
     let s = c.args.self.now in
     let found = c.in-Some.ensures ∙ (c.requires.source.symbols.each c.as_bytes.result.now ∙ ap (value_of_symbol (tree_of s)) c.as_bytes.ensures) in
-    let is = c.address_of_value.ensures ∙ ap (address_of_value (entries_of s)) found in
+    let is = c.address_of_value.ensures ∙ ap (address_of_value (source_entries s)) found in
     omega (arith, is, symbol_below s c.requires.source c.requires.fits c.args.name.now)

@@ -1,6 +1,6 @@
 use Rattle.std.proofs.Common.{◌≡◌, ◌<◌, ◌++◌, length, map, get_or, sym, ap, ap₂, ◌∙◌, arith}
 use Rattle.function_places.specs.Places.{forms_in}
-use Rattle.assemble.specs.Source.{tree_of, entries_of}
+use Rattle.assemble.specs.Source.{tree_of, source_entries}
 use Rattle.assemble.proofs.Steps.{read_at, same_at, form_at}
 use Rattle.assemble.proofs.Walks.{forms_long, entries_long, function_there}
 use Rattle.image_form.specs.Tables.{desc}
@@ -48,7 +48,7 @@ returns c = λ p own got of.
     let laid = c.index-laid.result.now in
     let within : i < length s.places.now.forms.items = omega (arith, c.requires.there, forms_long s c.requires.source) in
     let read = read_at s.places.now.entries.items i c.index-entry.result.now (omega (arith, c.requires.there, entries_long s c.requires.source)) c.index-entry.ensures in
-    let entry : c.index-entry.result.now ≡ get_or (entries_of s) i 0 = read ∙ ap (λ l. get_or l i 0) c.requires.source.places.entries in
+    let entry : c.index-entry.result.now ≡ get_or (source_entries s) i 0 = read ∙ ap (λ l. get_or l i 0) c.requires.source.places.entries in
     let this : get_or s.pieces.now i c.index-self-index.result ≡ p = sym c.index-self-index.is ∙ same_at s.pieces.now i p c.index-self-index.result got c.index-self-index.is in
     let code = c.as_slice.ensures ∙ ap (λ (q : Pieces). q.code) this in
     let forms : c.as_slice-forms.result.now ≡ own =
@@ -56,11 +56,11 @@ returns c = λ p own got of.
     record {
       words =
           c.in_ok-put_function.ensures
-          ∙ (ap (λ ws. ws ++ function_words (tree_of s) (entries_of s) c.index-entry.result.now (get_or s.pieces.now i c.index-self-index.result).code c.as_slice-forms.result.now) c.in_ok-words.ensures.items
-          ∙ (ap (λ n. function_words (tree_of s) (entries_of s) n (get_or s.pieces.now i c.index-self-index.result).code c.as_slice-forms.result.now) entry
-          ∙ ap₂ (λ (q : Pieces) ks. function_words (tree_of s) (entries_of s) (get_or (entries_of s) i 0) q.code ks) this forms));
+          ∙ (ap (λ ws. ws ++ function_words (tree_of s) (source_entries s) c.index-entry.result.now (get_or s.pieces.now i c.index-self-index.result).code c.as_slice-forms.result.now) c.in_ok-words.ensures.items
+          ∙ (ap (λ n. function_words (tree_of s) (source_entries s) n (get_or s.pieces.now i c.index-self-index.result).code c.as_slice-forms.result.now) entry
+          ∙ ap₂ (λ (q : Pieces) ks. function_words (tree_of s) (source_entries s) (get_or (source_entries s) i 0) q.code ks) this forms));
       descs =
           c.in_ok-put_descs.ensures
           ∙ (ap (λ rows. map desc rows ++ descs_in c.index-entry.result.now c.as_slice.result.now c.as_slice-forms.result.now) c.new-descs.ensures.items
-          ∙ (ap (λ n. descs_in n c.as_slice.result.now c.as_slice-forms.result.now) entry ∙ ap₂ (descs_in (get_or (entries_of s) i 0)) code forms));
+          ∙ (ap (λ n. descs_in n c.as_slice.result.now c.as_slice-forms.result.now) entry ∙ ap₂ (descs_in (get_or (source_entries s) i 0)) code forms));
     }

@@ -4,7 +4,7 @@ use Rattle.function_places.proofs.Bounds.{length_most}
 use Rattle.assemble.proofs.Walks.{words_placed, all_lead}
 use Rattle.layout_rules.specs.Conditions.{AllLead}
 use Rattle.layout_rules.specs.Forms.{total_words, place_or_entry}
-use Rattle.rv_layout.specs.Tables.{places_of}
+use Rattle.rv_layout.specs.Tables.{words_of_labels}
 use Rattle.assemble.proofs.source.Source.put_function.Goals as goal
 
 pub of-requires-clause-few : goal.of-requires-clause-few
@@ -25,7 +25,7 @@ pub put_words-requires-clause-leads : goal.put_words-requires-clause-leads
 put_words-requires-clause-leads c =
     let code = c.as_slice-code.result.now in
     let is = c.as_slice.ensures.value ∙ c.in_ok-targets.ensures in
-    subst (λ targets. AllLead targets code) (sym is) (all_lead c.args.self.now c.args.entry (places_of c.in_ok-labels.labels) code)
+    subst (λ targets. AllLead targets code) (sym is) (all_lead c.args.self.now c.args.entry (words_of_labels c.in_ok-labels.labels) code)
 
 pub put_words-requires-clause-inside : goal.put_words-requires-clause-inside
 put_words-requires-clause-inside c =

@@ -2,7 +2,7 @@ use Rattle.std.proofs.Common.{◌≡◌, ◌++◌, ℕ, List, codes, MatchOption
 use Rattle.std.specs.List.{starts_with}
 use Rattle.command_line.specs.declared.form.Slot.{Slot}
 use Rattle.command_line.specs.declared.form.Slot.TheVariants.{Functions}
-use Rattle.command_line.specs.Words.{fills, prefix_of}
+use Rattle.command_line.specs.Words.{fills_slot, prefix_of}
 use Rattle.command_line.proofs.Gives.{stripped}
 use Rattle.command_line.proofs.form.Slot.value_in.Goals as goal
 
@@ -11,7 +11,7 @@ returns-in-Functions c =
     let text = c.args.word.now in
     let given = c.strip_prefix-in-Functions.result in
     let P : Slot → Type 0 = λ slot.
-    MatchOption given (fills slot text ≡ false) (λ value. (fills slot text ≡ true) × (text ≡ prefix_of slot ++ value.now)) in
+    MatchOption given (fills_slot slot text ≡ false) (λ value. (fills_slot slot text ≡ true) × (text ≡ prefix_of slot ++ value.now)) in
     let name : codes "--functions=" ≡ c.as_slice-in-Functions.result.now = search rules in
     subst P (sym c.in-Functions.is)
     (stripped Functions text c.as_slice-in-Functions.result.now given (ap (λ (t : List ℕ). starts_with nat_eq text t) name) name c.strip_prefix-in-Functions.ensures.cases)

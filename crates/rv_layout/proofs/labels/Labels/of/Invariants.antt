@@ -1,6 +1,6 @@
 use Rattle.std.proofs.Common.{◌≡◌, ℕ, ◌*◌, ◌≤◌, length, drop}
 use Rattle.layout_rules.specs.Forms.{label_from}
-use Rattle.rv_layout.specs.Tables.{place_in, or_else, LabelsBelow}
+use Rattle.rv_layout.specs.Tables.{word_of_label, first_of_two, LabelsBelow}
 use Rattle.rv_layout.proofs.labels.Labels.of.Given as goal
 
 abbrev pub invariant-loop-index : goal.invariant-loop-index
@@ -8,5 +8,5 @@ invariant-loop-index l = record {
   bound : length l.places.items ≡ l.bound;
   most : l.at ≤ 3 * l.index;
   below : LabelsBelow l.bound (drop l.index l.code);
-  each : (label : ℕ) → or_else (place_in l.places.items label) (label_from label l.at (drop l.index l.code) (drop l.index l.forms)) ≡ label_from label 0 l.code l.forms;
+  each : (label : ℕ) → first_of_two (word_of_label l.places.items label) (label_from label l.at (drop l.index l.code) (drop l.index l.forms)) ≡ label_from label 0 l.code l.forms;
 }
