@@ -14,7 +14,7 @@ use Rattle.cmm_tree.specs.Tree.{DatumTree, Define, DataItemTree, DataListTree, F
 use Rattle.cmm_types.specs.Faults.{TypeFault, repeated_symbol}
 use Rattle.cmm_types.proofs.FirstSymbols.{definition_of-append}
 use Rattle.image_form.proofs.Differ.{AllDiffer}
-use Rattle.layout_rules.proofs.Rules.{all_append}
+use Rattle.rv_layout_rules.proofs.Rules.{all_append}
 
 -- ---- definitions
 

@@ -45,9 +45,9 @@ use Rattle.cmm_types.specs.Types.{body_type, result_of, with_parameters, is_addr
 use Rattle.cmm_types.proofs.Containing.{contains_none, contains_cases, contains_head, contains_tail}
 use Rattle.image_form.proofs.Differ.{AllDiffer, apart}
 use Rattle.image_form.specs.Image.{IsParam, IsResult, IsExt}
-use Rattle.layout_rules.specs.Conditions.{IsRowLaid, IsFileLaid}
-use Rattle.layout_rules.specs.Externals.{calls_in_function, all_calls, is_among_externals, firsts_behind}
-use Rattle.layout_rules.proofs.Rules.{all_append}
+use Rattle.rv_layout_rules.specs.Conditions.{IsRowLaid, IsFileLaid}
+use Rattle.rv_layout_rules.specs.Externals.{calls_in_function, all_calls, is_among_externals, firsts_behind}
+use Rattle.rv_layout_rules.proofs.Rules.{all_append}
 use Rattle.selection_accepted.proofs.Selecting.{definitions, front_accepts, selectable}
 use Rattle.selection_laws.proofs.Accepting.{left, right}
 use Rattle.accepted_files.proofs.Calls.{AreLaid, laid_all, both, nothing_laid, calls_laid}

@@ -11,9 +11,9 @@ use Rattle.assemble.proofs.Bounds.{zip_length}
 use Rattle.fork_join.specs.Calls.{AreGiven, AreGivenFrom}
 use Rattle.image_form.specs.Image.{stub_words}
 use Rattle.image_form.specs.Tables.{Desc, desc}
-use Rattle.layout_rules.specs.declared.form.Form.{Form}
-use Rattle.layout_rules.specs.Forms.{total_words}
-use Rattle.layout_rules.specs.Laid.{function_entries_from, code_from, descs_from}
+use Rattle.rv_layout_rules.specs.declared.form.Form.{Form}
+use Rattle.rv_layout_rules.specs.Forms.{total_words}
+use Rattle.rv_layout_rules.specs.Laid.{function_entries_from, code_from, descs_from}
 use Rattle.rv_pieces.specs.declared.piece.Pieces.{Pieces}
 
 -- the parts are the code of these functions, the first of which begins here

@@ -13,7 +13,7 @@ use Rattle.cmm_data.specs.Map.{symbol_view, cells_view}
 use Rattle.cmm_data.specs.declared.data_map.DataCells.{DataCells}
 use Rattle.cmm_data.specs.declared.data_map.DataSymbol.{DataSymbol}
 use Rattle.image_form.specs.Tables.{Sym}
-use Rattle.layout_rules.specs.Laid.{cell_bytes, sym_of}
+use Rattle.rv_layout_rules.specs.Laid.{cell_bytes, sym_of}
 
 pub got : (xs : List ℕ) (i x : ℕ) → true ≡ ltb i (length xs) → x ≡ get_or xs i x → x ≡ get_or xs i 0
 got xs i x within at = by xs i (ltb-true i (length xs) (sym within)) at

@@ -22,11 +22,11 @@ use Rattle.image_form.specs.Image.{le32, func_bytes, sym_bytes, ext_bytes, desc_
 use Rattle.image_form.specs.Tables.{ext}
 use Rattle.image_form.specs.declared.image.ExtRow.{ExtRow}
 use Rattle.image_form.proofs.Lengths.{length-le32, length-words}
-use Rattle.image_rules.proofs.Placed.{roots_in_data, cells_few}
-use Rattle.image_rules.proofs.Whole.{all_length, length_of_data}
-use Rattle.layout_rules.specs.Externals.{externals}
-use Rattle.layout_rules.specs.Laid.{code_from, rows_from, descs_from, sym_of}
-use Rattle.layout_rules.specs.TooLarge.{section_bytes_of}
+use Rattle.assemble_rules.proofs.Placed.{roots_in_data, cells_few}
+use Rattle.assemble_rules.proofs.Whole.{all_length, length_of_data}
+use Rattle.rv_layout_rules.specs.Externals.{externals}
+use Rattle.rv_layout_rules.specs.Laid.{code_from, rows_from, descs_from, sym_of}
+use Rattle.rv_layout_rules.specs.TooLarge.{section_bytes_of}
 
 -- The bytes of each section, and that they are few enough to be counted.
 pub record Sized (s : Source) (calls : List ExtRow) : Type 0 where

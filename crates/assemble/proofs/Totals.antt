@@ -22,11 +22,11 @@ use Rattle.image_form.specs.Image.{IsExt, le32, le_entry, name_bytes, params_byt
 use Rattle.image_form.specs.Tables.{Func, Sym, Desc, ext}
 use Rattle.image_form.specs.declared.image.ExtRow.{ExtRow}
 use Rattle.image_form.proofs.Lengths.{length-le32, name_length, params_length}
-use Rattle.layout_rules.specs.declared.form.Form.{Form}
-use Rattle.layout_rules.specs.Conditions.{IsRowLaid}
-use Rattle.layout_rules.specs.Forms.{piece_words, total_words, label_word_offset}
-use Rattle.layout_rules.specs.Laid.{row_at, rows_from, sym_of, descriptor_laid_at, descs_in, descs_from, AreAllForms}
-use Rattle.layout_rules.proofs.Functions.{forms_length}
+use Rattle.rv_layout_rules.specs.declared.form.Form.{Form}
+use Rattle.rv_layout_rules.specs.Conditions.{IsRowLaid}
+use Rattle.rv_layout_rules.specs.Forms.{piece_words, total_words, label_word_offset}
+use Rattle.rv_layout_rules.specs.Laid.{row_at, rows_from, sym_of, descriptor_laid_at, descs_in, descs_from, AreAllForms}
+use Rattle.rv_layout_rules.proofs.Functions.{forms_length}
 use Rattle.rv_layout.specs.Descs.{desc_in}
 use Rattle.rv_layout.proofs.Steps.{descs_step}
 use Rattle.rv_pieces.specs.declared.piece.Piece.{Piece}

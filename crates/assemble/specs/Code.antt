@@ -5,8 +5,8 @@ use Rattle.assemble.specs.Source.{tree_of, source_entries}
 use Rattle.assemble.specs.declared.code.Code.{Code}
 use Rattle.assemble.specs.declared.source.Source.{Source}
 use Rattle.image_form.specs.Tables.{desc}
-use Rattle.layout_rules.specs.declared.form.Form.{Form}
-use Rattle.layout_rules.specs.Laid.{function_words, descs_in}
+use Rattle.rv_layout_rules.specs.declared.form.Form.{Form}
+use Rattle.rv_layout_rules.specs.Laid.{function_words, descs_in}
 use Rattle.rv_pieces.specs.declared.piece.Pieces.{Pieces}
 
 -- This is the code of a function that is these pieces in these forms, and whose entry is this word.

@@ -10,10 +10,10 @@ use Rattle.cmm_tree.specs.View.{file_view}
 use Rattle.cmm_types.specs.Typing.{AreItemsAnnotated}
 use Rattle.image_form.specs.Image.{stub_words}
 use Rattle.image_form.specs.Tables.{Tables}
-use Rattle.layout_rules.specs.Conditions.{CanBeLaid}
-use Rattle.layout_rules.specs.Externals.{externals, external_number}
-use Rattle.layout_rules.specs.Laid.{address_of_place, address_of_value, function_entries_from, laid_out}
-use Rattle.layout_rules.specs.Words.{NameAddresses}
+use Rattle.rv_layout_rules.specs.Conditions.{CanBeLaid}
+use Rattle.rv_layout_rules.specs.Externals.{externals, external_number}
+use Rattle.rv_layout_rules.specs.Laid.{address_of_place, address_of_value, function_entries_from, laid_out}
+use Rattle.rv_layout_rules.specs.Words.{NameAddresses}
 use Rattle.cmm_data.specs.Placement.{value_of_symbol}
 
 abbrev pub tree_of : Source → FileTree

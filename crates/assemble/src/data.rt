@@ -5,7 +5,7 @@ ghost use Rattle.assemble.specs.Source.{IsSource, laid_of, source_entries};
 ghost use Rattle.bs_words.specs.Contents.{contents};
 ghost use Rattle.cmm_data.specs.Map.{symbol_view};
 ghost use Rattle.image_form.specs.Tables.{sym};
-ghost use Rattle.layout_rules.specs.Laid.{cell_bytes, sym_of};
+ghost use Rattle.rv_layout_rules.specs.Laid.{cell_bytes, sym_of};
 
 use crate::source::Source;
 use bs_words::{DATA_START, List, Name, Value};

@@ -7,10 +7,10 @@ ghost use Rattle.cmm_data.specs.Map.{IsMapOf};
 ghost use Rattle.cmm_tree.specs.View.{file_view};
 ghost use Rattle.image_form.specs.Image.{IsImage};
 ghost use Rattle.image_form.specs.Tables.{Tables, tables, ext};
-ghost use Rattle.layout_rules.specs.Conditions.{CanBeLaid};
-ghost use Rattle.layout_rules.specs.Externals.{externals};
-ghost use Rattle.layout_rules.specs.Laid.{IsLaidOut};
-ghost use Rattle.layout_rules.specs.TooLarge.{first_too_large};
+ghost use Rattle.rv_layout_rules.specs.Conditions.{CanBeLaid};
+ghost use Rattle.rv_layout_rules.specs.Externals.{externals};
+ghost use Rattle.rv_layout_rules.specs.Laid.{IsLaidOut};
+ghost use Rattle.rv_layout_rules.specs.TooLarge.{first_too_large};
 
 use crate::code::all_code;
 use crate::source::Source;

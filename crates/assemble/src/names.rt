@@ -2,10 +2,10 @@
 ghost use Rattle.std.specs.Prelude.{◌≡◌, ◌+◌, ◌*◌, ◌<◌, ◌≤◌, ℕ, None, map, IfOk};
 ghost use Rattle.assemble.specs.Source.{IsSource, laid_of, addresses_named_by, tree_of, source_entries};
 ghost use Rattle.cmm_data.specs.Placement.{value_of_symbol};
-ghost use Rattle.layout_rules.specs.Externals.{external_number, externals};
-ghost use Rattle.layout_rules.specs.Laid.{address_of_value, address_of_place};
-ghost use Rattle.layout_rules.specs.TooLarge.{first_too_large};
-ghost use Rattle.layout_rules.specs.Words.{target_of};
+ghost use Rattle.rv_layout_rules.specs.Externals.{external_number, externals};
+ghost use Rattle.rv_layout_rules.specs.Laid.{address_of_value, address_of_place};
+ghost use Rattle.rv_layout_rules.specs.TooLarge.{first_too_large};
+ghost use Rattle.rv_layout_rules.specs.Words.{target_of};
 ghost use Rattle.mach_ir.specs.Acts.{external_row};
 ghost use Rattle.rv_layout.specs.Tables.{words_of_labels};
 

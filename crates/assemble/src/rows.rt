@@ -7,9 +7,9 @@ ghost use Rattle.cmm_tree.specs.Tree.{comps_of};
 ghost use Rattle.cmm_types.specs.Typing.{IsFunctionAnnotated};
 ghost use Rattle.function_places.specs.Places.{IsLaid};
 ghost use Rattle.image_form.specs.Tables.{func};
-ghost use Rattle.layout_rules.specs.Forms.{total_words as words_in};
-ghost use Rattle.layout_rules.specs.Laid.{row_at};
-ghost use Rattle.layout_rules.specs.TooLarge.{first_too_large};
+ghost use Rattle.rv_layout_rules.specs.Forms.{total_words as words_in};
+ghost use Rattle.rv_layout_rules.specs.Laid.{row_at};
+ghost use Rattle.rv_layout_rules.specs.TooLarge.{first_too_large};
 
 use crate::source::Source;
 use bs_words::{Comp, List, Name};

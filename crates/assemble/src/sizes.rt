@@ -3,7 +3,7 @@ ghost use Rattle.std.specs.Prelude.{◌≡◌, ◌<◌, ◌^◌, map, sum_by};
 ghost use Rattle.assemble.specs.Sizes.{item_size, symbol_size, call_size, descs_size};
 ghost use Rattle.assemble.specs.Source.{IsSource, laid_of, tree_of};
 ghost use Rattle.image_form.specs.Tables.{ext};
-ghost use Rattle.layout_rules.specs.Externals.{externals};
+ghost use Rattle.rv_layout_rules.specs.Externals.{externals};
 ghost use Rattle.rv_layout.specs.Sizes.{AreSizesOf};
 
 use crate::source::Source;

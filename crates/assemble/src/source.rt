@@ -1,7 +1,7 @@
 //! What an image is made of.
 ghost use Rattle.std.specs.Prelude.{◌≡◌, ◌<◌, ◌^◌, Some};
 ghost use Rattle.assemble.specs.Source.{IsSource, source_entries};
-ghost use Rattle.layout_rules.specs.Laid.{address_of_value, address_of_place};
+ghost use Rattle.rv_layout_rules.specs.Laid.{address_of_value, address_of_place};
 
 use bs_words::Value;
 use cmm_data::{DataMap, SymbolTable};

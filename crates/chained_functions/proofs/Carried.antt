@@ -32,24 +32,24 @@ use Rattle.lin_ir.specs.declared.lin.Lin.{Lin}
 use Rattle.lin_ir.specs.declared.lin.Spot.{Spot}
 use Rattle.pass_rules.specs.Carried.{TriesAtMost, EndsInReturn}
 use Rattle.pass_rules.specs.Carried as carried
-use Rattle.linear_rules.specs.Lowered.{is_idle, pops, lines_of, lowered_code, slot_number, slot_count, lowered}
-use Rattle.linear_rules.proofs.Homes.{IsIn, is_first, is_later, in_of, contains_of}
-use Rattle.linear_rules.proofs.Meeting.{comes}
-use Rattle.linear_rules.proofs.Places.{place_tries}
-use Rattle.linear_rules.proofs.Standing.{is_at}
-use Rattle.linear_rules.proofs.Walked.{Tail, tail_all, tail_next, tail_in, tail_stands, reached_tail}
-use Rattle.tidy_rules.specs.Leaving.{LabelsBetween, none_between, label_between, IsUseless, unreached, unread, skipped, without_lines, with_code, is_landing}
-use Rattle.tidy_rules.specs.Redirecting.{redirect, Tidies, as_it_is, then_leaves, then_redirects, then_turns}
-use Rattle.tidy_rules.specs.Regular.{IsRegular}
-use Rattle.tidy_rules.proofs.Leaving.{Comes, there, before, comes_tail, comes_line, self_goes, useless_landing, in_code}
-use Rattle.tidy_rules.proofs.Leaving as left
-use Rattle.tidy_rules.proofs.Redirecting.{line_was, op_was}
-use Rattle.tidy_rules.proofs.Redirecting as turned
-use Rattle.tidy_rules.proofs.Handlers.{handler_stands}
-use Rattle.tidy_rules.proofs.Tidied.{tidied_regular}
-use Rattle.tidy_rules.proofs.Turning as round
-use Rattle.tidy_rules.proofs.TurningLines.{From, was_line, new_line, new_flow, from_line}
-use Rattle.tidy_rules.proofs.Turning.{none_left}
+use Rattle.linearise_rules.specs.Lowered.{is_idle, pops, lines_of, lowered_code, slot_number, slot_count, lowered}
+use Rattle.linearise_rules.proofs.Homes.{IsIn, is_first, is_later, in_of, contains_of}
+use Rattle.linearise_rules.proofs.Meeting.{comes}
+use Rattle.linearise_rules.proofs.Places.{place_tries}
+use Rattle.linearise_rules.proofs.Standing.{is_at}
+use Rattle.linearise_rules.proofs.Walked.{Tail, tail_all, tail_next, tail_in, tail_stands, reached_tail}
+use Rattle.lin_tidy_rules.specs.Leaving.{LabelsBetween, none_between, label_between, IsUseless, unreached, unread, skipped, without_lines, with_code, is_landing}
+use Rattle.lin_tidy_rules.specs.Redirecting.{redirect, Tidies, as_it_is, then_leaves, then_redirects, then_turns}
+use Rattle.lin_tidy_rules.specs.Regular.{IsRegular}
+use Rattle.lin_tidy_rules.proofs.Leaving.{Comes, there, before, comes_tail, comes_line, self_goes, useless_landing, in_code}
+use Rattle.lin_tidy_rules.proofs.Leaving as left
+use Rattle.lin_tidy_rules.proofs.Redirecting.{line_was, op_was}
+use Rattle.lin_tidy_rules.proofs.Redirecting as turned
+use Rattle.lin_tidy_rules.proofs.Handlers.{handler_stands}
+use Rattle.lin_tidy_rules.proofs.Tidied.{tidied_regular}
+use Rattle.lin_tidy_rules.proofs.Turning as round
+use Rattle.lin_tidy_rules.proofs.TurningLines.{From, was_line, new_line, new_flow, from_line}
+use Rattle.lin_tidy_rules.proofs.Turning.{none_left}
 use Rattle.mach_laws.proofs.Instructions.{instr}
 
 -- ---- tries

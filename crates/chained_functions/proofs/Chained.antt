@@ -27,16 +27,16 @@ use Rattle.lin_ir.specs.declared.lin.Lin.{Lin}
 use Rattle.lin_ir.proofs.Keeping.{keeps_then}
 use Rattle.pass_rules.specs.Measures.{exit_count}
 use Rattle.pass_rules.specs.Carried.{OffsetFits}
-use Rattle.linear_rules.specs.Lowered.{slot_number, lowered}
-use Rattle.linear_rules.specs.Sizes.{tries_ended}
-use Rattle.linear_rules.proofs.Homes.{IsIn, in_of, contains_of}
-use Rattle.linear_rules.proofs.Lines.{all_of, named_from}
-use Rattle.linear_rules.proofs.Marks.{all_in}
-use Rattle.tidy_rules.specs.Redirecting.{Tidies}
-use Rattle.tidy_rules.proofs.Following.{tidied_tidies}
-use Rattle.tidy_rules.specs.Regular.{IsRegular}
-use Rattle.tidy_rules.proofs.Lowered.{lowered_regular}
-use Rattle.linear_pass.specs.Linear.{IsLinearOf}
+use Rattle.linearise_rules.specs.Lowered.{slot_number, lowered}
+use Rattle.linearise_rules.specs.Sizes.{tries_ended}
+use Rattle.linearise_rules.proofs.Homes.{IsIn, in_of, contains_of}
+use Rattle.linearise_rules.proofs.Lines.{all_of, named_from}
+use Rattle.linearise_rules.proofs.Marks.{all_in}
+use Rattle.lin_tidy_rules.specs.Redirecting.{Tidies}
+use Rattle.lin_tidy_rules.proofs.Following.{tidied_tidies}
+use Rattle.lin_tidy_rules.specs.Regular.{IsRegular}
+use Rattle.lin_tidy_rules.proofs.Lowered.{lowered_regular}
+use Rattle.lin_pass.specs.Linear.{IsLinearOf}
 use Rattle.line_stands.specs.Lines as line
 use Rattle.rv_pieces.specs.declared.piece.Pieces.{Pieces}
 use Rattle.selection_rules.specs.Select.{selected}

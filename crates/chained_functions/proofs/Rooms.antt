@@ -6,8 +6,8 @@ use Rattle.bs_words.specs.declared.types.Loc.TheVariants as loc
 use Rattle.cmm_tree.specs.Symbols.{DefinedSymbol}
 use Rattle.cmm_tree.specs.Tree.{FunctionTree}
 use Rattle.correctness.specs.Measures.{tries}
-use Rattle.linear_rules.specs.Sizes.{tries_ended, HasLineRoom}
-use Rattle.linear_rules.proofs.Slots.{slots_low}
+use Rattle.linearise_rules.specs.Sizes.{tries_ended, HasLineRoom}
+use Rattle.linearise_rules.proofs.Slots.{slots_low}
 use Rattle.mach_ir.specs.Keeps.{is_slot}
 use Rattle.mach_ir.specs.Walks as mach_walks
 use Rattle.mach_ir.specs.Placed.{HasColourOrSlot, in_colour, in_slot}

@@ -10,7 +10,7 @@ use Rattle.cmm_lex.proofs.Languages.{AreBytes}
 use Rattle.cmm_tree.specs.Tree.{FileTree}
 use Rattle.correctness.specs.Bounds.{IsRoomy}
 use Rattle.image_form.specs.Tables.{Tables}
-use Rattle.layout_rules.specs.TooLarge.{first_too_large}
+use Rattle.rv_layout_rules.specs.TooLarge.{first_too_large}
 use Rattle.choices.specs.Defaults.{defaults}
 use Rattle.made_functions.specs.Files.{AreTablesMadeFor}
 use Rattle.file_promise.proofs.Bytes.{bytes_of}

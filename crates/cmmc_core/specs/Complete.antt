@@ -10,7 +10,7 @@ use Rattle.command_line.specs.Words.{AreCommandWords}
 use Rattle.correctness.specs.Bounds.{IsRoomy}
 use Rattle.stages.specs.Image.{IsOfImage}
 use Rattle.image_form.specs.Tables.{Tables, Func}
-use Rattle.layout_rules.specs.TooLarge.{first_too_large}
+use Rattle.rv_layout_rules.specs.TooLarge.{first_too_large}
 use Rattle.choices.specs.Defaults.{defaults}
 use Rattle.made_functions.specs.Files.{AreTablesMadeFor}
 use Rattle.text_commands.specs.Arguments.{NamesNone, HasUnfit, IsCall}

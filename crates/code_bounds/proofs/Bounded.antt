@@ -11,7 +11,7 @@ use Rattle.correctness.specs.Measures.{tries}
 use Rattle.lin_ir.specs.Descriptors.{frame_bytes}
 use Rattle.lin_ir.specs.declared.descr.Descr.{Descr}
 use Rattle.lin_ir.specs.declared.lin.Lin.{Lin}
-use Rattle.linear_pass.specs.Linear.{IsLinearOf, NamesHomes}
+use Rattle.lin_pass.specs.Linear.{IsLinearOf, NamesHomes}
 use Rattle.selection_promise.specs.Selects.{IsAccepted, Selects}
 use Rattle.mach_ir.specs.declared.mach.Mach.{Mach}
 use Rattle.rv_pieces.specs.declared.piece.Pieces.{Pieces}
@@ -21,7 +21,7 @@ use Rattle.selection_accepted.proofs.Promised.{function_accepted}
 use Rattle.selection_accepted.proofs.Selecting.{definitions}
 use Rattle.selection_sizes.proofs.Selected.{selected_words, selected_points}
 use Rattle.text_sizes.proofs.Nesting.{text_nests}
-use Rattle.tidy_rules.proofs.Lowered.{lowered_regular}
+use Rattle.lin_tidy_rules.proofs.Lowered.{lowered_regular}
 use Rattle.made_functions.specs.Made.{IsMadeOf}
 use Rattle.made_functions.proofs.Ordered.{linear_of}
 use Rattle.made_functions.specs.Bounded.{IsBoundedBy}

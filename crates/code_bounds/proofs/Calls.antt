@@ -8,7 +8,7 @@ use Rattle.cmm_tree.specs.Tree.{Expression, Integer, Pointer, Symbol, Name, Noth
 use Rattle.cmm_types.specs.Faults.{row_length}
 use Rattle.cmm_types.specs.Types.{Scoped, with_parameters, with_bindings}
 use Rattle.image_form.specs.Image.{ext_bytes, table_bytes, table_limit}
-use Rattle.layout_rules.specs.Externals.{calls_in, calls_in_row, calls_in_bindings, calls_in_cases, calls_in_handlers, calls_in_function, all_calls, is_among_externals, firsts_behind, externals}
+use Rattle.rv_layout_rules.specs.Externals.{calls_in, calls_in_row, calls_in_bindings, calls_in_cases, calls_in_handlers, calls_in_function, all_calls, is_among_externals, firsts_behind, externals}
 use Rattle.text_sizes.specs.Measures.{call_bytes, items_bytes}
 use Rattle.code_bounds.proofs.Bodies.{ext_length, table_length}
 

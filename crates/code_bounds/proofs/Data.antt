@@ -14,8 +14,8 @@ use Rattle.cmm_data.specs.Placement.{DataSymbolTree, PlacedItem, size_at, items_
 use Rattle.cmm_tree.specs.Tree.{DatumTree, Define, Byte, Half, Int, Val, Address, Skip, Align, Text, Global, AFloat, DataItemTree, DataListTree, FileTree, ItemTree, AFunction, AData, data_among}
 use Rattle.image_form.specs.Image.{le32, sym_bytes, table_bytes, table_limit}
 use Rattle.image_form.proofs.Lengths.{length-words}
-use Rattle.image_rules.proofs.Placed.{roots_in_data, cells_few}
-use Rattle.layout_rules.specs.Laid.{sym_of}
+use Rattle.assemble_rules.proofs.Placed.{roots_in_data, cells_few}
+use Rattle.rv_layout_rules.specs.Laid.{sym_of}
 use Rattle.text_sizes.specs.Measures.{datum_bytes, list_bytes, items_bytes}
 use Rattle.code_bounds.proofs.Bodies.{sym_length, table_length}
 

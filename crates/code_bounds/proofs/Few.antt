@@ -8,8 +8,8 @@ use Rattle.cmm_front.specs.FileOf.{IsFileOf}
 use Rattle.cmm_tree.specs.Tree.{FunctionTree, FileTree, functions}
 use Rattle.cmm_types.proofs.Containing.{contains_head, contains_tail}
 use Rattle.correctness.specs.Measures.{frame_points, switch_indexes}
-use Rattle.emit_rules.specs.Sizes.{words_at_most}
-use Rattle.layout_rules.specs.Conditions.{piece_weight, weight_of}
+use Rattle.rv_emit_rules.specs.Sizes.{words_at_most}
+use Rattle.rv_layout_rules.specs.Conditions.{piece_weight, weight_of}
 use Rattle.lin_ir.specs.declared.descr.Descr.{Descr}
 use Rattle.rv_pieces.specs.Named.{marks_in, places_in}
 use Rattle.rv_pieces.specs.declared.piece.Piece.{Piece}

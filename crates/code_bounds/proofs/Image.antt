@@ -6,23 +6,23 @@ use Rattle.std.proofs.lemmas.Bool.{lt-leb}
 use Rattle.std.proofs.lemmas.List.Sums.{sum_by-append, sum_by-cons, count_by-le-length}
 use Rattle.cmm_tree.specs.Tree.{FunctionTree, FileTree, functions}
 use Rattle.correctness.specs.Bounds.{is_called_in, IsWithinText, IsBounded}
-use Rattle.emit_rules.specs.Sizes.{words_at_most}
-use Rattle.emit_rules.specs.Sizes as sizes
+use Rattle.rv_emit_rules.specs.Sizes.{words_at_most}
+use Rattle.rv_emit_rules.specs.Sizes as sizes
 use Rattle.image_form.specs.Image.{function_end, stub_words}
 use Rattle.image_form.specs.Tables.{Tables, Func, Desc}
-use Rattle.layout_rules.specs.declared.form.Form.{Form}
-use Rattle.layout_rules.specs.declared.form.Form.TheVariants.{Near, Middle, Far}
-use Rattle.layout_rules.specs.Conditions.{AreDescriptors, IsFunctionLaid, CanBeLaid}
-use Rattle.layout_rules.specs.Forms.{call_words, branch_words, jump_words, piece_words, total_words}
-use Rattle.layout_rules.specs.Laid.{row_at, rows_from, descs_in, descs_from, laid_out, AllReach, IsLaid}
-use Rattle.layout_rules.proofs.Functions.{filled}
-use Rattle.layout_rules.proofs.Rules.{all_append}
+use Rattle.rv_layout_rules.specs.declared.form.Form.{Form}
+use Rattle.rv_layout_rules.specs.declared.form.Form.TheVariants.{Near, Middle, Far}
+use Rattle.rv_layout_rules.specs.Conditions.{AreDescriptors, IsFunctionLaid, CanBeLaid}
+use Rattle.rv_layout_rules.specs.Forms.{call_words, branch_words, jump_words, piece_words, total_words}
+use Rattle.rv_layout_rules.specs.Laid.{row_at, rows_from, descs_in, descs_from, laid_out, AllReach, IsLaid}
+use Rattle.rv_layout_rules.proofs.Functions.{filled}
+use Rattle.rv_layout_rules.proofs.Rules.{all_append}
 use Rattle.made_functions.specs.Bounded.{IsBoundedBy}
 use Rattle.rv_pieces.specs.Named.{marks_in}
 use Rattle.rv_pieces.specs.declared.piece.Piece.{Piece}
 use Rattle.rv_pieces.specs.declared.piece.Piece.TheVariants.{Label, Branch, Jump, Call, TailCall, Descriptor}
 use Rattle.rv_pieces.specs.declared.piece.Pieces.{Pieces}
-use Rattle.image_rules.proofs.Whole.{some_words}
+use Rattle.assemble_rules.proofs.Whole.{some_words}
 use Rattle.code_bounds.specs.Kept.{KeepsTo}
 
 -- ---- words

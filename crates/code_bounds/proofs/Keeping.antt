@@ -14,8 +14,8 @@ use Rattle.cmm_tree.specs.Symbols.{DefinedSymbol}
 use Rattle.cmm_tree.specs.Tree.{FunctionTree, FileTree, functions}
 use Rattle.cmm_types.proofs.Containing.{contains_head, contains_tail}
 use Rattle.correctness.specs.Measures.{tries}
-use Rattle.emit_rules.proofs.Descriptors.{descriptors_are_carried}
-use Rattle.emit_rules.proofs.Names.{places_are_labels}
+use Rattle.rv_emit_rules.proofs.Descriptors.{descriptors_are_carried}
+use Rattle.rv_emit_rules.proofs.Names.{places_are_labels}
 use Rattle.lin_ir.specs.declared.descr.Descr.{Descr}
 use Rattle.lin_ir.specs.declared.lin.Lin.{Lin}
 use Rattle.mach_ir.specs.Formed.{labels_in, WellFormed}

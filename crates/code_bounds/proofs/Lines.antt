@@ -22,17 +22,17 @@ use Rattle.rv_isa.specs.declared.instr.LoadWidth.TheVariants as loads
 use Rattle.rv_isa.specs.declared.instr.StoreWidth.TheVariants as stores
 use Rattle.rv_isa.specs.declared.register.Register.{Register}
 use Rattle.rv_isa.specs.declared.register.Register.TheVariants.{Sp, T1, T2}
-use Rattle.emit_rules.specs.Constants.{constant_pieces}
-use Rattle.emit_rules.specs.Instructions.{load_piece, store_piece}
+use Rattle.rv_emit_rules.specs.Constants.{constant_pieces}
+use Rattle.rv_emit_rules.specs.Instructions.{load_piece, store_piece}
 use Rattle.rv_isa.specs.Registers.{register_at}
-use Rattle.emit_rules.specs.Slots.{far_stack, stack_load, stack_store, slot_offset, first_location, second, register_of, fetch_pieces, target, keep_pieces, copy_pieces, move_pieces}
-use Rattle.emit_rules.specs.Tests.{right_register, right_words, signed_branch, unsigned_branch, test_words, test_branch, branch_part}
+use Rattle.rv_emit_rules.specs.Slots.{far_stack, stack_load, stack_store, slot_offset, first_location, second, register_of, fetch_pieces, target, keep_pieces, copy_pieces, move_pieces}
+use Rattle.rv_emit_rules.specs.Tests.{right_register, right_words, signed_branch, unsigned_branch, test_words, test_branch, branch_part}
 use Rattle.pass_rules.specs.Measures.{copy_words}
-use Rattle.emit_rules.specs.Emitted.{parts_of_lines, part_of_line, part_before, descriptor, left_after, emitted}
-use Rattle.emit_rules.specs.Entry.{FrameLayout, frame_of, entry_pieces}
-use Rattle.emit_rules.specs.Sizes.{most_piece_words, words_at_most}
-use Rattle.emit_rules.proofs.Sizes.{constant-in, entry-in, part_is_short, words-join}
-use Rattle.emit_rules.proofs.Units.{part_by}
+use Rattle.rv_emit_rules.specs.Emitted.{parts_of_lines, part_of_line, part_before, descriptor, left_after, emitted}
+use Rattle.rv_emit_rules.specs.Entry.{FrameLayout, frame_of, entry_pieces}
+use Rattle.rv_emit_rules.specs.Sizes.{most_piece_words, words_at_most}
+use Rattle.rv_emit_rules.proofs.Sizes.{constant-in, entry-in, part_is_short, words-join}
+use Rattle.rv_emit_rules.proofs.Units.{part_by}
 use Rattle.code_bounds.specs.Lines.{words_for_line, line_words, lines_words}
 
 -- ---- copies

@@ -8,10 +8,10 @@ use Rattle.std.proofs.lemmas.Map.Views.{list_any-from_Contains}
 use Rattle.std.specs.Cmp.{nat_eq_equiv}
 use Rattle.mach_ir.specs.Walks.{is_param, is_in_code}
 use Rattle.mach_ir.specs.declared.mach.Mach.{Mach}
-use Rattle.places_rules.specs.Places.{IsSlot, SlotsGrow}
+use Rattle.colouring_rules.specs.Places.{IsSlot, SlotsGrow}
 use Rattle.lin_ir.specs.Descriptors.{has_frame_point, frame_bytes}
 use Rattle.lin_ir.specs.declared.lin.Lin.{Lin}
-use Rattle.linear_pass.specs.Linear.{IsSlotOf, OneForEach}
+use Rattle.lin_pass.specs.Linear.{IsSlotOf, OneForEach}
 use Rattle.bs_words.proofs.Lists.{mapped}
 
 is_slot : (p : Mach) (k : ℕ) → IsSlotOf p k → IsSlot p k

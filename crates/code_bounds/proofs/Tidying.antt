@@ -20,18 +20,18 @@ use Rattle.lin_ir.specs.declared.lin.LinOp.{LinOp}
 use Rattle.lin_ir.specs.declared.lin.LinOp.TheVariants as lin
 use Rattle.lin_ir.specs.declared.lin.Line.{Line}
 use Rattle.lin_ir.specs.declared.lin.Lin.{Lin}
-use Rattle.linear_rules.specs.Lowered as lower
-use Rattle.linear_rules.specs.Lowered.{is_idle, pops, line_of, spot_of_register, lines_of_mark, lines_of, lowered_one, lowered_code, slot_number, lowered}
-use Rattle.linear_rules.proofs.Walked.{Tail, tail_all, tail_next, tail_stands}
-use Rattle.tidy_rules.specs.Leaving.{without_lines, LeavesOften, not_once, once_more}
-use Rattle.tidy_rules.specs.Redirecting.{redirected_operation, redirect, final_label, last_exit, redirected_all}
-use Rattle.tidy_rules.specs.Regular.{IsRegular}
-use Rattle.tidy_rules.specs.Tidied.{IsTidied}
-use Rattle.tidy_rules.specs.Turning.{Turn, label_put, tested_again, turned_line, turned_lines, Turns, turned_all}
-use Rattle.tidy_rules.proofs.Following.{redirects_all}
-use Rattle.tidy_rules.proofs.Redirecting.{jump_same, same_frame}
-use Rattle.tidy_rules.proofs.Tidied.{redirecting_regular}
-use Rattle.tidy_rules.proofs.TurningAll.{turns_all}
+use Rattle.linearise_rules.specs.Lowered as lower
+use Rattle.linearise_rules.specs.Lowered.{is_idle, pops, line_of, spot_of_register, lines_of_mark, lines_of, lowered_one, lowered_code, slot_number, lowered}
+use Rattle.linearise_rules.proofs.Walked.{Tail, tail_all, tail_next, tail_stands}
+use Rattle.lin_tidy_rules.specs.Leaving.{without_lines, LeavesOften, not_once, once_more}
+use Rattle.lin_tidy_rules.specs.Redirecting.{redirected_operation, redirect, final_label, last_exit, redirected_all}
+use Rattle.lin_tidy_rules.specs.Regular.{IsRegular}
+use Rattle.lin_tidy_rules.specs.Tidied.{IsTidied}
+use Rattle.lin_tidy_rules.specs.Turning.{Turn, label_put, tested_again, turned_line, turned_lines, Turns, turned_all}
+use Rattle.lin_tidy_rules.proofs.Following.{redirects_all}
+use Rattle.lin_tidy_rules.proofs.Redirecting.{jump_same, same_frame}
+use Rattle.lin_tidy_rules.proofs.Tidied.{redirecting_regular}
+use Rattle.lin_tidy_rules.proofs.TurningAll.{turns_all}
 use Rattle.code_bounds.specs.Lines as lines
 use Rattle.code_bounds.specs.Lines.{line_words, lines_words, turning_words, turned_words}
 

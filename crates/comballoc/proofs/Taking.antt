@@ -1,7 +1,7 @@
 -- A scan takes an instruction.
 use Rattle.std.proofs.Common.{◌≡◌, ℕ, ◌+◌, true, false, cond, List, [], ◌∷◌, ◌++◌, Option, Some, None, refl, sym, ap, ◌∙◌, append_assoc}
-use Rattle.combine_rules.specs.Combined.{joins, Scanned, allocation, open_past, allocation_scanned, scanned_at, scan_for_combining}
-use Rattle.combine_rules.proofs.Scan.{bytes_append, nothing_goes}
+use Rattle.comballoc_rules.specs.Combined.{joins, Scanned, allocation, open_past, allocation_scanned, scanned_at, scan_for_combining}
+use Rattle.comballoc_rules.proofs.Scan.{bytes_append, nothing_goes}
 use Rattle.comballoc.specs.Finished.{held_bytes, closed, closed_by, finished_scan, HasTaken}
 use Rattle.comballoc.specs.declared.combining.Held.{Held}
 use Rattle.comballoc.specs.declared.combining.Scan.{Scan}

@@ -1,6 +1,6 @@
 -- What a scan that has come to a place makes of the code from there on.
 use Rattle.std.specs.Prelude.{◌≡◌, ℕ, List, [], ◌∷◌, ◌++◌, Option, Some, None}
-use Rattle.combine_rules.specs.Combined.{Scanned, allocation, scan_for_combining}
+use Rattle.comballoc_rules.specs.Combined.{Scanned, allocation, scan_for_combining}
 use Rattle.comballoc.specs.declared.combining.Held.{Held}
 use Rattle.comballoc.specs.declared.combining.Scan.{Scan}
 use Rattle.mach_ir.specs.Blocks.{total_block_bytes}

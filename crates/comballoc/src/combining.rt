@@ -1,6 +1,6 @@
 //! One scan over the code, with at most one allocation open.
 ghost use Rattle.std.specs.Prelude.{◌≡◌, ◌≤◌, ◌+◌, ◌++◌, [], true, false, None, IfOk, List};
-ghost use Rattle.combine_rules.specs.Combined.{joins, scan_for_combining, combined, allocation};
+ghost use Rattle.comballoc_rules.specs.Combined.{joins, scan_for_combining, combined, allocation};
 ghost use Rattle.comballoc.specs.Finished.{held_bytes, closed, finished_with_instr, finished_scan, HasTaken};
 ghost use Rattle.mach_ir.specs.Blocks.{total_block_bytes};
 ghost use Rattle.mach_ir.specs.Placed.{is_straight};

@@ -8,7 +8,7 @@ use Rattle.cmm_data.specs.Placement.{data_bytes}
 use Rattle.cmm_tree.specs.Tree.{FileTree}
 use Rattle.image_form.specs.Image.{stub_words}
 use Rattle.image_form.specs.Tables.{Tables}
-use Rattle.layout_rules.specs.Laid.{IsLaid, address_of_value, cell_bytes, data_of, function_entries_from}
+use Rattle.rv_layout_rules.specs.Laid.{IsLaid, address_of_value, cell_bytes, data_of, function_entries_from}
 use Rattle.rv_pieces.specs.declared.piece.Pieces.{Pieces}
 
 abbrev pub AreSmall : List ℕ → Type 0

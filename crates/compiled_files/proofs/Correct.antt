@@ -17,8 +17,8 @@ use Rattle.correctness.specs.InNeed.{AsksInNeed}
 use Rattle.correctness.specs.Setting.{layout_of}
 use Rattle.image_form.specs.Image.{AreTables}
 use Rattle.image_form.specs.Tables.{Tables}
-use Rattle.layout_rules.specs.Conditions.{CanBeLaid}
-use Rattle.layout_rules.specs.Laid.{IsLaid}
+use Rattle.rv_layout_rules.specs.Conditions.{CanBeLaid}
+use Rattle.rv_layout_rules.specs.Laid.{IsLaid}
 use Rattle.lin_ir.specs.Descriptors.{NamesLives}
 use Rattle.lin_ir.specs.Formed.{GoesDown, WellFormed}
 use Rattle.lin_ir.specs.Keeps.{LinearKeeps}
@@ -28,7 +28,7 @@ use Rattle.lin_ir.specs.declared.descr.Descr.{Descr}
 use Rattle.lin_ir.specs.declared.lin.Lin.{Lin}
 use Rattle.lin_ir.specs.declared.lin.Line.{Line}
 use Rattle.lin_ir.specs.declared.lin.Spot.{Spot}
-use Rattle.linear_rules.proofs.Walked.{Tail, reached_tail, tail_stands}
+use Rattle.linearise_rules.proofs.Walked.{Tail, reached_tail, tail_stands}
 use Rattle.made_functions.specs.Chained.{IsChained}
 use Rattle.mach_ir.specs.Acts.{Around}
 use Rattle.mach_ir.specs.Runs.{ActivationSetting}
@@ -40,12 +40,12 @@ use Rattle.line_stands.specs.Parts.{PartStands}
 use Rattle.line_calls.proofs.Every.{every_branch, every_entry, every_line}
 use Rattle.line_calls.specs.Laws.{frame_in}
 use Rattle.line_calls.specs.Points.{IsReadyFor, before_service}
-use Rattle.emit_rules.specs.Entry.{entry_pieces, frame_of}
-use Rattle.emit_rules.specs.Units.{is_branch, is_free_exit, owed_before}
-use Rattle.linear_machine.specs.Arrival.{ArrivesIn}
-use Rattle.linear_machine.specs.Follows.{IsAt, IsEntered, needs_of, used}
-use Rattle.linear_machine.specs.Relation.{Below, Laid}
-use Rattle.linear_machine.specs.View.{Fixed, View}
+use Rattle.rv_emit_rules.specs.Entry.{entry_pieces, frame_of}
+use Rattle.rv_emit_rules.specs.Units.{is_branch, is_free_exit, owed_before}
+use Rattle.lin_machine.specs.Arrival.{ArrivesIn}
+use Rattle.lin_machine.specs.Follows.{IsAt, IsEntered, needs_of, used}
+use Rattle.lin_machine.specs.Relation.{Below, Laid}
+use Rattle.lin_machine.specs.View.{Fixed, View}
 use Rattle.linking.specs.Assembled.{Setup}
 use Rattle.linking.specs.Pace.{IsReached, Words, at_start, by_step}
 use Rattle.linking.specs.Program.{activation_in, setting_in}
@@ -62,8 +62,8 @@ use Rattle.function_stands.proofs.Whole.{function_stands}
 use Rattle.accepted_files.proofs.Defined.{given_data}
 use Rattle.laid_files.proofs.Has.{has_functions}
 use Rattle.first_statics.proofs.First.{data_ends, first_lies, first_stands}
-use Rattle.frame_names.specs.Names.{locations_named_by}
-use Rattle.frame_names.proofs.Names.{exact_names}
+use Rattle.frame_tables_rules.specs.Names.{locations_named_by}
+use Rattle.frame_tables_rules.proofs.Names.{exact_names}
 use Rattle.compiled_files.specs.Forward.{LiesForward, first_part, laid_words}
 use Rattle.compiled_files.specs.Image.{function_word_count}
 use Rattle.compiled_files.specs.Stages.{AreChained, most_nodes, selected_in}

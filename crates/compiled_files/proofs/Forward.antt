@@ -17,10 +17,10 @@ use Rattle.lin_ir.specs.declared.lin.Lin.{Lin}
 use Rattle.lin_ir.specs.declared.lin.Line.{Line}
 use Rattle.lin_ir.specs.declared.lin.LinOp.{LinOp}
 use Rattle.lin_ir.specs.declared.lin.LinOp.TheVariants as lin
-use Rattle.linear_rules.proofs.Walked.{Tail, tail_label, tail_target, reached_tail}
-use Rattle.tidy_rules.proofs.Ends.{tail_length}
-use Rattle.tidy_rules.proofs.Turns.{Turns, goes_in, exits_in, jumps_in, unwinds_in, pushes_in, asks_in, replaces_in, ends_in, raising_in, stuck_in, turns}
-use Rattle.linear_machine.specs.Relation.{Laid}
+use Rattle.linearise_rules.proofs.Walked.{Tail, tail_label, tail_target, reached_tail}
+use Rattle.lin_tidy_rules.proofs.Ends.{tail_length}
+use Rattle.lin_tidy_rules.proofs.Turns.{Turns, goes_in, exits_in, jumps_in, unwinds_in, pushes_in, asks_in, replaces_in, ends_in, raising_in, stuck_in, turns}
+use Rattle.lin_machine.specs.Relation.{Laid}
 use Rattle.linking.specs.Pace.{ProgramGoesForward, StepForward, left_behind}
 use Rattle.linking_stages.specs.Stages.{linear_program}
 use Rattle.linking_stages.proofs.Walking.{reached_walks}

@@ -7,10 +7,10 @@ use Rattle.cmm_tree.specs.Tree.{FunctionTree, FileTree, Parameter, comps_of, fun
 use Rattle.correctness.specs.Setting.{AreRowsOf, layout_of}
 use Rattle.image_form.specs.Image.{stub, stub_words}
 use Rattle.image_form.specs.Tables.{Func, Tables}
-use Rattle.layout_rules.specs.declared.form.Form.{Form}
-use Rattle.layout_rules.specs.Conditions.{CanBeLaid, IsRowLaid}
-use Rattle.layout_rules.specs.Forms.{total_words}
-use Rattle.layout_rules.specs.Laid.{AllReach, IsLaid, code_from, function_entries_from, rows_from}
+use Rattle.rv_layout_rules.specs.declared.form.Form.{Form}
+use Rattle.rv_layout_rules.specs.Conditions.{CanBeLaid, IsRowLaid}
+use Rattle.rv_layout_rules.specs.Forms.{total_words}
+use Rattle.rv_layout_rules.specs.Laid.{AllReach, IsLaid, code_from, function_entries_from, rows_from}
 use Rattle.rv_pieces.specs.declared.piece.Pieces.{Pieces}
 use Rattle.compiled_files.specs.Image.{function_word_count}
 

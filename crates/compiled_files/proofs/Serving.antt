@@ -10,7 +10,7 @@ use Rattle.cmm_meaning.specs.Evaluation.{fit_parameters}
 use Rattle.cmm_meaning.specs.Setting.{Setting}
 use Rattle.cmm_meaning.specs.State as state
 use Rattle.cmm_meaning.specs.State.{Inside, Outside}
-use Rattle.emit_rules.proofs.Acts.{ActsAt}
+use Rattle.rv_emit_rules.proofs.Acts.{ActsAt}
 use Rattle.lin_ir.specs.Meaning.{Locations, NamedAt, State, are_vals, clear_destroyed, code_at, destroyed_by, lin_act, on_act, on_values, passes_frame, past_frame, put_all, step, unless_misnamed, values, wrote}
 use Rattle.lin_ir.specs.declared.lin.Lin.{Lin}
 use Rattle.lin_ir.specs.declared.lin.Line.{Line}

@@ -21,7 +21,7 @@ use Rattle.correctness.specs.Setting.{layout_of}
 use Rattle.image_form.specs.Image.{IsFunc, IsResult, stub, stub_words}
 use Rattle.guarded_machine.specs.Guarded.{guarded_after, guarded_of}
 use Rattle.image_form.specs.Tables.{Tables}
-use Rattle.layout_rules.specs.Laid.{IsLaid, code_from, function_entries_from}
+use Rattle.rv_layout_rules.specs.Laid.{IsLaid, code_from, function_entries_from}
 use Rattle.lin_ir.specs.declared.lin.Line.{Line}
 use Rattle.mach_ir.specs.Runs.{entry_around}
 use Rattle.machine_laws.specs.Steps.{moments}
@@ -47,21 +47,21 @@ use Rattle.rv_machine.specs.Services as machine
 use Rattle.rv_machine.specs.Places.{stack_bottom}
 use Rattle.rv_machine.specs.Sound.{IsStackBase}
 use Rattle.rv_pieces.specs.declared.piece.Pieces.{Pieces}
-use Rattle.linear_machine.specs.Follows.{IsDone}
-use Rattle.linear_machine.specs.Outside.{observed_argument}
-use Rattle.linear_machine.specs.Relation.{HeapStands, IsUsable, OwnRegisters, Laid, StandsFor, blocks_by_serial}
-use Rattle.linear_machine.specs.Straight.{Changes}
-use Rattle.linear_machine.specs.View.{Fixed, IsInstructionAt, HasView, View}
-use Rattle.linear_machine.proofs.Beginning.{nothing_below}
-use Rattle.linear_machine.proofs.Formats.{sets_imm}
+use Rattle.lin_machine.specs.Follows.{IsDone}
+use Rattle.lin_machine.specs.Outside.{observed_argument}
+use Rattle.lin_machine.specs.Relation.{HeapStands, IsUsable, OwnRegisters, Laid, StandsFor, blocks_by_serial}
+use Rattle.lin_machine.specs.Straight.{Changes}
+use Rattle.lin_machine.specs.View.{Fixed, IsInstructionAt, HasView, View}
+use Rattle.lin_machine.proofs.Beginning.{nothing_below}
+use Rattle.lin_machine.proofs.Formats.{sets_imm}
 use Rattle.machine_laws.proofs.Immediates.{low_12, up}
-use Rattle.linear_machine.proofs.Keeping.{heap_kept}
-use Rattle.linear_machine.proofs.Likes.{like_readable}
-use Rattle.linear_machine.proofs.Moving.{hart_of, heads_of}
-use Rattle.linear_machine.proofs.Sequences.{set_changes, sets_as}
-use Rattle.linear_machine.proofs.Serving.{hart_is, with_memory}
-use Rattle.linear_machine.proofs.Standing.{own_past}
-use Rattle.linear_machine.proofs.Steps.{one_step, ready, ready_stands, other_number}
+use Rattle.lin_machine.proofs.Keeping.{heap_kept}
+use Rattle.lin_machine.proofs.Likes.{like_readable}
+use Rattle.lin_machine.proofs.Moving.{hart_of, heads_of}
+use Rattle.lin_machine.proofs.Sequences.{set_changes, sets_as}
+use Rattle.lin_machine.proofs.Serving.{hart_is, with_memory}
+use Rattle.lin_machine.proofs.Standing.{own_past}
+use Rattle.lin_machine.proofs.Steps.{one_step, ready, ready_stands, other_number}
 use Rattle.line_calls.proofs.Shown.{each_at, val_shown, in_table}
 use Rattle.linking.specs.Assembled.{IsStub, Setup}
 use Rattle.linking.specs.Carries.{EventuallyHolds, Near, Outer}

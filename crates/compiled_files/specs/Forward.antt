@@ -1,11 +1,11 @@
 -- How the words of a function lie, and how many it takes up to the next unit.
 use Rattle.std.specs.Prelude.{ℕ, zero, suc, ◌+◌, ◌-◌, ◌*◌, ◌≤◌, cond, nat_le, List, [], ◌∷◌, length}
-use Rattle.emit_rules.specs.Units.{owed_before}
+use Rattle.rv_emit_rules.specs.Units.{owed_before}
 use Rattle.lin_ir.specs.Formed.{GoesDown}
 use Rattle.lin_ir.specs.Meaning.{State}
 use Rattle.lin_ir.specs.declared.lin.Lin.{Lin}
 use Rattle.lin_ir.specs.declared.lin.Line.{Line}
-use Rattle.linear_machine.specs.Relation.{Laid}
+use Rattle.lin_machine.specs.Relation.{Laid}
 use Rattle.linking.specs.Pace.{Words}
 
 -- Control comes back to a place only by an exit. The parts of the lines lie one after the other,

@@ -20,7 +20,7 @@ use Rattle.mach_ir.specs.declared.mach.Instr.{Instr}
 use Rattle.mach_ir.specs.declared.mach.Mach.{Mach}
 use Rattle.mach_ir.specs.declared.mach.MachOp.TheVariants as mach
 use Rattle.mach_laws.proofs.Places.{args_in_code, results_in_code, comp_is, is_unset, same_comp_is}
-use Rattle.copy_rules.specs.Propagated.{move, IsCopyOf, ReadFor, source, itself, IsPropagatedBefore, IsPropagated}
+use Rattle.cse_copy_rules.specs.Propagated.{move, IsCopyOf, ReadFor, source, itself, IsPropagatedBefore, IsPropagated}
 use Rattle.cse_deadcode.specs.declared.events.Event.{Event}
 use Rattle.cse_deadcode.specs.declared.events.Event.TheVariants as event
 use Rattle.cse_deadcode.specs.Made.{remade, made_by}

@@ -16,7 +16,7 @@ use Rattle.mach_ir.specs.declared.mach.Mach.{Mach}
 use Rattle.mach_ir.specs.declared.mach.MachOp.{MachOp}
 use Rattle.mach_ir.specs.declared.mach.MachOp.TheVariants as mach
 use Rattle.mach_laws.proofs.Places.{args_in_code}
-use Rattle.repeat_rules.specs.Repeated.{is_operator, StillStands, RepeatsEarlier, from_earlier, IsRepeatedBefore, IsRepeated}
+use Rattle.cse_repeat_rules.specs.Repeated.{is_operator, StillStands, RepeatsEarlier, from_earlier, IsRepeatedBefore, IsRepeated}
 use Rattle.bs_words.specs.declared.operators.IntOp.{IntOp}
 use Rattle.bs_words.proofs.Lists.{none_in, first_in, later_in, in_cons, none_there}
 use Rattle.cse_deadcode.specs.declared.events.Computed.{Computed}

@@ -16,7 +16,7 @@ use Rattle.mach_ir.specs.declared.reg.Reg.{Reg}
 use Rattle.mach_ir.specs.declared.mach.Instr.{Instr}
 use Rattle.mach_ir.specs.declared.mach.MachOp.{MachOp}
 use Rattle.mach_ir.specs.declared.mach.MachOp.TheVariants as mach
-use Rattle.repeat_rules.specs.Repeated.{is_operator, allocates, EndsHeldValue, itself, same_place, same_origin, StillStands}
+use Rattle.cse_repeat_rules.specs.Repeated.{is_operator, allocates, EndsHeldValue, itself, same_place, same_origin, StillStands}
 use Rattle.cse_deadcode.specs.declared.events.Event.{Event}
 use Rattle.cse_deadcode.specs.declared.events.Event.TheVariants as event
 use Rattle.cse_deadcode.specs.Times.{writes, happens, last_time}

@@ -12,7 +12,7 @@ use Rattle.mach_laws.specs.Expand.{expand, Ending, all, more}
 use Rattle.mach_laws.specs.Graph.{code_index}
 use Rattle.mach_laws.proofs.Places.{ending_next, ending_of}
 use Rattle.mach_laws.proofs.Walking.{drop_ending, place_is}
-use Rattle.dead_rules.specs.Dropped.{may_go, IsUsed, unless_dropped, dropped, AreDead, IsDropped}
+use Rattle.deadcode_rules.specs.Dropped.{may_go, IsUsed, unless_dropped, dropped, AreDead, IsDropped}
 use Rattle.cse_deadcode.specs.Uses.{AreUses, is_one_used, is_dead_instruction, is_first_dead, drops_by}
 use Rattle.dataflow.proofs.Steps.{or_left, or_right}
 use Rattle.bs_words.proofs.Truths.{not_both}

@@ -11,9 +11,9 @@ use Rattle.mach_laws.specs.Graph.{code_index, next_places, raise_places, numbers
 use Rattle.mach_laws.proofs.Places.{ending_next, ending_from_handler}
 use Rattle.mach_laws.proofs.Walking.{among_numbers, in_numbers, ending_at, place_is, place_at, ending_place, target_of, in_targets, handler_of, in_handlers}
 use Rattle.mach_laws.proofs.Among.{none_among, left_among, split_among}
-use Rattle.dead_rules.specs.Dropped as dropped
-use Rattle.dead_rules.specs.Dropped.{may_go, IsUsed}
-use Rattle.dead_rules.proofs.Text.{pure_of, pure_on, pure_only, pure_kills}
+use Rattle.deadcode_rules.specs.Dropped as dropped
+use Rattle.deadcode_rules.specs.Dropped.{may_go, IsUsed}
+use Rattle.deadcode_rules.proofs.Text.{pure_of, pure_on, pure_only, pure_kills}
 use Rattle.bs_words.proofs.Lists.{none_in, head_same, none_there}
 use Rattle.cse_deadcode.specs.Flows as flows
 use Rattle.cse_deadcode.specs.Flows.{UsedBefore, AreUsed}

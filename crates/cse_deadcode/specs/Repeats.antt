@@ -11,7 +11,7 @@ use Rattle.mach_ir.specs.declared.reg.Reg.{Reg}
 use Rattle.mach_ir.specs.declared.mach.MachOp.{MachOp}
 use Rattle.mach_ir.specs.declared.mach.MachOp.TheVariants as mach
 use Rattle.mach_ir.specs.declared.mach.Instr.{Instr}
-use Rattle.repeat_rules.specs.Repeated.{from_earlier}
+use Rattle.cse_repeat_rules.specs.Repeated.{from_earlier}
 use Rattle.cse_deadcode.specs.declared.events.Event.TheVariants as event
 use Rattle.cse_deadcode.specs.Events.{computation}
 use Rattle.cse_deadcode.specs.Made.{Making}

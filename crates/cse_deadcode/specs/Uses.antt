@@ -6,7 +6,7 @@ use Rattle.dataflow.specs.Rows.{set_in_row}
 use Rattle.mach_ir.specs.declared.reg.Reg.{Reg}
 use Rattle.mach_ir.specs.declared.mach.Instr.{Instr}
 use Rattle.mach_ir.specs.declared.mach.Mach.{Mach}
-use Rattle.dead_rules.specs.Dropped.{may_go, IsUsed}
+use Rattle.deadcode_rules.specs.Dropped.{may_go, IsUsed}
 
 abbrev pub goes_of : Option Instr → Bool
 goes_of None = false

@@ -1,7 +1,7 @@
 //! Operands, read from the registers that they are copies of.
 ghost use Rattle.std.specs.Prelude.{◌≡◌, [], map, IfOk};
 ghost use Rattle.mach_ir.specs.Formed.{WellFormed};
-ghost use Rattle.copy_rules.specs.Propagated.{IsPropagated};
+ghost use Rattle.cse_copy_rules.specs.Propagated.{IsPropagated};
 ghost use Rattle.cse_deadcode.specs.Made.{made_by};
 ghost use Rattle.cse_deadcode.specs.Times.{time_in};
 ghost use Rattle.cse_deadcode.specs.Copies.{is_move, is_still_copy, source_by, source_at, source_of};

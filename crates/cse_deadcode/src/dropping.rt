@@ -2,7 +2,7 @@
 ghost use Rattle.std.specs.Prelude.{◌≡◌, ◌∷◌, ◌++◌, [], cond, IfOk};
 ghost use Rattle.mach_ir.specs.Sizes.{IsCountable};
 ghost use Rattle.mach_laws.specs.Expand.{expand};
-ghost use Rattle.dead_rules.specs.Dropped.{unless_dropped, IsDropped};
+ghost use Rattle.deadcode_rules.specs.Dropped.{unless_dropped, IsDropped};
 ghost use Rattle.cse_deadcode.specs.Uses.{is_one_used, is_dead_instruction, drops_by};
 
 use crate::uses::used;

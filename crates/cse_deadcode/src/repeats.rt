@@ -1,7 +1,7 @@
 //! Operators that repeat earlier ones, made moves.
 ghost use Rattle.std.specs.Prelude.{◌≡◌, [], IfOk};
 ghost use Rattle.mach_ir.specs.Formed.{WellFormed};
-ghost use Rattle.repeat_rules.specs.Repeated.{from_earlier, IsRepeated};
+ghost use Rattle.cse_repeat_rules.specs.Repeated.{from_earlier, IsRepeated};
 ghost use Rattle.cse_deadcode.specs.Made.{made_by};
 ghost use Rattle.cse_deadcode.specs.Times.{time_in};
 ghost use Rattle.cse_deadcode.specs.Repeats.{operands_stand, place_stands, value_stands, result_stands, repeat_stands};

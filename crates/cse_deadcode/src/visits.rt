@@ -7,7 +7,7 @@ ghost use Rattle.dataflow.specs.Rows.{set_in_row, HasSizes};
 ghost use Rattle.dataflow.specs.Flow.{IsPlace, IsFlowFormed};
 ghost use Rattle.cse_deadcode.specs.Flows.{is_wanted, is_used_before_place, VisitedForUse, SweptForUse};
 ghost use Rattle.cse_deadcode.specs.Uses.{goes_at};
-ghost use Rattle.dead_rules.specs.Dropped.{only_computes, may_go};
+ghost use Rattle.deadcode_rules.specs.Dropped.{only_computes, may_go};
 
 use bs_bits::Bits;
 use dataflow::{Flow, Place, add_rows, put_in, take_out};

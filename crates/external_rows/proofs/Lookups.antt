@@ -16,7 +16,7 @@ use Rattle.bs_words.specs.declared.types.Comp.TheVariants.{Int, Val, Addr, Float
 use Rattle.image_form.specs.Image.{comp_byte, ret_byte}
 use Rattle.image_form.specs.declared.image.ExtRow.{ExtRow}
 use Rattle.image_form.specs.Tables.{ext}
-use Rattle.layout_rules.specs.Externals.{same_row, is_among_externals, external_number}
+use Rattle.rv_layout_rules.specs.Externals.{same_row, is_among_externals, external_number}
 use Rattle.external_rows.specs.Entries.{external_key, external_view, AreKeyed, row_noted}
 
 abbrev pub Entry : Type 0

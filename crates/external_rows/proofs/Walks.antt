@@ -5,9 +5,9 @@ use Rattle.bs_words.specs.External.{External}
 use Rattle.cmm_tree.specs.declared.expr.Expr.{Expr}
 use Rattle.cmm_tree.specs.declared.file.Item.{Item}
 use Rattle.cmm_tree.specs.declared.file.Item.TheVariants as item
-use Rattle.image_rules.specs.Held.{calls_held, calls_among_items}
-use Rattle.image_rules.proofs.Externals.{firsts_append}
-use Rattle.layout_rules.specs.Externals.{firsts_behind}
+use Rattle.assemble_rules.specs.Held.{calls_held, calls_among_items}
+use Rattle.assemble_rules.proofs.Externals.{firsts_append}
+use Rattle.rv_layout_rules.specs.Externals.{firsts_behind}
 use Rattle.bs_words.proofs.Lists.{drop_step}
 
 -- the calls of one item after the other

@@ -5,7 +5,7 @@ use Rattle.bs_words.specs.External.{External}
 use Rattle.image_form.specs.Image.{comp_byte, ret_byte}
 use Rattle.image_form.specs.Tables.{ext}
 use Rattle.image_form.specs.declared.image.ExtRow.{ExtRow}
-use Rattle.layout_rules.specs.Externals.{is_among_externals}
+use Rattle.rv_layout_rules.specs.Externals.{is_among_externals}
 
 -- rows with that of one more call
 abbrev pub row_noted : List External → External → List External

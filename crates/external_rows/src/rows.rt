@@ -4,7 +4,7 @@ ghost use Rattle.bs_words.specs.Contents.{contents};
 ghost use Rattle.image_form.specs.Image.{comp_byte};
 ghost use Rattle.image_form.specs.Tables.{ext};
 ghost use Rattle.external_rows.specs.Entries.{external_key, row_noted};
-ghost use Rattle.layout_rules.specs.Externals.{external_number};
+ghost use Rattle.rv_layout_rules.specs.Externals.{external_number};
 ghost use Rattle.mach_ir.specs.Acts.{external_row};
 
 use bs_words::{Comp, List, Name, Ret};

@@ -3,7 +3,7 @@ ghost use Rattle.std.specs.Prelude.{◌≡◌, [], ◌∷◌, IfOk, OnOk};
 ghost use Rattle.bs_words.specs.Contents.{contents};
 ghost use Rattle.cmm_tree.specs.View.{file_view};
 ghost use Rattle.cmm_types.specs.Typing.{AreItemsAnnotated};
-ghost use Rattle.image_rules.specs.Held.{
+ghost use Rattle.assemble_rules.specs.Held.{
   calls_held,
   comps_among,
   calls_among,
@@ -12,7 +12,7 @@ ghost use Rattle.image_rules.specs.Held.{
   calls_among_handlers,
   calls_among_items,
 };
-ghost use Rattle.layout_rules.specs.Externals.{firsts_behind, externals};
+ghost use Rattle.rv_layout_rules.specs.Externals.{firsts_behind, externals};
 
 use crate::rows::ExternalRows;
 use bs_words::Comp;

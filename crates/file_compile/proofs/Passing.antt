@@ -4,7 +4,7 @@ use Rattle.made_functions.proofs.Ordered.{linear_in_order}
 use Rattle.chained_functions.proofs.Chained.{within}
 use Rattle.cmm_tree.specs.Tree.{FunctionTree, FileTree, functions}
 use Rattle.code_bounds.proofs.Bounded.{frame_fits}
-use Rattle.emit_rules.specs.Emitted.{IsEmitted}
+use Rattle.rv_emit_rules.specs.Emitted.{IsEmitted}
 use Rattle.lin_ir.specs.Descriptors.{AreExact, FitsDescriptors, frame_point_count}
 use Rattle.lin_ir.specs.declared.descr.Descr.{Descr}
 use Rattle.lin_ir.specs.declared.lin.Lin.{Lin}
@@ -13,19 +13,19 @@ use Rattle.mach_ir.specs.Placed.{WellPlaced}
 use Rattle.mach_ir.specs.Sizes.{HasRoom}
 use Rattle.mach_ir.specs.Text.{mach_text}
 use Rattle.mach_ir.specs.declared.mach.Mach.{Mach}
-use Rattle.mach_passes.specs.Prepared.{IsPreparable, IsPreparedMach, prepared_size}
-use Rattle.mach_passes.specs.Stages.{IsOverMach, IsPassedTo}
-use Rattle.mach_passes.proofs.Whole.{prepared as prepared_by}
+use Rattle.prepare_rules.specs.Prepared.{IsPreparable, IsPreparedMach, prepared_size}
+use Rattle.prepare_rules.specs.Stages.{IsOverMach, IsPassedTo}
+use Rattle.prepare_rules.proofs.Whole.{prepared as prepared_by}
 use Rattle.stages.specs.declared.stage.Stage.{Stage}
 use Rattle.stages.specs.declared.stage.Stage.TheVariants.{Split, Alloc, Linear, Frames, Code}
 use Rattle.made_functions.specs.Files.{IsFunctionMade}
 use Rattle.placed_functions.specs.Placed.{IsPlacedFor}
-use Rattle.linear_rules.specs.Sizes.{HasLineRoom}
+use Rattle.linearise_rules.specs.Sizes.{HasLineRoom}
 use Rattle.placed_functions.proofs.Placed.{selected_preparable, selected_room, ready, prepared_room, carried, placed_for}
 use Rattle.chained_functions.proofs.Rooms.{line_room}
-use Rattle.places_rules.specs.Places.{ColoursLow}
+use Rattle.colouring_rules.specs.Places.{ColoursLow}
 use Rattle.choices.specs.declared.choices.Choices.{Choices}
-use Rattle.rounds_rules.specs.Rounds.{allocated_size}
+use Rattle.reg_rounds_rules.specs.Rounds.{allocated_size}
 use Rattle.rv_pieces.specs.declared.piece.Pieces.{Pieces}
 use Rattle.selection_rules.specs.Select.{selected}
 use Rattle.selection_places.proofs.Placed.{selected_low}

@@ -11,7 +11,7 @@ use Rattle.file_compile.proofs.Once as listed
 use Rattle.file_promise.proofs.Promise as promise
 use Rattle.image_form.specs.Image.{AreTables}
 use Rattle.image_form.specs.Tables.{Tables}
-use Rattle.layout_rules.specs.TooLarge.{first_too_large}
+use Rattle.rv_layout_rules.specs.TooLarge.{first_too_large}
 use Rattle.made_functions.specs.Exact.{IsExact}
 use Rattle.made_functions.specs.Files.{AreTablesMadeFor}
 use Rattle.stages.specs.declared.stage.Stage.{Stage}

@@ -2,22 +2,22 @@
 use Rattle.std.specs.Prelude.{◌≡◌, ℕ, List, [], Option, Some, None, MatchOption}
 use Rattle.std.specs.List.{AllZip, concat}
 use Rattle.cmm_tree.specs.Tree.{FunctionTree, FileTree, functions}
-use Rattle.combine_rules.specs.Combined.{combined}
+use Rattle.comballoc_rules.specs.Combined.{combined}
 use Rattle.image_form.specs.Image.{AreTables}
 use Rattle.image_form.specs.Tables.{Tables}
 use Rattle.image_listings.specs.Texts.{frames_text, code_text}
-use Rattle.layout_rules.specs.TooLarge.{first_too_large}
+use Rattle.rv_layout_rules.specs.TooLarge.{first_too_large}
 use Rattle.lin_ir.specs.Text.{lin_text}
 use Rattle.lin_ir.specs.declared.lin.Lin.{Lin}
-use Rattle.linear_pass.specs.Linear.{IsLinearOf}
+use Rattle.lin_pass.specs.Linear.{IsLinearOf}
 use Rattle.mach_ir.specs.Text.{mach_text}
 use Rattle.mach_ir.specs.declared.mach.Mach.{Mach}
-use Rattle.mach_passes.specs.Prepared.{IsPreparedMach}
-use Rattle.mach_passes.specs.Stages.{IsPassedTo}
+use Rattle.prepare_rules.specs.Prepared.{IsPreparedMach}
+use Rattle.prepare_rules.specs.Stages.{IsPassedTo}
 use Rattle.made_functions.specs.Files.{IsFunctionMade, AreTablesMadeFor}
 use Rattle.made_functions.specs.Made.{in_order}
 use Rattle.choices.specs.declared.choices.Choices.{Choices}
-use Rattle.rounds_rules.specs.Rounds.{IsRegisterAllocated}
+use Rattle.reg_rounds_rules.specs.Rounds.{IsRegisterAllocated}
 use Rattle.rv_pieces.specs.declared.piece.Pieces.{Pieces}
 use Rattle.selection_rules.specs.Select.{selected}
 use Rattle.stages.specs.declared.stage.Stage.{Stage}

@@ -9,14 +9,14 @@ ghost use Rattle.file_compile.specs.Listed.{IsAllocatedFor, IsLinearFor};
 ghost use Rattle.mach_ir.specs.Formed.{WellFormed};
 ghost use Rattle.mach_ir.specs.Placed.{WellPlaced};
 ghost use Rattle.mach_ir.specs.Sizes.{HasRoom};
-ghost use Rattle.places_rules.specs.Places.{ColoursLow};
-ghost use Rattle.rounds_rules.specs.Rounds.{IsAllocatedIn, allocated_size};
+ghost use Rattle.colouring_rules.specs.Places.{ColoursLow};
+ghost use Rattle.reg_rounds_rules.specs.Rounds.{IsAllocatedIn, allocated_size};
 
 use choices::{Alloc, Choices, Order};
 use cmm_tree::Function;
 use frame_tables::descriptors;
 use lin_ir::Lin;
-use linear_pass::linear;
+use lin_pass::linear;
 use mach_ir::Mach;
 use prepare::passed_to;
 use reg_rounds::{Allocated, allocate};

@@ -18,11 +18,11 @@ use Rattle.code_bounds.proofs.Few.{few}
 use Rattle.code_bounds.proofs.Keeping.{each_keeps}
 use Rattle.compiled_files.specs.Stages.{AreChained, HasChain}
 use Rattle.made_functions.specs.Exact.{IsFunctionExact}
-use Rattle.frame_names.specs.Names.{locations_named_by}
-use Rattle.frame_names.proofs.Names.{exact_names}
+use Rattle.frame_tables_rules.specs.Names.{locations_named_by}
+use Rattle.frame_tables_rules.proofs.Names.{exact_names}
 use Rattle.laid_files.proofs.Laid.{function_can}
 use Rattle.laid_parts.proofs.Whole.{laid_out}
-use Rattle.layout_rules.specs.Conditions.{CanBeLaid, IsFunctionLaid}
+use Rattle.rv_layout_rules.specs.Conditions.{CanBeLaid, IsFunctionLaid}
 use Rattle.made_functions.specs.Chained.{IsChained}
 use Rattle.made_functions.specs.Files.{IsFunctionMade}
 use Rattle.rv_pieces.specs.declared.piece.Pieces.{Pieces}

@@ -4,10 +4,10 @@ use Rattle.std.specs.List.{AllZip}
 use Rattle.choices.specs.declared.choices.Choices.{Choices}
 use Rattle.cmm_tree.specs.Tree.{FunctionTree, FileTree, functions}
 use Rattle.image_form.specs.Tables.{Tables}
-use Rattle.layout_rules.specs.declared.form.Form.{Form}
-use Rattle.layout_rules.specs.Forms.{none_far}
-use Rattle.layout_rules.specs.Laid.{AreAllForms, laid_out}
-use Rattle.layout_rules.proofs.Relaxing.{forms_once}
+use Rattle.rv_layout_rules.specs.declared.form.Form.{Form}
+use Rattle.rv_layout_rules.specs.Forms.{none_far}
+use Rattle.rv_layout_rules.specs.Laid.{AreAllForms, laid_out}
+use Rattle.rv_layout_rules.proofs.Relaxing.{forms_once}
 use Rattle.made_functions.specs.Files.{IsFunctionMade, AreTablesMadeFor}
 use Rattle.made_once.proofs.Made.{made_once}
 use Rattle.rv_pieces.specs.declared.piece.Pieces.{Pieces}

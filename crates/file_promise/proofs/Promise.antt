@@ -12,9 +12,9 @@ use Rattle.correctness.specs.Correct.{IsCorrect}
 use Rattle.correctness.specs.InNeed.{AsksInNeed}
 use Rattle.image_form.specs.Image.{AreTables}
 use Rattle.image_form.specs.Tables.{Tables}
-use Rattle.layout_rules.specs.Laid.{IsLaid}
-use Rattle.layout_rules.specs.TooLarge.{first_too_large}
-use Rattle.layout_rules.proofs.Functions.{laid}
+use Rattle.rv_layout_rules.specs.Laid.{IsLaid}
+use Rattle.rv_layout_rules.specs.TooLarge.{first_too_large}
+use Rattle.rv_layout_rules.proofs.Functions.{laid}
 use Rattle.made_functions.specs.Files.{AreTablesMadeFor}
 use Rattle.made_functions.specs.Exact.{IsExact}
 use Rattle.file_promise.proofs.Bytes.{bytes_of}

@@ -14,7 +14,7 @@ ghost use Rattle.correctness.specs.InNeed.{AsksInNeed};
 ghost use Rattle.made_functions.specs.Exact.{IsExact};
 ghost use Rattle.image_form.specs.Image.{AreTables};
 ghost use Rattle.image_form.specs.Tables.{Tables};
-ghost use Rattle.layout_rules.specs.TooLarge.{first_too_large};
+ghost use Rattle.rv_layout_rules.specs.TooLarge.{first_too_large};
 ghost use Rattle.made_functions.specs.Files.{AreTablesMadeFor};
 
 /// Law: one image is made for a file, whatever is chosen.

@@ -8,8 +8,8 @@ use Rattle.std.proofs.lemmas.Option.{slice_get_within}
 use Rattle.bs_words.specs.declared.values.Value.{Value}
 use Rattle.bs_words.specs.declared.values.Value.TheVariants.{Word, Block, Function}
 use Rattle.cmm_data.specs.Contents.{DataByte, Plain, OfFunction, number_of, word_of_bytes, cell_of, cells_of}
-use Rattle.layout_rules.specs.Laid.{address_of_place, address_of_value}
-use Rattle.linear_machine.proofs.Growing.{get_front}
+use Rattle.rv_layout_rules.specs.Laid.{address_of_place, address_of_value}
+use Rattle.lin_machine.proofs.Growing.{get_front}
 use Rattle.first_statics.proofs.Bytes.{WordsFit, power_rises}
 
 -- ---- bytes

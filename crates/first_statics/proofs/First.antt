@@ -13,14 +13,14 @@ use Rattle.cmm_data.proofs.Laws.{end_of_items-above, end_of_data-first_memory}
 use Rattle.cmm_tree.specs.Tree.{FunctionTree, DataListTree, FileTree, functions}
 use Rattle.image_form.specs.Image.{stub, stub_words, code_limit}
 use Rattle.image_form.specs.Tables.{Tables}
-use Rattle.image_rules.proofs.Placed.{end_of_lists-above, data_length, items_length, cells_enough}
-use Rattle.layout_rules.specs.declared.form.Form.{Form}
-use Rattle.layout_rules.specs.Conditions.{IsFileLaid}
-use Rattle.layout_rules.specs.Forms.{total_words}
-use Rattle.layout_rules.specs.Laid.{address_of_place, function_entries_from, function_words, code_from, rows_from, cell_bytes, data_of, AllReach, IsLaid}
-use Rattle.layout_rules.proofs.Functions.{function_length}
-use Rattle.linear_machine.specs.Contents.{static_in, statics_of}
-use Rattle.linear_machine.specs.Statics.{AreBehind, StaticsLie}
+use Rattle.assemble_rules.proofs.Placed.{end_of_lists-above, data_length, items_length, cells_enough}
+use Rattle.rv_layout_rules.specs.declared.form.Form.{Form}
+use Rattle.rv_layout_rules.specs.Conditions.{IsFileLaid}
+use Rattle.rv_layout_rules.specs.Forms.{total_words}
+use Rattle.rv_layout_rules.specs.Laid.{address_of_place, function_entries_from, function_words, code_from, rows_from, cell_bytes, data_of, AllReach, IsLaid}
+use Rattle.rv_layout_rules.proofs.Functions.{function_length}
+use Rattle.lin_machine.specs.Contents.{static_in, statics_of}
+use Rattle.lin_machine.specs.Statics.{AreBehind, StaticsLie}
 use Rattle.moving_laws.specs.Stands.{AmongNumbers, StaticsStand}
 use Rattle.moving_laws.specs.Values.{function_at, value_word, IsVal, IsStill, IsKnown}
 use Rattle.moving_laws.specs.Words.{held_word}

@@ -17,9 +17,9 @@ use Rattle.cmm_data.proofs.Laws.{end_of_items-above}
 use Rattle.cmm_data.proofs.Steps.{length-bytes_at}
 use Rattle.cmm_data.proofs.Walk.{sound-first}
 use Rattle.cmm_tree.specs.Tree.{DatumTree, Val, Address, DataItemTree, DataListTree, FileTree, functions}
-use Rattle.image_rules.proofs.Placed.{end_of_lists-above, items_length, cells_enough}
-use Rattle.layout_rules.specs.Laid.{address_of_place}
-use Rattle.linear_machine.specs.Contents.{static_in}
+use Rattle.assemble_rules.proofs.Placed.{end_of_lists-above, items_length, cells_enough}
+use Rattle.rv_layout_rules.specs.Laid.{address_of_place}
+use Rattle.lin_machine.specs.Contents.{static_in}
 use Rattle.moving_laws.specs.Stands.{AmongNumbers}
 use Rattle.moving_laws.proofs.Walk.{among_append}
 use Rattle.accepted_files.specs.Given.{IsDatumGiven}

@@ -16,9 +16,9 @@ use Rattle.cmm_data.specs.Placement.{size_at, items_from, start_behind, end_behi
 use Rattle.cmm_data.proofs.Steps.{length-bytes_at, end-within}
 use Rattle.cmm_data.proofs.Walk.{sound-first, sound-list, start-within}
 use Rattle.cmm_tree.specs.Tree.{DatumTree, Define, Byte, Half, Int, Val, Address, Skip, Align, Text, Global, AFloat, DataItemTree, DataListTree, FileTree, functions}
-use Rattle.image_rules.proofs.Placed.{end_of_lists-above, items_length, cells_enough}
-use Rattle.layout_rules.proofs.Rules.{all_append}
-use Rattle.layout_rules.specs.Laid.{address_of_place, cell_bytes, data_of}
+use Rattle.assemble_rules.proofs.Placed.{end_of_lists-above, items_length, cells_enough}
+use Rattle.rv_layout_rules.proofs.Rules.{all_append}
+use Rattle.rv_layout_rules.specs.Laid.{address_of_place, cell_bytes, data_of}
 use Rattle.rv_machine.specs.Memory.{words_of_bytes}
 use Rattle.accepted_files.specs.Given.{IsDatumGiven, AreDataGiven, HasGivenData}
 use Rattle.first_statics.proofs.Bytes.{word_bytes, WordsFit, fit_more, fit_both, words_cut}

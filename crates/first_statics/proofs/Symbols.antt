@@ -8,8 +8,8 @@ use Rattle.cmm_data.specs.Placement.{PlacedItem, DefinedValue, definition_of_dat
 use Rattle.cmm_data.proofs.Laws.{end_of_items-above}
 use Rattle.cmm_data.proofs.Table.{value_among-from}
 use Rattle.cmm_tree.specs.Tree.{DatumTree, Define, DataItemTree, ItemTree, AFunction, AData, FileTree, functions, functions_among, data_among, data_lists}
-use Rattle.image_rules.proofs.Placed.{end_of_lists-above}
-use Rattle.layout_rules.proofs.Rules.{all_append}
+use Rattle.assemble_rules.proofs.Placed.{end_of_lists-above}
+use Rattle.rv_layout_rules.proofs.Rules.{all_append}
 
 -- a function of so many, or an address of data that ends here
 abbrev pub IsOfFile : ℕ → ℕ → Value → Type 0

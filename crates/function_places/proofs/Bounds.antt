@@ -4,11 +4,11 @@ use Rattle.std.specs.Prelude.{sum_by}
 use Rattle.std.proofs.lemmas.List.Sums.{sum_by-cons}
 use Rattle.function_places.specs.Places.{size_of}
 use Rattle.function_places.specs.Sizes.{piece_size}
-use Rattle.layout_rules.specs.declared.form.Form.{Form}
-use Rattle.layout_rules.specs.declared.form.Form.TheVariants.{Near, Middle, Far}
-use Rattle.layout_rules.specs.Conditions.{piece_weight, weight_of}
-use Rattle.layout_rules.specs.Forms.{piece_words, total_words}
-use Rattle.layout_rules.proofs.Rules.{all_words}
+use Rattle.rv_layout_rules.specs.declared.form.Form.{Form}
+use Rattle.rv_layout_rules.specs.declared.form.Form.TheVariants.{Near, Middle, Far}
+use Rattle.rv_layout_rules.specs.Conditions.{piece_weight, weight_of}
+use Rattle.rv_layout_rules.specs.Forms.{piece_words, total_words}
+use Rattle.rv_layout_rules.proofs.Rules.{all_words}
 use Rattle.rv_pieces.specs.declared.piece.Piece.{Piece}
 use Rattle.rv_pieces.specs.declared.piece.Piece.TheVariants.{Known, Label, Branch, Jump, Row, LabelAddress, Call, TailCall, SymbolAddress, ExternalNumber, Descriptor}
 use Rattle.rv_pieces.specs.declared.piece.Pieces.{Pieces}

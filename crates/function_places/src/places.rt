@@ -2,12 +2,12 @@
 ghost use Rattle.std.specs.Prelude.{◌≡◌, ◌*◌, ◌<◌, ◌≤◌, ◌^◌, length, sum_by, IfOk};
 ghost use Rattle.std.specs.List.{AllZip};
 ghost use Rattle.function_places.specs.Places.{ArePlaces, IsLaid, IsLaidAt, size_of};
-ghost use Rattle.layout_rules.specs.Forms.{total_words};
+ghost use Rattle.rv_layout_rules.specs.Forms.{total_words};
 
 use crate::sizes::code_size;
 use fork_join::map_in_halves;
 use image_form::limits::STUB_WORDS;
-use layout_rules::Form;
+use rv_layout_rules::Form;
 use rv_layout::{forms_of, words_of};
 use rv_pieces::{Piece, Pieces};
 use std::alloc::{AllocError, Global};

@@ -1,16 +1,16 @@
 -- The part of a line that has an instruction, as every call has, takes a word at least.
 use Rattle.std.proofs.Common.{ℕ, suc, ◌+◌, ◌≤◌, List, length, Option, arith}
 use Rattle.cmm_meaning.specs.Setting.{Setting}
-use Rattle.emit_rules.specs.Emitted.{part_of_line}
-use Rattle.emit_rules.specs.Entry.{FrameLayout}
-use Rattle.emit_rules.proofs.Acts.{ActsAt, part_acts}
-use Rattle.layout_rules.specs.Words.{NameAddresses}
+use Rattle.rv_emit_rules.specs.Emitted.{part_of_line}
+use Rattle.rv_emit_rules.specs.Entry.{FrameLayout}
+use Rattle.rv_emit_rules.proofs.Acts.{ActsAt, part_acts}
+use Rattle.rv_layout_rules.specs.Words.{NameAddresses}
 use Rattle.lin_ir.specs.declared.descr.Descr.{Descr}
 use Rattle.lin_ir.specs.declared.lin.Lin.{Lin}
 use Rattle.lin_ir.specs.declared.lin.Line.{Line}
 use Rattle.line_stands.specs.Lines.{LineStands}
-use Rattle.linear_machine.specs.Relation.{Laid}
-use Rattle.linear_machine.specs.View.{Fixed}
+use Rattle.lin_machine.specs.Relation.{Laid}
+use Rattle.lin_machine.specs.View.{Fixed}
 use Rattle.function_stands.proofs.Splitting.{least}
 
 pub some_word : (s : Fixed) (laid : Laid) (n : NameAddresses) (m : Lin) (c : Setting) (live : List Line → Type 0) (tries : List ℕ) (f : FrameLayout) (d : Option Descr)

@@ -7,7 +7,7 @@ use Rattle.bs_words.specs.declared.types.Comp.TheVariants as comp
 use Rattle.bs_words.specs.declared.types.Loc.{Loc}
 use Rattle.bs_words.specs.declared.types.Loc.TheVariants as loc
 use Rattle.bs_words.specs.declared.types.Ret.{Ret}
-use Rattle.layout_rules.specs.Laid.{descriptor_laid_at}
+use Rattle.rv_layout_rules.specs.Laid.{descriptor_laid_at}
 use Rattle.lin_ir.specs.Descriptors.{IsDescr, IsDescriptorEntry, of_register, of_slot, NamesLives, frame_bytes}
 use Rattle.lin_ir.specs.Formed.{IsLocation, Locates, WellFormed, is_home, is_slot, is_spare}
 use Rattle.lin_ir.specs.Meaning.{NamedAt, is_named_location, passes_frame, same_loc}
@@ -17,10 +17,10 @@ use Rattle.lin_ir.specs.declared.lin.Line.{Line}
 use Rattle.lin_ir.specs.declared.lin.Lin.{Lin}
 use Rattle.lin_ir.specs.declared.lin.LinOp.TheVariants as lin
 use Rattle.lin_ir.specs.declared.lin.Spot.{Spot}
-use Rattle.linear_machine.specs.Relation.{IsDescribed, Laid}
-use Rattle.linear_rules.proofs.Homes.{IsIn, contains_of, in_of, is_first, is_later, is_one_of, named_of}
-use Rattle.linear_rules.proofs.Marks.{all_in}
-use Rattle.linear_rules.proofs.Walked.{Tail, stands_tail, tail_in, tail_label, tail_target}
+use Rattle.lin_machine.specs.Relation.{IsDescribed, Laid}
+use Rattle.linearise_rules.proofs.Homes.{IsIn, contains_of, in_of, is_first, is_later, is_one_of, named_of}
+use Rattle.linearise_rules.proofs.Marks.{all_in}
+use Rattle.linearise_rules.proofs.Walked.{Tail, stands_tail, tail_in, tail_label, tail_target}
 use Rattle.moving_laws.specs.Stands.{AmongNumbers}
 use Rattle.mach_ir.specs.declared.op.Callee.{Callee}
 use Rattle.mach_ir.specs.declared.op.Calling.TheVariants as calling

@@ -1,16 +1,16 @@
 -- No walk comes to the end of the code: each part with a line after it to which one comes begins before the end.
 use Rattle.std.proofs.Common.{◌≡◌, ℕ, ◌+◌, ◌<◌, ◌≤◌, Bool, true, false, cond, nat_lt, List, [], ◌∷◌, ◌++◌, ◌⊎◌, inl, inr, ⊎_elim, length, drop, refl, ap, arith}
 use Rattle.std.proofs.lemmas.Bool.{lt-ltb}
-use Rattle.emit_rules.specs.Emitted.{descriptor, parts_of_lines}
-use Rattle.emit_rules.specs.Entry.{FrameLayout}
-use Rattle.emit_rules.specs.Sizes.{words_at_least}
-use Rattle.emit_rules.specs.Units.{is_free_exit}
-use Rattle.emit_rules.proofs.Acts.{ActsAt, falls_act, part_acts}
-use Rattle.emit_rules.proofs.Units.{free_is_exit, part_unless_free}
-use Rattle.layout_rules.specs.declared.form.Form.{Form}
-use Rattle.layout_rules.specs.Forms.{total_words}
-use Rattle.layout_rules.specs.Stands.{HasPieces}
-use Rattle.layout_rules.specs.Words.{NameAddresses}
+use Rattle.rv_emit_rules.specs.Emitted.{descriptor, parts_of_lines}
+use Rattle.rv_emit_rules.specs.Entry.{FrameLayout}
+use Rattle.rv_emit_rules.specs.Sizes.{words_at_least}
+use Rattle.rv_emit_rules.specs.Units.{is_free_exit}
+use Rattle.rv_emit_rules.proofs.Acts.{ActsAt, falls_act, part_acts}
+use Rattle.rv_emit_rules.proofs.Units.{free_is_exit, part_unless_free}
+use Rattle.rv_layout_rules.specs.declared.form.Form.{Form}
+use Rattle.rv_layout_rules.specs.Forms.{total_words}
+use Rattle.rv_layout_rules.specs.Stands.{HasPieces}
+use Rattle.rv_layout_rules.specs.Words.{NameAddresses}
 use Rattle.lin_ir.specs.Meaning.{passes_frame}
 use Rattle.lin_ir.specs.Walks.{Reached, by_step, goes, targets, tries_after}
 use Rattle.lin_ir.specs.declared.descr.Descr.{Descr}
@@ -20,7 +20,7 @@ use Rattle.lin_ir.specs.declared.lin.Line.{Line}
 use Rattle.lin_ir.specs.declared.lin.LinOp.{LinOp}
 use Rattle.lin_ir.specs.declared.lin.LinOp.TheVariants as lin
 use Rattle.lin_ir.specs.declared.lin.Spot.{Spot}
-use Rattle.linear_rules.proofs.Walked.{Tail, tail_all, tail_more}
+use Rattle.linearise_rules.proofs.Walked.{Tail, tail_all, tail_more}
 use Rattle.mach_ir.specs.Acts.{On}
 use Rattle.mach_ir.specs.Walks.{OneOf, this}
 use Rattle.mach_ir.specs.declared.op.Access.TheVariants as access

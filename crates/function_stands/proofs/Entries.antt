@@ -6,9 +6,9 @@ use Rattle.cmm_tree.specs.Tree.{FileTree, FunctionTree, functions}
 use Rattle.correctness.specs.Setting.{layout_of}
 use Rattle.image_form.specs.Image.{stub_words}
 use Rattle.image_form.specs.Tables.{Func, Tables}
-use Rattle.layout_rules.specs.declared.form.Form.{Form}
-use Rattle.layout_rules.specs.Forms.{total_words}
-use Rattle.layout_rules.specs.Laid.{AllReach, address_of_place, function_entries_from, rows_from}
+use Rattle.rv_layout_rules.specs.declared.form.Form.{Form}
+use Rattle.rv_layout_rules.specs.Forms.{total_words}
+use Rattle.rv_layout_rules.specs.Laid.{AllReach, address_of_place, function_entries_from, rows_from}
 use Rattle.moving_laws.specs.Values.{function_at}
 use Rattle.rv_machine.specs.Memory.{code_start}
 use Rattle.rv_pieces.specs.declared.piece.Pieces.{Pieces}

@@ -3,16 +3,16 @@ use Rattle.std.proofs.Common.{◌≡◌, ℕ, suc, ◌+◌, ◌<◌, ◌≤◌, 
 use Rattle.std.specs.List.{AllByRecursion}
 use Rattle.std.proofs.lemmas.Bool.{true≢false, eq-eqb}
 use Rattle.std.proofs.lemmas.List.Elements.{recursion_from_All}
-use Rattle.emit_rules.specs.Emitted.{descriptor, left_after}
+use Rattle.rv_emit_rules.specs.Emitted.{descriptor, left_after}
 use Rattle.lin_ir.specs.Descriptors.{AreExact, Describes, IsDescr, frame_point_count}
 use Rattle.lin_ir.specs.Meaning.{passes_frame}
 use Rattle.lin_ir.specs.Walks.{StandsAsLine, here, below, Traps}
 use Rattle.lin_ir.specs.declared.descr.Descr.{Descr}
 use Rattle.lin_ir.specs.declared.lin.Line.{Line}
 use Rattle.lin_ir.specs.declared.lin.Lin.{Lin}
-use Rattle.linear_rules.proofs.Homes.{IsIn, in_of, is_first, is_later}
+use Rattle.linearise_rules.proofs.Homes.{IsIn, in_of, is_first, is_later}
 use Rattle.bs_words.proofs.Lists.{pairs_here, pairs_later}
-use Rattle.tidy_rules.proofs.TurningShape.{not_same}
+use Rattle.lin_tidy_rules.proofs.TurningShape.{not_same}
 use Rattle.function_stands.proofs.Parts.{descriptor_of, left_in, shorter}
 
 -- a descriptor of a line of this code, where the whole code has so many lines

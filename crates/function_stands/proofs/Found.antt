@@ -4,10 +4,10 @@ use Rattle.std.specs.Prelude.{find, slice_get}
 use Rattle.std.proofs.lemmas.Bool.{ne_eqb, eq-eqb}
 use Rattle.image_form.specs.Image.{EachNext}
 use Rattle.image_form.specs.Tables.{Desc, Tables}
-use Rattle.layout_rules.specs.declared.form.Form.{Form}
-use Rattle.layout_rules.specs.Forms.{total_words, piece_words}
-use Rattle.layout_rules.specs.Laid.{AllReach, descriptor_laid_at, descs_from, descs_in, function_entries_from}
-use Rattle.linear_rules.proofs.Homes.{IsIn, is_first, is_later}
+use Rattle.rv_layout_rules.specs.declared.form.Form.{Form}
+use Rattle.rv_layout_rules.specs.Forms.{total_words, piece_words}
+use Rattle.rv_layout_rules.specs.Laid.{AllReach, descriptor_laid_at, descs_from, descs_in, function_entries_from}
+use Rattle.linearise_rules.proofs.Homes.{IsIn, is_first, is_later}
 use Rattle.rv_machine.specs.Frames.{descriptor_at}
 use Rattle.rv_machine.specs.Memory.{code_start}
 use Rattle.rv_pieces.specs.declared.piece.Piece.{Piece}

@@ -1,11 +1,11 @@
 -- An exit that has no words, and the labels up to that to which it goes, lie where the branch does.
 use Rattle.std.proofs.Common.{◌≡◌, ℕ, suc, true, List, [], ◌∷◌, ◌++◌, length, Option, refl, sym, ap, ◌∙◌, subst}
-use Rattle.emit_rules.specs.Emitted.{part_before}
-use Rattle.emit_rules.specs.Entry.{FrameLayout}
-use Rattle.emit_rules.specs.Units.{is_free_exit}
-use Rattle.emit_rules.proofs.Units.{FallsTo, falls_here, falls_past, branch_code, falls_after, label_line, own_label_line, part_if_free}
-use Rattle.layout_rules.specs.declared.form.Form.{Form}
-use Rattle.layout_rules.specs.Forms.{total_words}
+use Rattle.rv_emit_rules.specs.Emitted.{part_before}
+use Rattle.rv_emit_rules.specs.Entry.{FrameLayout}
+use Rattle.rv_emit_rules.specs.Units.{is_free_exit}
+use Rattle.rv_emit_rules.proofs.Units.{FallsTo, falls_here, falls_past, branch_code, falls_after, label_line, own_label_line, part_if_free}
+use Rattle.rv_layout_rules.specs.declared.form.Form.{Form}
+use Rattle.rv_layout_rules.specs.Forms.{total_words}
 use Rattle.lin_ir.specs.Formed.{WellFormed, label_of, labels_in}
 use Rattle.lin_ir.specs.Meaning.{after_label}
 use Rattle.lin_ir.specs.Walks.{StandsAsLine}
@@ -15,9 +15,9 @@ use Rattle.lin_ir.specs.declared.lin.Lin.{Lin}
 use Rattle.lin_ir.specs.declared.lin.Line.{Line}
 use Rattle.lin_ir.specs.declared.lin.LinOp.{LinOp}
 use Rattle.lin_ir.specs.declared.lin.LinOp.TheVariants as lin
-use Rattle.linear_rules.proofs.Homes.{IsIn, is_first, is_later}
-use Rattle.linear_rules.proofs.Walked.{Tail, stands_tail, tail_next, tail_stands}
-use Rattle.tidy_rules.proofs.Ends.{later_after}
+use Rattle.linearise_rules.proofs.Homes.{IsIn, is_first, is_later}
+use Rattle.linearise_rules.proofs.Walked.{Tail, stands_tail, tail_next, tail_stands}
+use Rattle.lin_tidy_rules.proofs.Ends.{later_after}
 use Rattle.function_stands.proofs.Parts.{Place, place_stays}
 
 -- ---- the label

@@ -10,11 +10,11 @@ use Rattle.lin_ir.specs.declared.lin.Line.{Line}
 use Rattle.lin_ir.specs.declared.lin.Lin.{Lin}
 use Rattle.lin_ir.specs.declared.lin.LinOp.{LinOp}
 use Rattle.lin_ir.specs.declared.lin.LinOp.TheVariants as lin
-use Rattle.linear_rules.proofs.Homes.{IsIn, contains_of, is_first, is_later}
-use Rattle.linear_rules.proofs.Marks.{all_in, Differ}
-use Rattle.linear_rules.proofs.Walked.{reached_tail, tail_in}
+use Rattle.linearise_rules.proofs.Homes.{IsIn, contains_of, is_first, is_later}
+use Rattle.linearise_rules.proofs.Marks.{all_in, Differ}
+use Rattle.linearise_rules.proofs.Walked.{reached_tail, tail_in}
 use Rattle.bs_words.proofs.Lists.{pairs_here}
-use Rattle.tidy_rules.proofs.Ends.{label_is, pairs_past}
+use Rattle.lin_tidy_rules.proofs.Ends.{label_is, pairs_past}
 
 -- ---- traps are pushed by lines
 

@@ -3,14 +3,14 @@ use Rattle.std.proofs.Common.{◌≡◌, ℕ, ◌+◌, Bool, true, false, cond, 
 use Rattle.std.specs.List.{Contains}
 use Rattle.std.proofs.lemmas.Bool.{true≢false}
 use Rattle.std.proofs.lemmas.List.Elements.{Contains-append_cases}
-use Rattle.emit_rules.specs.Emitted.{descriptor, parts_of_lines}
-use Rattle.emit_rules.specs.Entry.{FrameLayout, entry_pieces}
-use Rattle.emit_rules.specs.Traversal.{Allows, EachPiece, each_more}
-use Rattle.emit_rules.proofs.Traverse.{entry-in, before-in}
-use Rattle.layout_rules.specs.declared.form.Form.{Form}
-use Rattle.layout_rules.specs.Forms.{is_label_piece, label_from, total_words, piece_words}
-use Rattle.layout_rules.specs.Stands.{HasPieces}
-use Rattle.layout_rules.specs.Words.{NameAddresses}
+use Rattle.rv_emit_rules.specs.Emitted.{descriptor, parts_of_lines}
+use Rattle.rv_emit_rules.specs.Entry.{FrameLayout, entry_pieces}
+use Rattle.rv_emit_rules.specs.Traversal.{Allows, EachPiece, each_more}
+use Rattle.rv_emit_rules.proofs.Traverse.{entry-in, before-in}
+use Rattle.rv_layout_rules.specs.declared.form.Form.{Form}
+use Rattle.rv_layout_rules.specs.Forms.{is_label_piece, label_from, total_words, piece_words}
+use Rattle.rv_layout_rules.specs.Stands.{HasPieces}
+use Rattle.rv_layout_rules.specs.Words.{NameAddresses}
 use Rattle.lin_ir.specs.Formed.{label_of, labels_in}
 use Rattle.lin_ir.specs.Meaning.{after_label, has_label, passes_frame}
 use Rattle.lin_ir.specs.declared.descr.Descr.{Descr}
@@ -20,9 +20,9 @@ use Rattle.lin_ir.specs.declared.lin.LinOp.{LinOp}
 use Rattle.lin_ir.specs.declared.lin.LinOp.TheVariants as lin
 use Rattle.lin_ir.specs.declared.lin.Spot.{Spot}
 use Rattle.lin_laws.proofs.Places.{after_within}
-use Rattle.linear_rules.proofs.Homes.{in_of}
+use Rattle.linearise_rules.proofs.Homes.{in_of}
 use Rattle.rv_pieces.specs.declared.piece.Piece.{Piece}
-use Rattle.tidy_rules.proofs.Ends.{has_own_label}
+use Rattle.lin_tidy_rules.proofs.Ends.{has_own_label}
 use Rattle.function_stands.proofs.Parts.{Place, left_in, part_in, place_first, place_later}
 use Rattle.function_stands.proofs.Splitting.{has_second}
 

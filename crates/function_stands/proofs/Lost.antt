@@ -14,15 +14,15 @@ use Rattle.lin_ir.specs.declared.lin.Flow.TheVariants as flow
 use Rattle.lin_ir.specs.declared.lin.Line.{Line}
 use Rattle.lin_ir.specs.declared.lin.Lin.{Lin}
 use Rattle.lin_ir.specs.declared.lin.LinOp.TheVariants as lin
-use Rattle.linear_rules.proofs.Homes.{IsIn, in_of, is_first}
-use Rattle.linear_rules.proofs.Marks.{all_in}
-use Rattle.linear_rules.proofs.Walked.{Tail, tail_in, tail_label}
+use Rattle.linearise_rules.proofs.Homes.{IsIn, in_of, is_first}
+use Rattle.linearise_rules.proofs.Marks.{all_in}
+use Rattle.linearise_rules.proofs.Walked.{Tail, tail_in, tail_label}
 use Rattle.mach_ir.specs.Meaning.{Everything, is_destroyed}
 use Rattle.mach_ir.specs.declared.op.Callee.{Callee}
 use Rattle.mach_ir.specs.declared.op.Calling.TheVariants as calling
 use Rattle.mach_ir.specs.declared.op.Op.TheVariants as op
 use Rattle.lin_laws.proofs.Forms.{no_spots}
-use Rattle.tidy_rules.proofs.TurningShape.{same_flow}
+use Rattle.lin_tidy_rules.proofs.TurningShape.{same_flow}
 use Rattle.function_stands.proofs.Handlers.{pushed, pushed_enters}
 
 -- the entry of a handler reads nothing

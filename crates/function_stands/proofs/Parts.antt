@@ -1,13 +1,13 @@
 -- Where the parts of a function's lines lie, one after the other.
 use Rattle.std.proofs.Common.{◌≡◌, ℕ, suc, ◌+◌, ◌≤◌, Bool, true, false, cond, nat_lt, nat_eq, List, [], ◌∷◌, ◌++◌, length, take, drop, Option, Some, None, refl, sym, ap, ◌∙◌, subst, arith}
 use Rattle.std.proofs.lemmas.Bool.{le-ltb, lt-ltb, ltb-false, eq-eqb}
-use Rattle.emit_rules.specs.Emitted.{descriptor, left_after, part_before, parts_of_lines}
-use Rattle.emit_rules.specs.Entry.{FrameLayout}
-use Rattle.layout_rules.specs.declared.form.Form.{Form}
-use Rattle.layout_rules.specs.Forms.{ReachFrom, total_words, piece_words}
-use Rattle.layout_rules.specs.Laid.{address_of_place, descriptor_laid_at}
-use Rattle.layout_rules.specs.Stands.{HasPieces}
-use Rattle.layout_rules.specs.Words.{NameAddresses}
+use Rattle.rv_emit_rules.specs.Emitted.{descriptor, left_after, part_before, parts_of_lines}
+use Rattle.rv_emit_rules.specs.Entry.{FrameLayout}
+use Rattle.rv_layout_rules.specs.declared.form.Form.{Form}
+use Rattle.rv_layout_rules.specs.Forms.{ReachFrom, total_words, piece_words}
+use Rattle.rv_layout_rules.specs.Laid.{address_of_place, descriptor_laid_at}
+use Rattle.rv_layout_rules.specs.Stands.{HasPieces}
+use Rattle.rv_layout_rules.specs.Words.{NameAddresses}
 use Rattle.lin_ir.specs.Meaning.{passes_frame}
 use Rattle.lin_ir.specs.Walks.{StandsAsLine, here, below}
 use Rattle.lin_ir.specs.declared.descr.Descr.{Descr}
@@ -16,9 +16,9 @@ use Rattle.rv_machine.specs.Frames.{descriptor_at}
 use Rattle.rv_pieces.specs.declared.piece.Piece.{Piece}
 use Rattle.rv_pieces.specs.declared.piece.Piece.TheVariants.{Descriptor}
 use Rattle.image_form.specs.Tables.{Tables}
-use Rattle.linear_machine.specs.View.{Fixed}
+use Rattle.lin_machine.specs.View.{Fixed}
 use Rattle.line_stands.specs.Parts.{PartStands, label_place}
-use Rattle.tidy_rules.proofs.TurningShape.{not_same}
+use Rattle.lin_tidy_rules.proofs.TurningShape.{not_same}
 use Rattle.function_stands.proofs.Splitting.{has_first, has_second, reach_first, reach_second, words_both, words_first}
 
 -- ---- places

@@ -2,14 +2,14 @@
 use Rattle.std.proofs.Common.{◌≡◌, ℕ, ◌+◌, ◌<◌, Bool, false, cond, List, [], ◌∷◌, ◌++◌, length, Option, None, refl, sym, ap, ◌∙◌, subst, arith}
 use Rattle.std.specs.List.{AllByRecursion}
 use Rattle.std.proofs.lemmas.Bool.{eq-eqb}
-use Rattle.emit_rules.specs.Emitted.{descriptor, part_before, part_of_line, parts_of_lines}
-use Rattle.emit_rules.specs.Entry.{FrameLayout}
-use Rattle.emit_rules.specs.Traversal.{Allows, EachPiece, each_more}
-use Rattle.emit_rules.specs.Units.{is_free_exit}
-use Rattle.emit_rules.proofs.Traverse.{part-in}
-use Rattle.emit_rules.proofs.Units.{part_unless_free}
-use Rattle.layout_rules.specs.declared.form.Form.{Form}
-use Rattle.layout_rules.specs.Forms.{total_words, piece_words}
+use Rattle.rv_emit_rules.specs.Emitted.{descriptor, part_before, part_of_line, parts_of_lines}
+use Rattle.rv_emit_rules.specs.Entry.{FrameLayout}
+use Rattle.rv_emit_rules.specs.Traversal.{Allows, EachPiece, each_more}
+use Rattle.rv_emit_rules.specs.Units.{is_free_exit}
+use Rattle.rv_emit_rules.proofs.Traverse.{part-in}
+use Rattle.rv_emit_rules.proofs.Units.{part_unless_free}
+use Rattle.rv_layout_rules.specs.declared.form.Form.{Form}
+use Rattle.rv_layout_rules.specs.Forms.{total_words, piece_words}
 use Rattle.lin_ir.specs.Meaning.{passes_frame}
 use Rattle.lin_ir.specs.Walks.{StandsAsLine, here, below}
 use Rattle.lin_ir.specs.declared.descr.Descr.{Descr}
@@ -17,15 +17,15 @@ use Rattle.lin_ir.specs.declared.lin.Line.{Line}
 use Rattle.lin_ir.specs.declared.lin.LinOp.{LinOp}
 use Rattle.lin_ir.specs.declared.lin.LinOp.TheVariants as lin
 use Rattle.line_calls.specs.Points.{AreMarked, IsDescriptorFound}
-use Rattle.linear_machine.specs.View.{Fixed}
-use Rattle.linear_rules.proofs.Homes.{IsIn, is_first, is_later}
+use Rattle.lin_machine.specs.View.{Fixed}
+use Rattle.linearise_rules.proofs.Homes.{IsIn, is_first, is_later}
 use Rattle.mach_ir.specs.declared.op.Calling.TheVariants as calling
 use Rattle.mach_ir.specs.declared.op.External.{External}
 use Rattle.mach_ir.specs.declared.op.Op.TheVariants as op
 use Rattle.rv_isa.specs.declared.register.Register.TheVariants.{T0}
 use Rattle.rv_pieces.specs.declared.piece.Piece.{Piece}
 use Rattle.rv_pieces.specs.declared.piece.Piece.TheVariants.{Known, Label, Branch, Jump, Row, LabelAddress, Call, TailCall, SymbolAddress, ExternalNumber, Descriptor}
-use Rattle.tidy_rules.proofs.TurningShape.{not_same}
+use Rattle.lin_tidy_rules.proofs.TurningShape.{not_same}
 use Rattle.function_stands.proofs.Parts.{AreFound, IsFound, descriptor_of, left_in, part_in, shorter}
 
 -- ---- marks

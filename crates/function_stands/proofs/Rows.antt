@@ -6,8 +6,8 @@ use Rattle.std.proofs.lemmas.List.Folds.{find_at}
 use Rattle.std.proofs.lemmas.Slice.Eq.{bytes_eq-Decides}
 use Rattle.bs_words.specs.External.{External}
 use Rattle.image_form.specs.Image.{comp_byte, ret_byte}
-use Rattle.layout_rules.specs.Externals.{external_number, same_row}
-use Rattle.linear_rules.proofs.Homes.{IsIn, is_first, is_later}
+use Rattle.rv_layout_rules.specs.Externals.{external_number, same_row}
+use Rattle.linearise_rules.proofs.Homes.{IsIn, is_first, is_later}
 use Rattle.laid_files.proofs.Laid.{ret_same, comps_same}
 
 -- what two calls of one row have alike

@@ -1,12 +1,12 @@
 -- Pieces that are in the code, cut in two.
 use Rattle.std.proofs.Common.{◌≡◌, ℕ, ◌+◌, ◌≤◌, List, [], ◌∷◌, ◌++◌, length, take, drop, refl, ap, subst, arith}
-use Rattle.emit_rules.specs.Sizes.{least_words, words_at_least}
-use Rattle.layout_rules.specs.declared.form.Form.{Form}
-use Rattle.layout_rules.specs.declared.form.Form.TheVariants.{Near, Middle, Far}
-use Rattle.layout_rules.specs.Forms.{ReachFrom, total_words, piece_words}
-use Rattle.layout_rules.specs.Stands.{HasPieces}
-use Rattle.layout_rules.specs.Words.{NameAddresses}
-use Rattle.layout_rules.proofs.Rules.{branch_some, jump_some}
+use Rattle.rv_emit_rules.specs.Sizes.{least_words, words_at_least}
+use Rattle.rv_layout_rules.specs.declared.form.Form.{Form}
+use Rattle.rv_layout_rules.specs.declared.form.Form.TheVariants.{Near, Middle, Far}
+use Rattle.rv_layout_rules.specs.Forms.{ReachFrom, total_words, piece_words}
+use Rattle.rv_layout_rules.specs.Stands.{HasPieces}
+use Rattle.rv_layout_rules.specs.Words.{NameAddresses}
+use Rattle.rv_layout_rules.proofs.Rules.{branch_some, jump_some}
 use Rattle.rv_pieces.specs.declared.piece.Piece.{Piece}
 use Rattle.rv_pieces.specs.declared.piece.Piece.TheVariants.{Known, Label, Branch, Jump, Row, LabelAddress, Call, TailCall, SymbolAddress, ExternalNumber, Descriptor}
 

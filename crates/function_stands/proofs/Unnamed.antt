@@ -11,10 +11,10 @@ use Rattle.lin_ir.specs.declared.lin.Line.{Line}
 use Rattle.lin_ir.specs.declared.lin.Lin.{Lin}
 use Rattle.lin_ir.specs.declared.lin.Spot.{Spot}
 use Rattle.line_stands.specs.Lines.{Nowhere, SparePasses}
-use Rattle.linear_rules.proofs.Homes.{IsIn, contains_of, in_of, is_one_of}
-use Rattle.linear_rules.proofs.Marks.{all_in}
-use Rattle.linear_rules.proofs.Walked.{not_spare}
-use Rattle.tidy_rules.specs.Regular.{AtHomes}
+use Rattle.linearise_rules.proofs.Homes.{IsIn, contains_of, in_of, is_one_of}
+use Rattle.linearise_rules.proofs.Marks.{all_in}
+use Rattle.linearise_rules.proofs.Walked.{not_spare}
+use Rattle.lin_tidy_rules.specs.Regular.{AtHomes}
 
 at_no_home : (m : Lin) (spots : List Spot) (t : Comp) → AtHomes m spots → Contains spots (record { loc = spare; comp = t }) → ⊥
 at_no_home m spots t homes among = not_spare (all_in (λ (s : Spot). IsHome m s.loc) homes (in_of (record { loc = spare; comp = t }) spots among)) refl

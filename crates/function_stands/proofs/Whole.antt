@@ -9,21 +9,21 @@ use Rattle.bs_words.specs.declared.values.Value.TheVariants.{Word, Block, Functi
 use Rattle.cmm_data.specs.Placement.{value_of_symbol}
 use Rattle.cmm_meaning.specs.Setting.{Setting}
 use Rattle.cmm_tree.specs.Tree.{FileTree, FunctionTree, functions}
-use Rattle.emit_rules.specs.Emitted.{emitted, part_of_line, parts_of_lines}
-use Rattle.emit_rules.specs.Entry.{FrameLayout, entry_pieces, frame_of}
-use Rattle.emit_rules.specs.Named.{IsExternalOf}
-use Rattle.emit_rules.specs.Units.{is_free_exit, tests_first}
+use Rattle.rv_emit_rules.specs.Emitted.{emitted, part_of_line, parts_of_lines}
+use Rattle.rv_emit_rules.specs.Entry.{FrameLayout, entry_pieces, frame_of}
+use Rattle.rv_emit_rules.specs.Named.{IsExternalOf}
+use Rattle.rv_emit_rules.specs.Units.{is_free_exit, tests_first}
 use Rattle.image_form.specs.Image.{stub_words, code_limit}
 use Rattle.image_form.specs.Tables.{Desc, Tables}
-use Rattle.layout_rules.specs.declared.form.Form.{Form}
-use Rattle.layout_rules.specs.Conditions.{IsFunctionLaid, AreNamesPresent}
-use Rattle.layout_rules.specs.Externals.{externals}
-use Rattle.layout_rules.specs.Forms.{ReachFrom, label_from, label_word_offset, place_or_entry, total_words}
-use Rattle.layout_rules.specs.Laid.{address_of_place, address_of_value, descs_in, function_entries_from, addresses_named_at}
-use Rattle.layout_rules.specs.Stands as layout
-use Rattle.layout_rules.specs.Stands.{HasPieces}
-use Rattle.layout_rules.specs.Words.{NameAddresses}
-use Rattle.layout_rules.proofs.Functions.{stands}
+use Rattle.rv_layout_rules.specs.declared.form.Form.{Form}
+use Rattle.rv_layout_rules.specs.Conditions.{IsFunctionLaid, AreNamesPresent}
+use Rattle.rv_layout_rules.specs.Externals.{externals}
+use Rattle.rv_layout_rules.specs.Forms.{ReachFrom, label_from, label_word_offset, place_or_entry, total_words}
+use Rattle.rv_layout_rules.specs.Laid.{address_of_place, address_of_value, descs_in, function_entries_from, addresses_named_at}
+use Rattle.rv_layout_rules.specs.Stands as layout
+use Rattle.rv_layout_rules.specs.Stands.{HasPieces}
+use Rattle.rv_layout_rules.specs.Words.{NameAddresses}
+use Rattle.rv_layout_rules.proofs.Functions.{stands}
 use Rattle.lin_ir.specs.Descriptors.{IsDescr, NamesLives, frame_bytes, has_frame_point}
 use Rattle.lin_ir.specs.Formed.{IsFormedLine, Locates, WellFormed, labels_in}
 use Rattle.lin_ir.specs.Meaning.{NamedAt, after_label, passes_frame}
@@ -36,13 +36,13 @@ use Rattle.line_calls.proofs.Shown.{each_at}
 use Rattle.line_stands.specs.Lines.{FreeStands, LineStands, Nowhere, OffsetFits}
 use Rattle.line_stands.specs.Names.{IsRowAt, NamesStand}
 use Rattle.line_stands.specs.Parts.{PartStands, label_place}
-use Rattle.linear_machine.specs.Relation.{Laid, StandsFor}
-use Rattle.linear_machine.specs.View.{Fixed}
-use Rattle.linear_rules.proofs.Homes.{IsIn, in_of}
-use Rattle.linear_rules.proofs.Marks.{all_in}
-use Rattle.emit_rules.proofs.Names.{stands-contains}
-use Rattle.emit_rules.proofs.Units.{free_is_exit, part_unless_free, falls_tests}
-use Rattle.linear_rules.proofs.Walked.{Tail, stands_tail, tail_next}
+use Rattle.lin_machine.specs.Relation.{Laid, StandsFor}
+use Rattle.lin_machine.specs.View.{Fixed}
+use Rattle.linearise_rules.proofs.Homes.{IsIn, in_of}
+use Rattle.linearise_rules.proofs.Marks.{all_in}
+use Rattle.rv_emit_rules.proofs.Names.{stands-contains}
+use Rattle.rv_emit_rules.proofs.Units.{free_is_exit, part_unless_free, falls_tests}
+use Rattle.linearise_rules.proofs.Walked.{Tail, stands_tail, tail_next}
 use Rattle.mach_ir.specs.Acts.{On, external_row}
 use Rattle.mach_ir.specs.declared.op.External.{External}
 use Rattle.made_functions.specs.Chained.{IsChained}

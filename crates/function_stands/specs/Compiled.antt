@@ -6,8 +6,8 @@ use Rattle.cmm_meaning.specs.Setting.{Setting}
 use Rattle.cmm_tree.specs.Tree.{FileTree}
 use Rattle.image_form.specs.Image.{code_limit}
 use Rattle.image_form.specs.Tables.{Tables}
-use Rattle.layout_rules.specs.Conditions.{CanBeLaid}
-use Rattle.layout_rules.specs.Laid.{IsLaid}
+use Rattle.rv_layout_rules.specs.Conditions.{CanBeLaid}
+use Rattle.rv_layout_rules.specs.Laid.{IsLaid}
 use Rattle.rv_pieces.specs.declared.piece.Pieces.{Pieces}
 
 -- The image is that of the file, whose functions are these pieces in order, and the setting is the

@@ -2,11 +2,11 @@
 use Rattle.std.specs.Prelude.{◌≡◌, ℕ, ◌+◌, ◌-◌, ◌/◌, ◌≤◌, true, false, List, ◌∷◌, length, Option, slice_index}
 use Rattle.cmm_meaning.specs.Setting.{Setting}
 use Rattle.correctness.specs.Setting.{layout_of}
-use Rattle.emit_rules.specs.Entry.{entry_pieces, frame_of}
-use Rattle.emit_rules.specs.Units.{is_free_exit}
+use Rattle.rv_emit_rules.specs.Entry.{entry_pieces, frame_of}
+use Rattle.rv_emit_rules.specs.Units.{is_free_exit}
 use Rattle.image_form.specs.Image.{stub_words}
 use Rattle.image_form.specs.Tables.{Tables}
-use Rattle.layout_rules.specs.Words.{NameAddresses}
+use Rattle.rv_layout_rules.specs.Words.{NameAddresses}
 use Rattle.lin_ir.specs.Meaning.{NamedAt}
 use Rattle.lin_ir.specs.Walks.{Reached, StandsAsLine}
 use Rattle.lin_ir.specs.declared.descr.Descr.{Descr}
@@ -15,8 +15,8 @@ use Rattle.lin_ir.specs.declared.lin.Line.{Line}
 use Rattle.line_calls.specs.Points.{IsTurn, PointStands}
 use Rattle.line_stands.specs.Lines.{FreeStands, LineStands, Nowhere}
 use Rattle.line_stands.specs.Parts.{PartStands}
-use Rattle.linear_machine.specs.Relation.{Laid}
-use Rattle.linear_machine.specs.View.{Fixed}
+use Rattle.lin_machine.specs.Relation.{Laid}
+use Rattle.lin_machine.specs.View.{Fixed}
 use Rattle.moving_laws.specs.Values.{function_at}
 use Rattle.rv_machine.specs.Memory.{code_start}
 

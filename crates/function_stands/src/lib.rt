@@ -11,7 +11,7 @@ ghost use Rattle.function_stands.specs.Compiled.{IsImageOfPieces};
 ghost use Rattle.function_stands.specs.Functions.{FunctionStands, entry_place};
 ghost use Rattle.image_form.specs.Image.{stub_words};
 ghost use Rattle.image_form.specs.Tables.{Func, Tables};
-ghost use Rattle.layout_rules.specs.Laid.{function_entries_from};
+ghost use Rattle.rv_layout_rules.specs.Laid.{function_entries_from};
 ghost use Rattle.lin_ir.specs.Descriptors.{NamesLives};
 ghost use Rattle.lin_ir.specs.Meaning.{NamedAt};
 ghost use Rattle.lin_ir.specs.declared.descr.Descr.{Descr};

@@ -10,7 +10,7 @@ use Rattle.mach_ir.specs.declared.reg.Reg.{Reg}
 use Rattle.mach_ir.specs.declared.mach.Instr.{Instr}
 use Rattle.mach_ir.specs.declared.mach.Mach.{Mach}
 use Rattle.mach_laws.specs.Expand.{expand}
-use Rattle.dead_rules.specs.Dropped.{may_go}
+use Rattle.deadcode_rules.specs.Dropped.{may_go}
 use Rattle.hoist_rules.specs.Hoisted.{hoisted_instruction}
 use Rattle.hoist_rules.specs.Chosen.{AreChosen, HasConstantsFirst}
 use Rattle.hoist.specs.Constants.{makes_wide}

@@ -4,7 +4,7 @@ use Rattle.std.proofs.lemmas.Bool.{true≢false}
 use Rattle.mach_ir.specs.Walks.{StandsAsInstr, here, below}
 use Rattle.mach_ir.specs.declared.mach.Instr.{Instr}
 use Rattle.mach_laws.specs.Expand.{expand}
-use Rattle.dead_rules.specs.Dropped.{may_go, unless_dropped}
+use Rattle.deadcode_rules.specs.Dropped.{may_go, unless_dropped}
 use Rattle.hoist_rules.specs.Hoisted.{hoisted_instruction}
 use Rattle.hoist.specs.Moves.{moves_by, left}
 

@@ -14,9 +14,9 @@ use Rattle.mach_laws.proofs.Places.{tries_expand}
 use Rattle.pass_rules.specs.Carried.{OffsetFits, IsCarried}
 use Rattle.pass_rules.specs.Measures.{instr_words, code_words, one_if_true, code_points, exit_count, operands_with, other_operands}
 use Rattle.pass_rules.proofs.Carried.{exit_one, ends_second}
-use Rattle.dead_rules.specs.Dropped.{unless_dropped}
-use Rattle.dead_rules.proofs.Left.{IsMain, was_main, still_ends, tries_here}
-use Rattle.dead_rules.proofs.Text.{keeps_marks}
+use Rattle.deadcode_rules.specs.Dropped.{unless_dropped}
+use Rattle.deadcode_rules.proofs.Left.{IsMain, was_main, still_ends, tries_here}
+use Rattle.deadcode_rules.proofs.Text.{keeps_marks}
 use Rattle.bs_words.proofs.Lists.{tail_same}
 use Rattle.hoist_rules.specs.Hoisted.{hoisted_instruction, hoisted, MayAllMove, IsHoisted, IsHoistKept}
 use Rattle.hoist_rules.proofs.Moved as at_entry_of

@@ -5,7 +5,7 @@ use Rattle.mach_ir.specs.Walks.{StandsAsInstr, here, below}
 use Rattle.mach_ir.specs.declared.mach.Instr.{Instr}
 use Rattle.mach_ir.specs.declared.mach.Mach.{Mach}
 use Rattle.mach_laws.specs.Expand.{expand}
-use Rattle.dead_rules.specs.Dropped.{may_go, unless_dropped}
+use Rattle.deadcode_rules.specs.Dropped.{may_go, unless_dropped}
 use Rattle.bs_words.proofs.Truths.{bool_same}
 use Rattle.hoist_rules.specs.Hoisted.{hoisted_instruction, IsHoisted, IsHoistKept}
 use Rattle.hoist_rules.specs.Chosen.{HasConstantsFirst}

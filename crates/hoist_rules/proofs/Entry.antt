@@ -28,7 +28,7 @@ use Rattle.mach_laws.proofs.General.{at}
 use Rattle.mach_laws.proofs.Simulate.{Agrees}
 use Rattle.mach_laws.proofs.Runs.{running_same}
 use Rattle.mach_laws.proofs.Files.{put_other}
-use Rattle.places_rules.proofs.Files.{put_here}
+use Rattle.colouring_rules.proofs.Files.{put_here}
 use Rattle.hoist_rules.specs.Hoisted.{FitsAlways, an_int, an_odd_val, MayMove, hoisted, MayAllMove}
 use Rattle.hoist_rules.proofs.Moved as at_entry_of
 use Rattle.hoist_rules.proofs.Moved.{member}

@@ -29,10 +29,10 @@ use Rattle.mach_laws.proofs.Simulate.{Agrees}
 use Rattle.mach_laws.proofs.Among.{left_among, right_among, among_or_not}
 use Rattle.mach_laws.proofs.Files.{put_other}
 use Rattle.mach_laws.proofs.Raised.{IsSilent, told}
-use Rattle.places_rules.proofs.Files.{past_same, cleared, not_cleared, put_here, PutsBoth, put_both}
-use Rattle.dead_rules.specs.Dropped.{may_go, unless_dropped}
-use Rattle.dead_rules.proofs.Left.{tries_here, label_is}
-use Rattle.dead_rules.proofs.Text.{pure_of, pure_no_frame, Fate, falls, remains, fate, keeps_marks}
+use Rattle.colouring_rules.proofs.Files.{past_same, cleared, not_cleared, put_here, PutsBoth, put_both}
+use Rattle.deadcode_rules.specs.Dropped.{may_go, unless_dropped}
+use Rattle.deadcode_rules.proofs.Left.{tries_here, label_is}
+use Rattle.deadcode_rules.proofs.Text.{pure_of, pure_no_frame, Fate, falls, remains, fate, keeps_marks}
 use Rattle.hoist_rules.specs.Hoisted.{MayMove, hoisted, MayAllMove}
 use Rattle.hoist_rules.proofs.Moved as at_entry_of
 use Rattle.hoist_rules.proofs.Live as live

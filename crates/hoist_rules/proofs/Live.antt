@@ -15,10 +15,10 @@ use Rattle.mach_ir.specs.declared.mach.Mach.{Mach}
 use Rattle.mach_laws.specs.Expand.{expand, Ending, all}
 use Rattle.mach_laws.proofs.Places.{ending_of}
 use Rattle.mach_laws.proofs.Among.{split_among}
-use Rattle.dead_rules.specs.Dropped.{may_go, unless_dropped}
-use Rattle.dead_rules.proofs.Left as what_is_left
-use Rattle.dead_rules.proofs.Left.{IsMain, was_main, code_back, label_is, handler_is, first_kept, gone_reached, WasReached, reached_on, reached_aside, GoesBack}
-use Rattle.dead_rules.proofs.Text.{pure_of, pure_on, pure_only, pure_quiet, pure_no_frame}
+use Rattle.deadcode_rules.specs.Dropped.{may_go, unless_dropped}
+use Rattle.deadcode_rules.proofs.Left as what_is_left
+use Rattle.deadcode_rules.proofs.Left.{IsMain, was_main, code_back, label_is, handler_is, first_kept, gone_reached, WasReached, reached_on, reached_aside, GoesBack}
+use Rattle.deadcode_rules.proofs.Text.{pure_of, pure_on, pure_only, pure_quiet, pure_no_frame}
 use Rattle.hoist_rules.specs.Hoisted.{MayMove, hoisted, MayAllMove}
 use Rattle.hoist_rules.proofs.Moved as at_entry_of
 

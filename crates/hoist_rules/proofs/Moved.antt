@@ -11,8 +11,8 @@ use Rattle.mach_ir.specs.declared.mach.Mach.{Mach}
 use Rattle.mach_laws.specs.Expand.{expand, Ending, all}
 use Rattle.mach_laws.proofs.Places.{ending_next, stands_of, shorter}
 use Rattle.mach_laws.proofs.Among.{none_among, left_among, among_or_not}
-use Rattle.dead_rules.specs.Dropped.{may_go, unless_dropped}
-use Rattle.dead_rules.proofs.Text.{pure_of, pure_kills}
+use Rattle.deadcode_rules.specs.Dropped.{may_go, unless_dropped}
+use Rattle.deadcode_rules.proofs.Text.{pure_of, pure_kills}
 use Rattle.bs_words.proofs.Lists.{first_in, later_in}
 use Rattle.hoist_rules.specs.Hoisted.{MayMove, hoisted_instruction, hoisted, MayAllMove}
 

@@ -26,9 +26,9 @@ use Rattle.mach_laws.proofs.Places.{ending_next, stands_of, stands_behind, stand
 use Rattle.pass_rules.proofs.Formed.{ComesFrom, is_new, stood, KeepsPlaces}
 use Rattle.pass_rules.proofs.Formed as places
 use Rattle.pass_rules.proofs.Words.{both_sum}
-use Rattle.dead_rules.specs.Dropped.{may_go, unless_dropped}
-use Rattle.dead_rules.proofs.Left.{IsMain, contains_left, place_left, handler_left, tries_before, run_back, label_is, handler_is}
-use Rattle.dead_rules.proofs.Text.{pure_of, pure_straight, mark_stays, Fate, falls, remains, fate, same_labels}
+use Rattle.deadcode_rules.specs.Dropped.{may_go, unless_dropped}
+use Rattle.deadcode_rules.proofs.Left.{IsMain, contains_left, place_left, handler_left, tries_before, run_back, label_is, handler_is}
+use Rattle.deadcode_rules.proofs.Text.{pure_of, pure_straight, mark_stays, Fate, falls, remains, fate, same_labels}
 use Rattle.hoist_rules.specs.Hoisted.{MayMove, hoisted_instruction, hoisted, MayAllMove}
 use Rattle.hoist_rules.proofs.Moved as at_entry_of
 use Rattle.hoist_rules.proofs.Live as live

@@ -5,14 +5,14 @@ use Rattle.std.specs.List.{AllByRecursion}
 use Rattle.std.proofs.lemmas.List.Sums.{sum_by-cons}
 use Rattle.std.proofs.lemmas.List.Elements.{Contains-append_right, recursion_from_All}
 use Rattle.bs_words.specs.declared.types.Loc.{Loc}
-use Rattle.emit_rules.specs.Emitted.{part_before, parts_of_lines, descriptor, left_after, emitted}
-use Rattle.emit_rules.specs.Entry.{FrameLayout, frame_of, entry_pieces}
-use Rattle.emit_rules.specs.Sizes.{least_words, words_at_least}
-use Rattle.emit_rules.specs.Units.{is_free_exit}
-use Rattle.emit_rules.proofs.Acts.{ActsAt, part_acts, falls_act}
-use Rattle.emit_rules.proofs.Units.{free_is_exit, part_unless_free}
+use Rattle.rv_emit_rules.specs.Emitted.{part_before, parts_of_lines, descriptor, left_after, emitted}
+use Rattle.rv_emit_rules.specs.Entry.{FrameLayout, frame_of, entry_pieces}
+use Rattle.rv_emit_rules.specs.Sizes.{least_words, words_at_least}
+use Rattle.rv_emit_rules.specs.Units.{is_free_exit}
+use Rattle.rv_emit_rules.proofs.Acts.{ActsAt, part_acts, falls_act}
+use Rattle.rv_emit_rules.proofs.Units.{free_is_exit, part_unless_free}
 use Rattle.image_form.specs.Image.{First, EachNext, IsEntry, IsNextEntry}
-use Rattle.layout_rules.specs.Conditions.{IsDescriptor}
+use Rattle.rv_layout_rules.specs.Conditions.{IsDescriptor}
 use Rattle.lin_ir.specs.Descriptors.{AreExact, ComesBefore, Describes, FitsDescriptors, frame_bytes, has_frame_point, of_register, of_slot, register_first, rising}
 use Rattle.lin_ir.specs.Descriptors as descriptors
 use Rattle.lin_ir.specs.Formed.{IsHome, is_colour, is_slot}
@@ -24,8 +24,8 @@ use Rattle.lin_ir.specs.declared.lin.Lin.{Lin}
 use Rattle.lin_ir.specs.declared.lin.Line.{Line}
 use Rattle.lin_ir.specs.declared.lin.LinOp.{LinOp}
 use Rattle.lin_ir.specs.declared.lin.LinOp.TheVariants as lin
-use Rattle.linear_pass.specs.Linear.{NamesHomes}
-use Rattle.tidy_rules.proofs.Living.{live_home}
+use Rattle.lin_pass.specs.Linear.{NamesHomes}
+use Rattle.lin_tidy_rules.proofs.Living.{live_home}
 use Rattle.mach_ir.specs.Acts.{On}
 use Rattle.mach_ir.specs.Placed.{colour_numbers}
 use Rattle.mach_ir.specs.Walks.{OneOf, this}
@@ -34,7 +34,7 @@ use Rattle.mach_ir.specs.declared.op.Pure.TheVariants as pure
 use Rattle.rv_pieces.specs.Named.{has_words}
 use Rattle.rv_pieces.specs.declared.piece.Piece.{Piece}
 use Rattle.rv_pieces.specs.declared.piece.Piece.TheVariants as piece
-use Rattle.tidy_rules.specs.Regular.{IsRegular}
+use Rattle.lin_tidy_rules.specs.Regular.{IsRegular}
 use Rattle.laid_files.proofs.Marks.{words_both}
 
 -- ---- some instruction

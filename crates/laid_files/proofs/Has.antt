@@ -4,12 +4,12 @@ use Rattle.std.specs.List.{AllByRecursion}
 use Rattle.cmm_tree.specs.Tree.{FunctionTree, FileTree, functions}
 use Rattle.image_form.specs.Image.{AreTables, stub, stub_words}
 use Rattle.image_form.specs.Tables.{Tables, Func}
-use Rattle.image_rules.proofs.Whole.{total_some}
-use Rattle.layout_rules.specs.declared.form.Form.{Form}
-use Rattle.layout_rules.specs.Conditions.{CanBeLaid, IsFunctionLaid}
-use Rattle.layout_rules.specs.Forms.{total_words, label_word_offset}
-use Rattle.layout_rules.specs.Laid.{function_entries_from, function_words, code_from, rows_from, AllReach, IsLaid}
-use Rattle.layout_rules.proofs.Functions.{forms_length, function_length}
+use Rattle.assemble_rules.proofs.Whole.{total_some}
+use Rattle.rv_layout_rules.specs.declared.form.Form.{Form}
+use Rattle.rv_layout_rules.specs.Conditions.{CanBeLaid, IsFunctionLaid}
+use Rattle.rv_layout_rules.specs.Forms.{total_words, label_word_offset}
+use Rattle.rv_layout_rules.specs.Laid.{function_entries_from, function_words, code_from, rows_from, AllReach, IsLaid}
+use Rattle.rv_layout_rules.proofs.Functions.{forms_length, function_length}
 use Rattle.moving_laws.specs.Values.{HasFunctions, function_at}
 use Rattle.rv_machine.specs.Memory.{code_start}
 use Rattle.rv_pieces.specs.declared.piece.Pieces.{Pieces}

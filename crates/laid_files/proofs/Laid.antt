@@ -18,14 +18,14 @@ use Rattle.cmm_front.specs.FileOf.{IsFileOf}
 use Rattle.cmm_tree.specs.Tree.{FunctionTree, FileTree, functions}
 use Rattle.cmm_types.specs.Types.{with_parameters}
 use Rattle.cmm_types.proofs.Containing.{contains_none, contains_cases}
-use Rattle.emit_rules.specs.Emitted.{emitted}
-use Rattle.emit_rules.specs.Named.{IsLabelOf, IsExternalOf}
-use Rattle.emit_rules.specs.Traversal.{EachPiece, each_more}
-use Rattle.emit_rules.proofs.Names.{numbers_fit, labels_are_named, symbols_are_named, externals_are_named, places_are_labels, named_labels_stand}
+use Rattle.rv_emit_rules.specs.Emitted.{emitted}
+use Rattle.rv_emit_rules.specs.Named.{IsLabelOf, IsExternalOf}
+use Rattle.rv_emit_rules.specs.Traversal.{EachPiece, each_more}
+use Rattle.rv_emit_rules.proofs.Names.{numbers_fit, labels_are_named, symbols_are_named, externals_are_named, places_are_labels, named_labels_stand}
 use Rattle.image_form.specs.Image.{comp_byte, ret_byte}
-use Rattle.layout_rules.specs.Conditions.{AreNamesPresent, IsFunctionLaid}
-use Rattle.layout_rules.specs.Externals.{calls_in_function, all_calls, same_row, is_among_externals, firsts_behind, externals}
-use Rattle.layout_rules.specs.Forms.{is_label_piece}
+use Rattle.rv_layout_rules.specs.Conditions.{AreNamesPresent, IsFunctionLaid}
+use Rattle.rv_layout_rules.specs.Externals.{calls_in_function, all_calls, same_row, is_among_externals, firsts_behind, externals}
+use Rattle.rv_layout_rules.specs.Forms.{is_label_piece}
 use Rattle.lin_ir.specs.Descriptors.{NamesLives}
 use Rattle.lin_ir.specs.Keeps.{IsNamedIn, LinearKeeps}
 use Rattle.lin_ir.specs.Meaning.{NamedAt}

@@ -2,19 +2,19 @@
 use Rattle.std.proofs.Common.{◌≡◌, ℕ, ◌+◌, ◌≤◌, Bool, true, false, List, [], ◌∷◌, ◌++◌, length, Some, None, refl, sym, ◌∙◌, arith}
 use Rattle.std.proofs.lemmas.Bool.{true≢false}
 use Rattle.std.specs.List.{AllByRecursion}
-use Rattle.emit_rules.specs.Calls.{call_words, external_words}
-use Rattle.emit_rules.specs.Emitted.{part_of_line, part_before, parts_of_lines, descriptor, left_after, emitted}
-use Rattle.emit_rules.specs.Entry.{FrameLayout, frame_of, entry_pieces}
-use Rattle.emit_rules.specs.Memory.{reserved, addresses}
-use Rattle.emit_rules.specs.Constants.{bytes_taken_off}
-use Rattle.emit_rules.specs.Instructions.{load_piece, calls_at}
-use Rattle.emit_rules.specs.Slots.{first_location, register_of, fetch_pieces}
-use Rattle.emit_rules.specs.Sizes.{least_words, words_at_least}
-use Rattle.emit_rules.specs.Traversal.{EachPiece, each_none, each_more}
-use Rattle.emit_rules.proofs.Traverse.{entry-in, part-in, before-in}
-use Rattle.emit_rules.proofs.Units.{free_passes_no_frame, part_by}
-use Rattle.emit_rules.proofs.Descriptors.{allows-unmarked, NoMark}
-use Rattle.layout_rules.specs.Conditions.{AreDescriptors, IsDescriptor}
+use Rattle.rv_emit_rules.specs.Calls.{call_words, external_words}
+use Rattle.rv_emit_rules.specs.Emitted.{part_of_line, part_before, parts_of_lines, descriptor, left_after, emitted}
+use Rattle.rv_emit_rules.specs.Entry.{FrameLayout, frame_of, entry_pieces}
+use Rattle.rv_emit_rules.specs.Memory.{reserved, addresses}
+use Rattle.rv_emit_rules.specs.Constants.{bytes_taken_off}
+use Rattle.rv_emit_rules.specs.Instructions.{load_piece, calls_at}
+use Rattle.rv_emit_rules.specs.Slots.{first_location, register_of, fetch_pieces}
+use Rattle.rv_emit_rules.specs.Sizes.{least_words, words_at_least}
+use Rattle.rv_emit_rules.specs.Traversal.{EachPiece, each_none, each_more}
+use Rattle.rv_emit_rules.proofs.Traverse.{entry-in, part-in, before-in}
+use Rattle.rv_emit_rules.proofs.Units.{free_passes_no_frame, part_by}
+use Rattle.rv_emit_rules.proofs.Descriptors.{allows-unmarked, NoMark}
+use Rattle.rv_layout_rules.specs.Conditions.{AreDescriptors, IsDescriptor}
 use Rattle.lin_ir.specs.Meaning.{passes_frame}
 use Rattle.lin_ir.specs.declared.descr.Descr.{Descr}
 use Rattle.lin_ir.specs.declared.lin.Lin.{Lin}

@@ -9,12 +9,12 @@ use Rattle.lin_ir.specs.declared.lin.Spot.{Spot}
 use Rattle.rv_isa.specs.declared.register.Register.{Register}
 use Rattle.rv_isa.specs.declared.register.Register.TheVariants.{T1, T2, S10}
 use Rattle.rv_pieces.specs.declared.piece.Piece.{Piece}
-use Rattle.emit_rules.specs.Constants.{constant_pieces, sum_to, bytes_taken_off}
-use Rattle.emit_rules.specs.Memory.{addresses}
-use Rattle.emit_rules.specs.Slots.{stack_load, stack_store, slot_offset, fetch_pieces, target, keep_pieces}
-use Rattle.emit_rules.specs.Traversal.{EachPiece, each_none, each_more}
-use Rattle.emit_rules.specs.Values.{Makes, makes_first, makes_upper, makes_lower, makes_sum, makes_shift}
-use Rattle.emit_rules.proofs.Values.{constant_is_made}
+use Rattle.rv_emit_rules.specs.Constants.{constant_pieces, sum_to, bytes_taken_off}
+use Rattle.rv_emit_rules.specs.Memory.{addresses}
+use Rattle.rv_emit_rules.specs.Slots.{stack_load, stack_store, slot_offset, fetch_pieces, target, keep_pieces}
+use Rattle.rv_emit_rules.specs.Traversal.{EachPiece, each_none, each_more}
+use Rattle.rv_emit_rules.specs.Values.{Makes, makes_first, makes_upper, makes_lower, makes_sum, makes_shift}
+use Rattle.rv_emit_rules.proofs.Values.{constant_is_made}
 use Rattle.laid_parts.specs.Laid.{comes_back, some_comes_back}
 
 pub record GoOn (ps : List Piece) : Type 0 where

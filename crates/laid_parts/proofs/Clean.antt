@@ -10,13 +10,13 @@ use Rattle.rv_isa.specs.declared.instr.StoreWidth.{StoreWidth}
 use Rattle.rv_isa.specs.declared.register.Register.{Register}
 use Rattle.rv_isa.specs.declared.register.Register.TheVariants.{Zero, Sp, T1, T2}
 use Rattle.rv_pieces.specs.declared.piece.Piece.{Piece}
-use Rattle.emit_rules.specs.Instructions.{addi, alu_operation, shift_piece, lui, addiw, load_piece, store_piece}
-use Rattle.emit_rules.specs.Constants.{constant_pieces}
-use Rattle.emit_rules.specs.Slots.{far_stack, stack_load}
-use Rattle.emit_rules.specs.Traversal.{EachPiece, each_none, each_more}
-use Rattle.emit_rules.specs.Values.{Makes, makes_first, makes_upper, makes_lower, makes_sum, makes_shift}
-use Rattle.emit_rules.proofs.Values.{constant_is_made}
-use Rattle.linear_rules.specs.Lowered.{is_among_numbers}
+use Rattle.rv_emit_rules.specs.Instructions.{addi, alu_operation, shift_piece, lui, addiw, load_piece, store_piece}
+use Rattle.rv_emit_rules.specs.Constants.{constant_pieces}
+use Rattle.rv_emit_rules.specs.Slots.{far_stack, stack_load}
+use Rattle.rv_emit_rules.specs.Traversal.{EachPiece, each_none, each_more}
+use Rattle.rv_emit_rules.specs.Values.{Makes, makes_first, makes_upper, makes_lower, makes_sum, makes_shift}
+use Rattle.rv_emit_rules.proofs.Values.{constant_is_made}
+use Rattle.linearise_rules.specs.Lowered.{is_among_numbers}
 use Rattle.laid_parts.specs.Named.{piece_targets}
 use Rattle.laid_parts.specs.Stack.{KnownWord, Unknown, Is, FromSp, RegisterForms, plus, form_difference, changed, load_address, store_address, piece_made, word_at, at_first}
 use Rattle.laid_parts.proofs.Words.{Clear, later, joined, nothing, one_still, IsFree, is_unknown, is_constant, IsClean, IsScratch, is_t1, is_t2, is_sp, near_load, far_load}

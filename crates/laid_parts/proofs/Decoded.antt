@@ -2,11 +2,11 @@
 use Rattle.std.proofs.Common.{◌≡◌, ℕ, ◌+◌, ◌%◌, ◌^◌, ◌<◌, Bool, true, false, not, ◌||◌, ◌&&◌, List, [], ◌∷◌, map, Option, Some, refl, ◌∙◌, ap}
 use Rattle.std.specs.List.{AllByRecursion}
 use Rattle.std.proofs.Math.Bool.{and-false, or-false}
-use Rattle.layout_rules.specs.Conditions.{HasAlignedTarget}
-use Rattle.layout_rules.specs.Words.{code_to}
-use Rattle.layout_rules.specs.declared.form.Form.{Form}
-use Rattle.layout_rules.specs.declared.form.Form.TheVariants.{Near, Middle, Far}
-use Rattle.layout_rules.proofs.Standing.{code_fits}
+use Rattle.rv_layout_rules.specs.Conditions.{HasAlignedTarget}
+use Rattle.rv_layout_rules.specs.Words.{code_to}
+use Rattle.rv_layout_rules.specs.declared.form.Form.{Form}
+use Rattle.rv_layout_rules.specs.declared.form.Form.TheVariants.{Near, Middle, Far}
+use Rattle.rv_layout_rules.proofs.Standing.{code_fits}
 use Rattle.rv_isa.specs.Decoding.{decoded}
 use Rattle.rv_isa.specs.Encoding.{InstrFits, encoded}
 use Rattle.rv_isa.specs.declared.instr.Instr.{Instr}
@@ -17,7 +17,7 @@ use Rattle.rv_isa.proofs.RoundTrip.{decoded-encoded}
 use Rattle.rv_pieces.specs.Named.{PieceFits}
 use Rattle.rv_pieces.specs.declared.piece.Piece.{Piece}
 use Rattle.rv_pieces.specs.declared.piece.Piece.TheVariants as piece
-use Rattle.linear_rules.specs.Lowered.{is_among_numbers}
+use Rattle.linearise_rules.specs.Lowered.{is_among_numbers}
 use Rattle.laid_parts.specs.Decoded.{NamesAs, Decodes}
 use Rattle.laid_parts.specs.Laid.{is_reserved}
 use Rattle.laid_parts.specs.Named.{sources, destination_registers, piece_sources}

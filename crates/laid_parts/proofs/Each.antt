@@ -37,15 +37,15 @@ use Rattle.lin_ir.specs.declared.lin.Spot.{Spot}
 use Rattle.rv_isa.specs.Registers.{register_number, register_at}
 use Rattle.rv_pieces.specs.declared.piece.Piece.{Piece}
 use Rattle.rv_pieces.specs.declared.piece.Piece.TheVariants as piece
-use Rattle.emit_rules.specs.Emitted.{part_of_line}
-use Rattle.emit_rules.specs.Entry.{FrameLayout}
-use Rattle.emit_rules.specs.Slots.{first_location, second, fetch_pieces, copy_pieces}
-use Rattle.emit_rules.specs.Tests.{right_words}
-use Rattle.emit_rules.specs.Traps.{raise_bound_error, check_part}
+use Rattle.rv_emit_rules.specs.Emitted.{part_of_line}
+use Rattle.rv_emit_rules.specs.Entry.{FrameLayout}
+use Rattle.rv_emit_rules.specs.Slots.{first_location, second, fetch_pieces, copy_pieces}
+use Rattle.rv_emit_rules.specs.Tests.{right_words}
+use Rattle.rv_emit_rules.specs.Traps.{raise_bound_error, check_part}
 use Rattle.rv_isa.specs.declared.register.Register.TheVariants.{T1}
 use Rattle.lin_laws.proofs.Forms.{length_comps, label_inv, jump_inv, exit_inv, branch_inv, switch_inv, push_inv, pop_inv, enter_inv, same_loc_is}
 use Rattle.mach_ir.proofs.Forms.{symbol_inv, copy_inv, load_inv, store_inv, register_inv}
-use Rattle.linear_rules.specs.Lowered.{is_among_numbers}
+use Rattle.linearise_rules.specs.Lowered.{is_among_numbers}
 use Rattle.mach_laws.proofs.Instructions.{returns_none}
 use Rattle.laid_parts.specs.Laid.{is_reserved, raises_behind, is_branch_piece, up_to_branch, NamesRegisters, MovesNothing, CarriesRegisters, moves_nothing, names}
 use Rattle.laid_parts.specs.Named.{is_source, is_target, piece_targets}

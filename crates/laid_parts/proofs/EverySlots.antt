@@ -15,8 +15,8 @@ use Rattle.lin_ir.specs.declared.lin.LinOp.{LinOp}
 use Rattle.lin_ir.specs.declared.lin.LinOp.TheVariants as lin
 use Rattle.lin_ir.specs.declared.lin.Lin.{Lin}
 use Rattle.lin_ir.specs.declared.lin.Spot.{Spot}
-use Rattle.emit_rules.specs.Emitted.{part_of_line}
-use Rattle.emit_rules.specs.Entry.{FrameLayout, frame_of, return_offset}
+use Rattle.rv_emit_rules.specs.Emitted.{part_of_line}
+use Rattle.rv_emit_rules.specs.Entry.{FrameLayout, frame_of, return_offset}
 use Rattle.laid_parts.specs.Laid.{CarriesSlots, names}
 use Rattle.laid_parts.proofs.Each.{no_move}
 use Rattle.laid_parts.proofs.PureSlots.{frame_holds, pure-slots}

@@ -12,14 +12,14 @@ use Rattle.rv_isa.specs.declared.instr.Instr.TheVariants as instr
 use Rattle.rv_isa.specs.declared.register.Register.TheVariants.{T1, A0}
 use Rattle.rv_pieces.specs.declared.piece.Piece.{Piece}
 use Rattle.rv_pieces.specs.declared.piece.Piece.TheVariants as piece
-use Rattle.emit_rules.specs.Slots.{move_pieces}
-use Rattle.emit_rules.specs.Calls.{call_words}
-use Rattle.emit_rules.specs.Constants.{constant_pieces}
-use Rattle.emit_rules.specs.Memory.{alloc_part}
-use Rattle.emit_rules.specs.Instructions.{addi, lui, calls_at}
-use Rattle.emit_rules.specs.Tests.{branch_part}
-use Rattle.emit_rules.specs.Traps.{raise_bound_error, check_part}
-use Rattle.layout_rules.specs.Words.{far_jump}
+use Rattle.rv_emit_rules.specs.Slots.{move_pieces}
+use Rattle.rv_emit_rules.specs.Calls.{call_words}
+use Rattle.rv_emit_rules.specs.Constants.{constant_pieces}
+use Rattle.rv_emit_rules.specs.Memory.{alloc_part}
+use Rattle.rv_emit_rules.specs.Instructions.{addi, lui, calls_at}
+use Rattle.rv_emit_rules.specs.Tests.{branch_part}
+use Rattle.rv_emit_rules.specs.Traps.{raise_bound_error, check_part}
+use Rattle.rv_layout_rules.specs.Words.{far_jump}
 use Rattle.laid_parts.specs.Decoded.{NamesAs}
 use Rattle.laid_parts.specs.Laid.{behind_branch, leave_at_end, comes_back}
 use Rattle.laid_parts.specs.Named.{is_source, is_target}

@@ -35,13 +35,13 @@ use Rattle.rv_isa.specs.declared.instr.ShiftOp.TheVariants as shifts
 use Rattle.rv_isa.specs.declared.register.Register.{Register}
 use Rattle.rv_isa.specs.declared.register.Register.TheVariants.{Zero, T0, T1, T2}
 use Rattle.rv_pieces.specs.declared.piece.Piece.TheVariants as piece
-use Rattle.emit_rules.specs.Instructions.{addi, alu_operation, shift_piece, auipc, goes_to_address, calls_at, ecall}
+use Rattle.rv_emit_rules.specs.Instructions.{addi, alu_operation, shift_piece, auipc, goes_to_address, calls_at, ecall}
 use Rattle.rv_isa.specs.Registers.{register_at}
-use Rattle.emit_rules.specs.Emitted.{part_of_line}
-use Rattle.emit_rules.specs.Entry.{FrameLayout}
-use Rattle.emit_rules.specs.Calls.{mark_of, call_words, external_words, external_service}
-use Rattle.emit_rules.specs.Slots.{first_location, second, register_of, slot_offset}
-use Rattle.emit_rules.specs.Tests.{signed_branch, unsigned_branch, right_register, right_words, branch_part, value_words, tests_in_turn, table_of_jumps, switch_part}
+use Rattle.rv_emit_rules.specs.Emitted.{part_of_line}
+use Rattle.rv_emit_rules.specs.Entry.{FrameLayout}
+use Rattle.rv_emit_rules.specs.Calls.{mark_of, call_words, external_words, external_service}
+use Rattle.rv_emit_rules.specs.Slots.{first_location, second, register_of, slot_offset}
+use Rattle.rv_emit_rules.specs.Tests.{signed_branch, unsigned_branch, right_register, right_words, branch_part, value_words, tests_in_turn, table_of_jumps, switch_part}
 use Rattle.lin_laws.proofs.Forms.{label_inv, jump_inv, exit_inv, branch_inv, switch_inv}
 use Rattle.laid_parts.specs.Laid.{lies_at, lie_at, NamesSlots}
 use Rattle.laid_parts.proofs.Words.{Chunk, in_part, joined, same, then_none, either, nothing, still, is_t1, is_t2, stack_load-words}

@@ -9,9 +9,9 @@ use Rattle.lin_ir.specs.declared.lin.Line.{Line}
 use Rattle.lin_ir.specs.declared.lin.LinOp.{LinOp}
 use Rattle.lin_ir.specs.declared.lin.LinOp.TheVariants as lin
 use Rattle.lin_ir.specs.declared.lin.Spot.{Spot}
-use Rattle.emit_rules.specs.Emitted.{left_after}
-use Rattle.emit_rules.specs.Units.{is_free_exit}
-use Rattle.emit_rules.proofs.Units.{if_free}
+use Rattle.rv_emit_rules.specs.Emitted.{left_after}
+use Rattle.rv_emit_rules.specs.Units.{is_free_exit}
+use Rattle.rv_emit_rules.proofs.Units.{if_free}
 use Rattle.laid_parts.specs.Laid.{IsPartOf, names, no_mark}
 use Rattle.laid_parts.proofs.Each.{no_move}
 

@@ -30,18 +30,18 @@ use Rattle.rv_isa.specs.declared.register.Register.{Register}
 use Rattle.rv_isa.specs.declared.register.Register.TheVariants.{Ra, Sp, T1, T2, S1, A0}
 use Rattle.rv_pieces.specs.declared.piece.Piece.{Piece}
 use Rattle.rv_pieces.specs.declared.piece.Piece.TheVariants as piece
-use Rattle.emit_rules.specs.Calls.{tail_call_part, return_part}
-use Rattle.emit_rules.specs.Emitted.{part_of_line}
-use Rattle.emit_rules.specs.Entry.{FrameLayout, return_offset, restored, raised_stack_pointer, frame_release}
-use Rattle.emit_rules.specs.Instructions.{addi, mv, alu_operation, lui, load_piece, skip, goes_to_address}
-use Rattle.emit_rules.specs.Slots.{first_location, second, register_of, stack_load, copy_pieces}
-use Rattle.emit_rules.specs.Tests.{right_register, right_words}
-use Rattle.emit_rules.specs.Traps.{raise_words, raise_bound_error, push_part, pop_part, check_part}
-use Rattle.emit_rules.specs.Traversal.{EachPiece, each_none, each_more}
-use Rattle.emit_rules.specs.Values.{Makes, makes_first, makes_upper, makes_lower, makes_sum, makes_shift}
-use Rattle.emit_rules.proofs.Values.{constant_is_made}
+use Rattle.rv_emit_rules.specs.Calls.{tail_call_part, return_part}
+use Rattle.rv_emit_rules.specs.Emitted.{part_of_line}
+use Rattle.rv_emit_rules.specs.Entry.{FrameLayout, return_offset, restored, raised_stack_pointer, frame_release}
+use Rattle.rv_emit_rules.specs.Instructions.{addi, mv, alu_operation, lui, load_piece, skip, goes_to_address}
+use Rattle.rv_emit_rules.specs.Slots.{first_location, second, register_of, stack_load, copy_pieces}
+use Rattle.rv_emit_rules.specs.Tests.{right_register, right_words}
+use Rattle.rv_emit_rules.specs.Traps.{raise_words, raise_bound_error, push_part, pop_part, check_part}
+use Rattle.rv_emit_rules.specs.Traversal.{EachPiece, each_none, each_more}
+use Rattle.rv_emit_rules.specs.Values.{Makes, makes_first, makes_upper, makes_lower, makes_sum, makes_shift}
+use Rattle.rv_emit_rules.proofs.Values.{constant_is_made}
 use Rattle.lin_laws.proofs.Forms.{push_inv, pop_inv, enter_inv, same_loc_is}
-use Rattle.linear_rules.specs.Lowered.{is_among_numbers}
+use Rattle.linearise_rules.specs.Lowered.{is_among_numbers}
 use Rattle.mach_laws.proofs.Instructions.{returns_none}
 use Rattle.laid_parts.specs.Laid.{lies_at, is_return_address, NamesSlots}
 use Rattle.laid_parts.specs.Stack.{KnownWord, Is, RegisterForms, plus, word_at}

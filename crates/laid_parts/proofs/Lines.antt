@@ -26,24 +26,24 @@ use Rattle.rv_isa.specs.declared.instr.StoreWidth.TheVariants as stores
 use Rattle.rv_isa.specs.declared.register.Register.{Register}
 use Rattle.rv_isa.specs.declared.register.Register.TheVariants.{Zero, Ra, Sp, T0, T1, T2, S1, S10, S11, A0}
 use Rattle.rv_pieces.specs.declared.piece.Piece.TheVariants as piece
-use Rattle.emit_rules.specs.Instructions.{addi, alu_operation, shift_piece, load_piece, store_piece, skip, ecall}
+use Rattle.rv_emit_rules.specs.Instructions.{addi, alu_operation, shift_piece, load_piece, store_piece, skip, ecall}
 use Rattle.rv_isa.specs.Registers.{register_at}
-use Rattle.emit_rules.specs.Constants.{constant_pieces}
-use Rattle.emit_rules.specs.Memory.{ask, reserved, addresses, allocation_service}
-use Rattle.emit_rules.specs.Slots.{register_of, target, fetch_pieces, keep_pieces, slot_offset}
-use Rattle.emit_rules.specs.Tests.{signed_branch, unsigned_branch, constant_words, tests_in_turn, table_of_jumps, value_words}
+use Rattle.rv_emit_rules.specs.Constants.{constant_pieces}
+use Rattle.rv_emit_rules.specs.Memory.{ask, reserved, addresses, allocation_service}
+use Rattle.rv_emit_rules.specs.Slots.{register_of, target, fetch_pieces, keep_pieces, slot_offset}
+use Rattle.rv_emit_rules.specs.Tests.{signed_branch, unsigned_branch, constant_words, tests_in_turn, table_of_jumps, value_words}
 use Rattle.laid_parts.proofs.Registers.{or_turned, Names, same, joined, then_none, either, nothing, alone, hits, IsApart, addi-names, operation-names, shift-names, load-names, store-names, constant-names, constant-none, sum_to-names, lowered-names, stack_load-names, fetched-names, kept-names, first_none}
 use Rattle.mach_ir.specs.declared.op.Callee.TheVariants as callee
 use Rattle.mach_ir.specs.declared.op.External.{External}
 use Rattle.lin_ir.specs.declared.descr.Descr.{Descr}
-use Rattle.emit_rules.specs.Instructions.{mv, lui, goes_to_address, calls_at, auipc}
-use Rattle.emit_rules.specs.Slots.{first_location, second}
-use Rattle.emit_rules.specs.Emitted.{operator_part}
-use Rattle.emit_rules.specs.Memory.{load_width, store_width, load_part, store_part, alloc_part, address_offset}
-use Rattle.emit_rules.specs.Tests.{right_register, right_words, branch_part, switch_part}
-use Rattle.emit_rules.specs.Traps.{raise_words, push_part, pop_part, raise_bound_error, check_part}
-use Rattle.emit_rules.specs.Entry.{FrameLayout, frame_release, return_offset}
-use Rattle.emit_rules.specs.Calls.{mark_of, call_words, tail_call_part, external_service, external_words, return_part}
+use Rattle.rv_emit_rules.specs.Instructions.{mv, lui, goes_to_address, calls_at, auipc}
+use Rattle.rv_emit_rules.specs.Slots.{first_location, second}
+use Rattle.rv_emit_rules.specs.Emitted.{operator_part}
+use Rattle.rv_emit_rules.specs.Memory.{load_width, store_width, load_part, store_part, alloc_part, address_offset}
+use Rattle.rv_emit_rules.specs.Tests.{right_register, right_words, branch_part, switch_part}
+use Rattle.rv_emit_rules.specs.Traps.{raise_words, push_part, pop_part, raise_bound_error, check_part}
+use Rattle.rv_emit_rules.specs.Entry.{FrameLayout, frame_release, return_offset}
+use Rattle.rv_emit_rules.specs.Calls.{mark_of, call_words, tail_call_part, external_service, external_words, return_part}
 use Rattle.laid_parts.proofs.Operators.{IsNumbered, numbered, at_place, operated-names, operated_with-names, load_from-names, store_to-names}
 
 module _ (n : ℕ) (apart : IsApart n) (t : ℕ) where

@@ -17,14 +17,14 @@ use Rattle.rv_isa.specs.declared.register.Register.TheVariants.{T0, T1, T2, S10,
 use Rattle.rv_pieces.specs.Named.{marks_in}
 use Rattle.rv_pieces.specs.declared.piece.Piece.{Piece}
 use Rattle.rv_pieces.specs.declared.piece.Piece.TheVariants as piece
-use Rattle.emit_rules.specs.Calls.{external_service}
-use Rattle.emit_rules.specs.Constants.{constant_pieces, bytes_taken_off}
-use Rattle.emit_rules.specs.Emitted.{part_of_line, descriptor, left_after}
-use Rattle.emit_rules.specs.Entry.{FrameLayout}
-use Rattle.emit_rules.specs.Instructions.{load_piece, skip, calls_at, ecall}
-use Rattle.emit_rules.specs.Memory.{allocation_service, ask, reserved, addresses}
-use Rattle.emit_rules.specs.Slots.{first_location, register_of, fetch_pieces}
-use Rattle.emit_rules.proofs.Descriptors.{marks-join, part-unmarked, nil-first, nil-second}
+use Rattle.rv_emit_rules.specs.Calls.{external_service}
+use Rattle.rv_emit_rules.specs.Constants.{constant_pieces, bytes_taken_off}
+use Rattle.rv_emit_rules.specs.Emitted.{part_of_line, descriptor, left_after}
+use Rattle.rv_emit_rules.specs.Entry.{FrameLayout}
+use Rattle.rv_emit_rules.specs.Instructions.{load_piece, skip, calls_at, ecall}
+use Rattle.rv_emit_rules.specs.Memory.{allocation_service, ask, reserved, addresses}
+use Rattle.rv_emit_rules.specs.Slots.{first_location, register_of, fetch_pieces}
+use Rattle.rv_emit_rules.proofs.Descriptors.{marks-join, part-unmarked, nil-first, nil-second}
 use Rattle.laid_parts.specs.Laid.{ReturnsAfter, after_call, after_jump, after_service, after_allocation, some_comes_back, IsMarked, no_mark, one_mark}
 use Rattle.laid_parts.proofs.Calls.{GoOn, goes_on, all_on, constant_on, fetched-on, lowered-on, addresses-on}
 

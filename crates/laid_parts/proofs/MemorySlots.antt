@@ -20,13 +20,13 @@ use Rattle.rv_isa.specs.declared.instr.LoadWidth.{LoadWidth}
 use Rattle.rv_isa.specs.declared.instr.LoadWidth.TheVariants as loads
 use Rattle.rv_isa.specs.declared.register.Register.{Register}
 use Rattle.rv_isa.specs.declared.register.Register.TheVariants.{T0, T1, T2, S10, S11}
-use Rattle.emit_rules.specs.Calls.{mark_of}
-use Rattle.emit_rules.specs.Constants.{constant_pieces, sum_to, bytes_taken_off}
-use Rattle.emit_rules.specs.Emitted.{part_of_line}
-use Rattle.emit_rules.specs.Entry.{FrameLayout}
-use Rattle.emit_rules.specs.Instructions.{alu_operation, load_piece, skip, ecall}
-use Rattle.emit_rules.specs.Memory.{address_offset, load_width, load_part, store_width, store_part, allocation_service, ask, reserved, addresses, alloc_part}
-use Rattle.emit_rules.specs.Slots.{first_location, second, register_of, target}
+use Rattle.rv_emit_rules.specs.Calls.{mark_of}
+use Rattle.rv_emit_rules.specs.Constants.{constant_pieces, sum_to, bytes_taken_off}
+use Rattle.rv_emit_rules.specs.Emitted.{part_of_line}
+use Rattle.rv_emit_rules.specs.Entry.{FrameLayout}
+use Rattle.rv_emit_rules.specs.Instructions.{alu_operation, load_piece, skip, ecall}
+use Rattle.rv_emit_rules.specs.Memory.{address_offset, load_width, load_part, store_width, store_part, allocation_service, ask, reserved, addresses, alloc_part}
+use Rattle.rv_emit_rules.specs.Slots.{first_location, second, register_of, target}
 use Rattle.lin_laws.proofs.Forms.{length_comps}
 use Rattle.mach_ir.proofs.Forms.{load_inv, store_inv}
 use Rattle.laid_parts.specs.Laid.{lies_at, lie_at, NamesSlots}

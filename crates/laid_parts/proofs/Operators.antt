@@ -19,10 +19,10 @@ use Rattle.rv_isa.specs.declared.instr.StoreWidth.{StoreWidth}
 use Rattle.rv_isa.specs.declared.register.Register.{Register}
 use Rattle.rv_isa.specs.declared.register.Register.TheVariants.{Zero, T1, T2}
 use Rattle.rv_pieces.specs.declared.piece.Piece.{Piece}
-use Rattle.emit_rules.specs.Instructions.{with_immediate, alu_operation, load_piece, store_piece}
-use Rattle.emit_rules.specs.Constants.{constant_pieces}
-use Rattle.emit_rules.specs.Operators.{is_some, compared, operated, compared_with, operated_with}
-use Rattle.emit_rules.specs.Slots.{register_of, target, copy_pieces, slot_offset}
+use Rattle.rv_emit_rules.specs.Instructions.{with_immediate, alu_operation, load_piece, store_piece}
+use Rattle.rv_emit_rules.specs.Constants.{constant_pieces}
+use Rattle.rv_emit_rules.specs.Operators.{is_some, compared, operated, compared_with, operated_with}
+use Rattle.rv_emit_rules.specs.Slots.{register_of, target, copy_pieces, slot_offset}
 use Rattle.laid_parts.proofs.Registers.{not_both, or_turned, Names, same, joined, then_none, nothing, hits, IsApart, with_immediate-names, addi-names, operation-names, shift-names, load-names, store-names, constant-none, stack_load-names, stack_store-names, kept-names, last_none, first_none}
 
 -- a location that a line may name: its register has its number

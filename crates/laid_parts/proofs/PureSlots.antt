@@ -17,9 +17,9 @@ use Rattle.lin_ir.specs.declared.lin.Lin.{Lin}
 use Rattle.lin_ir.specs.declared.lin.Spot.{Spot}
 use Rattle.rv_pieces.specs.declared.piece.Piece.{Piece}
 use Rattle.rv_isa.specs.Registers.{register_at}
-use Rattle.emit_rules.specs.Emitted.{part_of_line}
-use Rattle.emit_rules.specs.Entry.{FrameLayout}
-use Rattle.emit_rules.specs.Slots.{first_location, second, copy_pieces}
+use Rattle.rv_emit_rules.specs.Emitted.{part_of_line}
+use Rattle.rv_emit_rules.specs.Entry.{FrameLayout}
+use Rattle.rv_emit_rules.specs.Slots.{first_location, second, copy_pieces}
 use Rattle.std.specs.Prelude.{◌*◌, ◌<◌, ◌≤◌, ◌/◌}
 use Rattle.std.proofs.Common.{cond, ◌+◌}
 use Rattle.std.proofs.lemmas.Bool.{or_parts}

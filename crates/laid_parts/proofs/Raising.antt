@@ -14,16 +14,16 @@ use Rattle.rv_isa.specs.declared.instr.Condition.TheVariants as condition
 use Rattle.rv_isa.specs.declared.register.Register.{Register}
 use Rattle.rv_isa.specs.declared.register.Register.TheVariants.{T1, T2}
 use Rattle.rv_pieces.specs.declared.piece.Piece.{Piece}
-use Rattle.emit_rules.specs.Constants.{constant_pieces}
-use Rattle.emit_rules.specs.Emitted.{part_of_line}
-use Rattle.emit_rules.specs.Entry.{FrameLayout}
-use Rattle.emit_rules.specs.Instructions.{skip}
-use Rattle.emit_rules.specs.Slots.{first_location, second, register_of, fetch_pieces, slot_offset}
-use Rattle.emit_rules.specs.Tests.{right_register, right_words}
-use Rattle.emit_rules.specs.Traps.{raise_bound_error, check_part}
-use Rattle.emit_rules.specs.Traversal.{EachPiece, each_none, each_more}
-use Rattle.emit_rules.specs.Values.{Makes, makes_first, makes_upper, makes_lower, makes_sum, makes_shift}
-use Rattle.emit_rules.proofs.Values.{constant_is_made}
+use Rattle.rv_emit_rules.specs.Constants.{constant_pieces}
+use Rattle.rv_emit_rules.specs.Emitted.{part_of_line}
+use Rattle.rv_emit_rules.specs.Entry.{FrameLayout}
+use Rattle.rv_emit_rules.specs.Instructions.{skip}
+use Rattle.rv_emit_rules.specs.Slots.{first_location, second, register_of, fetch_pieces, slot_offset}
+use Rattle.rv_emit_rules.specs.Tests.{right_register, right_words}
+use Rattle.rv_emit_rules.specs.Traps.{raise_bound_error, check_part}
+use Rattle.rv_emit_rules.specs.Traversal.{EachPiece, each_none, each_more}
+use Rattle.rv_emit_rules.specs.Values.{Makes, makes_first, makes_upper, makes_lower, makes_sum, makes_shift}
+use Rattle.rv_emit_rules.proofs.Values.{constant_is_made}
 use Rattle.laid_parts.specs.Laid.{is_branch_piece, behind_branch, leave_at_end, RaisesBehind}
 
 -- the first branch is the first of what is after these

@@ -18,10 +18,10 @@ use Rattle.rv_isa.specs.declared.instr.StoreWidth.TheVariants as stores
 use Rattle.rv_isa.specs.declared.register.Register.{Register}
 use Rattle.rv_isa.specs.declared.register.Register.TheVariants.{Zero, Ra, Sp, T0, T1, T2, S1, S10, S11}
 use Rattle.rv_pieces.specs.declared.piece.Piece.{Piece}
-use Rattle.emit_rules.specs.Instructions.{low_12, with_immediate, addi, alu_operation, shift_piece, lui, addiw, load_piece, store_piece}
-use Rattle.emit_rules.specs.Constants.{is_word_32, above_12, constant_32, upper_constant, shifted, constant_shifted, constant_pieces, sum_to, bytes_taken_off}
-use Rattle.emit_rules.specs.Slots.{far_stack, stack_load, stack_store, slot_offset, fetch_pieces, keep_pieces}
-use Rattle.linear_rules.specs.Lowered.{is_among_numbers}
+use Rattle.rv_emit_rules.specs.Instructions.{low_12, with_immediate, addi, alu_operation, shift_piece, lui, addiw, load_piece, store_piece}
+use Rattle.rv_emit_rules.specs.Constants.{is_word_32, above_12, constant_32, upper_constant, shifted, constant_shifted, constant_pieces, sum_to, bytes_taken_off}
+use Rattle.rv_emit_rules.specs.Slots.{far_stack, stack_load, stack_store, slot_offset, fetch_pieces, keep_pieces}
+use Rattle.linearise_rules.specs.Lowered.{is_among_numbers}
 use Rattle.laid_parts.specs.Named.{piece_sources, piece_targets, is_source, is_target}
 use Rattle.laid_parts.specs.Laid.{is_reserved}
 

@@ -17,17 +17,17 @@ use Rattle.rv_isa.specs.declared.register.Register.{Register}
 use Rattle.rv_isa.specs.declared.register.Register.TheVariants.{Zero, T1, T2}
 use Rattle.rv_pieces.specs.declared.piece.Piece.{Piece}
 use Rattle.rv_pieces.specs.declared.piece.Piece.TheVariants as piece
-use Rattle.emit_rules.specs.Instructions.{with_immediate, alu_operation, shift_piece}
+use Rattle.rv_emit_rules.specs.Instructions.{with_immediate, alu_operation, shift_piece}
 use Rattle.rv_isa.specs.Registers.{register_at}
-use Rattle.emit_rules.specs.Constants.{constant_pieces}
-use Rattle.emit_rules.specs.Operators.{compared, operated, compared_with, operated_with}
-use Rattle.emit_rules.specs.Slots.{register_of, target, keep_pieces, copy_pieces, slot_offset}
-use Rattle.emit_rules.specs.Instructions.{lui, addiw}
-use Rattle.emit_rules.specs.Emitted.{operator_part}
-use Rattle.emit_rules.specs.Slots.{first_location, second, fetch_pieces}
-use Rattle.emit_rules.specs.Traversal.{EachPiece, each_none, each_more}
-use Rattle.emit_rules.specs.Values.{Makes, makes_first, makes_upper, makes_lower, makes_sum, makes_shift}
-use Rattle.emit_rules.proofs.Values.{constant_is_made}
+use Rattle.rv_emit_rules.specs.Constants.{constant_pieces}
+use Rattle.rv_emit_rules.specs.Operators.{compared, operated, compared_with, operated_with}
+use Rattle.rv_emit_rules.specs.Slots.{register_of, target, keep_pieces, copy_pieces, slot_offset}
+use Rattle.rv_emit_rules.specs.Instructions.{lui, addiw}
+use Rattle.rv_emit_rules.specs.Emitted.{operator_part}
+use Rattle.rv_emit_rules.specs.Slots.{first_location, second, fetch_pieces}
+use Rattle.rv_emit_rules.specs.Traversal.{EachPiece, each_none, each_more}
+use Rattle.rv_emit_rules.specs.Values.{Makes, makes_first, makes_upper, makes_lower, makes_sum, makes_shift}
+use Rattle.rv_emit_rules.proofs.Values.{constant_is_made}
 use Rattle.laid_parts.specs.Laid.{lies_at}
 use Rattle.laid_parts.proofs.Clean.{stack_load-clear}
 use Rattle.laid_parts.proofs.Words.{Chunk, Clear, joined, same, then_none, nothing, still, IsScratch, is_t1, is_t2, is_sp, stack_load-words, stack_store-words}

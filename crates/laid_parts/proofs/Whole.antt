@@ -9,10 +9,10 @@ use Rattle.lin_ir.specs.declared.descr.Descr.{Descr}
 use Rattle.lin_ir.specs.declared.lin.Line.{Line}
 use Rattle.lin_ir.specs.declared.lin.Lin.{Lin}
 use Rattle.rv_pieces.specs.declared.piece.Pieces.{Pieces}
-use Rattle.emit_rules.specs.Emitted.{part_of_line, parts_of_lines, descriptor, left_after, IsEmitted}
-use Rattle.emit_rules.specs.Entry.{frame_of}
-use Rattle.emit_rules.proofs.Names.{stands-contains}
-use Rattle.emit_rules.proofs.Units.{part_by}
+use Rattle.rv_emit_rules.specs.Emitted.{part_of_line, parts_of_lines, descriptor, left_after, IsEmitted}
+use Rattle.rv_emit_rules.specs.Entry.{frame_of}
+use Rattle.rv_emit_rules.proofs.Names.{stands-contains}
+use Rattle.rv_emit_rules.proofs.Units.{part_by}
 use Rattle.laid_parts.specs.Laid.{CarriesSlots, IsPartOf, AreParts, no_line, a_line, IsLaidOutAs}
 use Rattle.laid_parts.proofs.Each.{carried}
 use Rattle.laid_parts.proofs.EverySlots.{slots_carried}

@@ -10,11 +10,11 @@ use Rattle.rv_isa.specs.declared.instr.StoreWidth.TheVariants as stores
 use Rattle.rv_isa.specs.declared.register.Register.{Register}
 use Rattle.rv_isa.specs.declared.register.Register.TheVariants.{Sp, T1, T2}
 use Rattle.rv_pieces.specs.declared.piece.Piece.{Piece}
-use Rattle.emit_rules.specs.Instructions.{low_12, load_piece, store_piece}
-use Rattle.emit_rules.specs.Constants.{above_12}
-use Rattle.emit_rules.specs.Slots.{far_stack, stack_load, stack_store}
-use Rattle.emit_rules.proofs.Values.{by_12, by_32, first_is}
-use Rattle.linear_rules.specs.Lowered.{is_among_numbers}
+use Rattle.rv_emit_rules.specs.Instructions.{low_12, load_piece, store_piece}
+use Rattle.rv_emit_rules.specs.Constants.{above_12}
+use Rattle.rv_emit_rules.specs.Slots.{far_stack, stack_load, stack_store}
+use Rattle.rv_emit_rules.proofs.Values.{by_12, by_32, first_is}
+use Rattle.linearise_rules.specs.Lowered.{is_among_numbers}
 use Rattle.laid_parts.specs.Named.{piece_targets}
 use Rattle.laid_parts.specs.Stack.{KnownWord, Unknown, Is, FromSp, RegisterForms, held_after, load_address, store_address, is_loaded, is_stored, piece_made, plus, word_at}
 use Rattle.laid_parts.proofs.Registers.{regroup, or_grouped}

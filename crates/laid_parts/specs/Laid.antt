@@ -30,8 +30,8 @@ use Rattle.rv_pieces.specs.Named.{marks_in}
 use Rattle.rv_pieces.specs.declared.piece.Piece.{Piece}
 use Rattle.rv_pieces.specs.declared.piece.Piece.TheVariants as piece
 use Rattle.rv_pieces.specs.declared.piece.Pieces.{Pieces}
-use Rattle.emit_rules.specs.Entry.{FrameLayout, frame_of, return_offset, entry_pieces}
-use Rattle.linear_rules.specs.Lowered.{is_among_numbers}
+use Rattle.rv_emit_rules.specs.Entry.{FrameLayout, frame_of, return_offset, entry_pieces}
+use Rattle.linearise_rules.specs.Lowered.{is_among_numbers}
 use Rattle.laid_parts.specs.Named.{is_source, is_target}
 use Rattle.laid_parts.specs.Stack.{at_first, is_loaded, is_stored}
 

@@ -9,7 +9,7 @@ use Rattle.rv_isa.specs.declared.instr.Instr.{Instr}
 use Rattle.rv_isa.specs.declared.instr.Instr.TheVariants as instr
 use Rattle.rv_pieces.specs.declared.piece.Piece.{Piece}
 use Rattle.rv_pieces.specs.declared.piece.Piece.TheVariants as piece
-use Rattle.linear_rules.specs.Lowered.{is_among_numbers}
+use Rattle.linearise_rules.specs.Lowered.{is_among_numbers}
 use Rattle.laid_parts.specs.Named.{piece_targets}
 
 -- ---- what is known of a register

@@ -5,13 +5,13 @@
 #![tactic(auto)]
 
 ghost use Rattle.std.specs.Prelude.{◌≡◌, ℕ, ◌+◌, ◌%◌, ◌^◌, ◌<◌, List, ◌∷◌, length, map, Option, Contains};
-ghost use Rattle.emit_rules.specs.Emitted.{part_of_line, IsEmitted};
-ghost use Rattle.emit_rules.specs.Entry.{FrameLayout, frame_of};
+ghost use Rattle.rv_emit_rules.specs.Emitted.{part_of_line, IsEmitted};
+ghost use Rattle.rv_emit_rules.specs.Entry.{FrameLayout, frame_of};
 ghost use Rattle.laid_parts.specs.Decoded.{NamesAs, Decodes};
 ghost use Rattle.laid_parts.specs.Laid.{CarriesRegisters, CarriesSlots, IsLaidOutAs};
-ghost use Rattle.layout_rules.specs.Conditions.{HasAlignedTarget};
-ghost use Rattle.layout_rules.specs.Words.{code_to};
-ghost use Rattle.layout_rules.specs.declared.form.Form.{Form};
+ghost use Rattle.rv_layout_rules.specs.Conditions.{HasAlignedTarget};
+ghost use Rattle.rv_layout_rules.specs.Words.{code_to};
+ghost use Rattle.rv_layout_rules.specs.declared.form.Form.{Form};
 ghost use Rattle.lin_ir.specs.Descriptors.{FitsDescriptors, frame_point_count};
 ghost use Rattle.lin_ir.specs.Formed.{Seated, WellFormed};
 ghost use Rattle.lin_ir.specs.Walks.{Traps};

@@ -3,11 +3,11 @@ use Rattle.std.proofs.Common.{◌≡◌, ℕ, suc, ◌+◌, ◌≤◌, inl, inr,
 use Rattle.std.proofs.lemmas.List.Elements.{All-head, All-tail}
 use Rattle.bs_words.specs.declared.types.Loc.{Loc}
 use Rattle.bs_words.specs.declared.values.Value.{Value}
-use Rattle.emit_rules.specs.Constants.{sum_to}
-use Rattle.emit_rules.specs.Memory.{addresses}
-use Rattle.emit_rules.specs.Slots.{keep_pieces, target}
-use Rattle.layout_rules.specs.Forms.{total_words}
-use Rattle.layout_rules.specs.Words.{NameAddresses}
+use Rattle.rv_emit_rules.specs.Constants.{sum_to}
+use Rattle.rv_emit_rules.specs.Memory.{addresses}
+use Rattle.rv_emit_rules.specs.Slots.{keep_pieces, target}
+use Rattle.rv_layout_rules.specs.Forms.{total_words}
+use Rattle.rv_layout_rules.specs.Words.{NameAddresses}
 use Rattle.lin_ir.specs.Formed.{IsLocation, Locates}
 use Rattle.lin_ir.specs.Meaning.{Locations, assign_spot, same_loc}
 use Rattle.lin_ir.specs.declared.lin.Lin.{Lin}
@@ -17,13 +17,13 @@ use Rattle.mach_ir.specs.Blocks.{total_block_bytes}
 use Rattle.mach_ir.specs.declared.blocks.NewBlock.{NewBlock}
 use Rattle.rv_isa.specs.declared.register.Register.TheVariants.{S10, T1}
 use Rattle.rv_machine.specs.Hart.{Placed}
-use Rattle.linear_machine.specs.Relation.{Below, Laid, StandsFor, Within, blocks_by_serial}
-use Rattle.linear_machine.specs.Straight.{Changes, LeadsFurther}
-use Rattle.linear_machine.specs.View.{Fixed, View}
-use Rattle.linear_machine.proofs.Moving.{rises_top}
-use Rattle.linear_machine.proofs.Operating.{worked}
-use Rattle.linear_machine.proofs.Parts.{comes_here, comes_then}
-use Rattle.linear_machine.proofs.Sequences.{widened}
+use Rattle.lin_machine.specs.Relation.{Below, Laid, StandsFor, Within, blocks_by_serial}
+use Rattle.lin_machine.specs.Straight.{Changes, LeadsFurther}
+use Rattle.lin_machine.specs.View.{Fixed, View}
+use Rattle.lin_machine.proofs.Moving.{rises_top}
+use Rattle.lin_machine.proofs.Operating.{worked}
+use Rattle.lin_machine.proofs.Parts.{comes_here, comes_then}
+use Rattle.lin_machine.proofs.Sequences.{widened}
 use Rattle.line_stands.specs.Parts.{PartStands}
 use Rattle.line_stands.proofs.Parts.{nothing_more, splits}
 use Rattle.line_values.proofs.Operands.{targeted}

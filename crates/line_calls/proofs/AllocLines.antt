@@ -9,10 +9,10 @@ use Rattle.bs_words.specs.Memory.{block_bytes, heap_need}
 use Rattle.bs_words.specs.declared.types.Loc.{Loc}
 use Rattle.bs_words.specs.declared.types.Loc.TheVariants as loc
 use Rattle.bs_words.specs.declared.values.Value.{Value}
-use Rattle.emit_rules.specs.Memory.{addresses, alloc_part, reserved}
-use Rattle.layout_rules.specs.Laid.{descriptor_laid_at}
-use Rattle.layout_rules.specs.Forms.{total_words}
-use Rattle.layout_rules.specs.Words.{NameAddresses}
+use Rattle.rv_emit_rules.specs.Memory.{addresses, alloc_part, reserved}
+use Rattle.rv_layout_rules.specs.Laid.{descriptor_laid_at}
+use Rattle.rv_layout_rules.specs.Forms.{total_words}
+use Rattle.rv_layout_rules.specs.Words.{NameAddresses}
 use Rattle.lin_ir.specs.Formed.{Locates, spare}
 use Rattle.lin_ir.specs.Meaning.{Locations, NamedAt, are_vals, is_named_location, on_act, poisoned, assign_spot, put_all, same_loc, step, unless_misnamed, wrote}
 use Rattle.lin_ir.specs.declared.descr.Descr.{Descr}
@@ -29,15 +29,15 @@ use Rattle.mach_ir.specs.declared.op.Access.TheVariants as access
 use Rattle.mach_ir.specs.declared.op.Op.TheVariants as op
 use Rattle.rv_machine.specs.Hart.{Placed}
 use Rattle.rv_pieces.specs.declared.piece.Piece.TheVariants.{Descriptor}
-use Rattle.linear_machine.specs.Arrival.{ArrivesIn}
-use Rattle.linear_machine.specs.Files.{HoldsLess}
-use Rattle.linear_machine.specs.Follows.{Agrees, FollowsStep, IsAt, needs_of}
-use Rattle.linear_machine.specs.Relation.{Below, IsDescribed, Laid, Within}
-use Rattle.linear_machine.specs.View.{Fixed, View}
-use Rattle.linear_machine.proofs.Arriving.{at_least, leads_in, then_arrives}
-use Rattle.linear_machine.proofs.Following.{same_loc-true}
-use Rattle.linear_machine.proofs.Operating.{dropped}
-use Rattle.linear_machine.proofs.Standing.{within_less}
+use Rattle.lin_machine.specs.Arrival.{ArrivesIn}
+use Rattle.lin_machine.specs.Files.{HoldsLess}
+use Rattle.lin_machine.specs.Follows.{Agrees, FollowsStep, IsAt, needs_of}
+use Rattle.lin_machine.specs.Relation.{Below, IsDescribed, Laid, Within}
+use Rattle.lin_machine.specs.View.{Fixed, View}
+use Rattle.lin_machine.proofs.Arriving.{at_least, leads_in, then_arrives}
+use Rattle.lin_machine.proofs.Following.{same_loc-true}
+use Rattle.lin_machine.proofs.Operating.{dropped}
+use Rattle.lin_machine.proofs.Standing.{within_less}
 use Rattle.line_stands.specs.Parts.{PartStands}
 use Rattle.line_calls.specs.Points.{AreMarked}
 use Rattle.line_calls.proofs.Addresses.{addresses_come, put_values, put_values_same}

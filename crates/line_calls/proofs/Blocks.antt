@@ -11,11 +11,11 @@ use Rattle.rv_machine.specs.Observation.{cells_of_header, young_start}
 use Rattle.moving_laws.specs.Values.{start_of}
 use Rattle.moving_laws.specs.Young.{Rises}
 use Rattle.moving_laws.proofs.Rewriting.{at_start}
-use Rattle.linear_machine.specs.Relation.{Below, Laid, StandsFor, Within}
-use Rattle.linear_machine.specs.View.{Fixed, View}
-use Rattle.linear_machine.proofs.Fresh.{placed_more, stands_more, start_last}
-use Rattle.linear_machine.proofs.Making.{made, within_made}
-use Rattle.linear_machine.proofs.Moving.{rises_top}
+use Rattle.lin_machine.specs.Relation.{Below, Laid, StandsFor, Within}
+use Rattle.lin_machine.specs.View.{Fixed, View}
+use Rattle.lin_machine.proofs.Fresh.{placed_more, stands_more, start_last}
+use Rattle.lin_machine.proofs.Making.{made, within_made}
+use Rattle.lin_machine.proofs.Moving.{rises_top}
 
 -- ---- what an allocation does
 

@@ -10,11 +10,11 @@ use Rattle.bs_words.specs.declared.values.Value.{Value}
 use Rattle.bs_words.specs.declared.values.Value.TheVariants.{Word, Block, Function}
 use Rattle.cmm_meaning.specs.Evaluation.{fit_parameters}
 use Rattle.cmm_meaning.specs.State.{Doing, Inside}
-use Rattle.emit_rules.specs.Calls.{call_words}
-use Rattle.emit_rules.specs.Instructions.{calls_at}
-use Rattle.emit_rules.specs.Slots.{fetch_pieces, first_location, register_of}
-use Rattle.layout_rules.specs.Laid.{address_of_place, descriptor_laid_at}
-use Rattle.layout_rules.specs.Words.{NameAddresses}
+use Rattle.rv_emit_rules.specs.Calls.{call_words}
+use Rattle.rv_emit_rules.specs.Instructions.{calls_at}
+use Rattle.rv_emit_rules.specs.Slots.{fetch_pieces, first_location, register_of}
+use Rattle.rv_layout_rules.specs.Laid.{address_of_place, descriptor_laid_at}
+use Rattle.rv_layout_rules.specs.Words.{NameAddresses}
 use Rattle.lin_ir.specs.Formed.{IsLocation, comps, places_of, spare}
 use Rattle.lin_ir.specs.Meaning.{Locations, NamedAt, after_label, are_vals, is_named_location, on_act, on_values, poisoned, step, unless_misnamed, values}
 use Rattle.lin_ir.specs.declared.descr.Descr.{Descr}
@@ -36,13 +36,13 @@ use Rattle.rv_isa.specs.declared.register.Register.TheVariants.{T1}
 use Rattle.rv_machine.specs.Frames.{descriptor_at, names_register}
 use Rattle.rv_machine.specs.Hart.{Placed}
 use Rattle.rv_machine.specs.Memory.{code_start}
-use Rattle.linear_machine.specs.Follows.{Agrees, IsAfter, IsDone}
-use Rattle.linear_machine.specs.Relation.{Below, IsDescribed, Laid, StandsFor, Within}
-use Rattle.linear_machine.specs.View.{Fixed, IsInstructionAt, ReachesView, View}
-use Rattle.linear_machine.proofs.Arriving.{leads_in}
-use Rattle.linear_machine.proofs.Pure.{Reads, reads_held}
-use Rattle.linear_machine.proofs.Standing.{within_past}
-use Rattle.linear_machine.proofs.Steps.{stays, then_leads}
+use Rattle.lin_machine.specs.Follows.{Agrees, IsAfter, IsDone}
+use Rattle.lin_machine.specs.Relation.{Below, IsDescribed, Laid, StandsFor, Within}
+use Rattle.lin_machine.specs.View.{Fixed, IsInstructionAt, ReachesView, View}
+use Rattle.lin_machine.proofs.Arriving.{leads_in}
+use Rattle.lin_machine.proofs.Pure.{Reads, reads_held}
+use Rattle.lin_machine.proofs.Standing.{within_past}
+use Rattle.lin_machine.proofs.Steps.{stays, then_leads}
 use Rattle.line_stands.specs.Parts.{PartStands}
 use Rattle.line_stands.proofs.Parts.{counts, last}
 use Rattle.line_values.proofs.Operands.{fetches}

@@ -1,23 +1,23 @@
 -- The words of a call: by name, and to the address in a register.
 use Rattle.std.proofs.Common.{◌≡◌, ℕ, ◌+◌, ◌*◌, ◌^◌, ◌<◌, ◌≤◌, inl, List, [], ◌∷◌, slice_index, slice_set, ap, arith, ◌∙◌, subst, set-set, get_or-set_same}
 use Rattle.bs_words.specs.Word.{add_word}
-use Rattle.layout_rules.specs.Laid.{address_of_place}
-use Rattle.layout_rules.specs.Words.{NameAddresses, call_code, distance, upper}
-use Rattle.layout_rules.specs.declared.form.Form.{Form}
-use Rattle.layout_rules.specs.declared.form.Form.TheVariants.{Near, Middle, Far}
-use Rattle.layout_rules.specs.Forms.{call_words}
-use Rattle.emit_rules.specs.Instructions.{low_12}
-use Rattle.layout_rules.proofs.Offsets.{far_lands, number_lands}
+use Rattle.rv_layout_rules.specs.Laid.{address_of_place}
+use Rattle.rv_layout_rules.specs.Words.{NameAddresses, call_code, distance, upper}
+use Rattle.rv_layout_rules.specs.declared.form.Form.{Form}
+use Rattle.rv_layout_rules.specs.declared.form.Form.TheVariants.{Near, Middle, Far}
+use Rattle.rv_layout_rules.specs.Forms.{call_words}
+use Rattle.rv_emit_rules.specs.Instructions.{low_12}
+use Rattle.rv_layout_rules.proofs.Offsets.{far_lands, number_lands}
 use Rattle.rv_isa.specs.declared.instr.Instr.TheVariants.{Auipc, Jalr, Lui, OpImm}
 use Rattle.rv_isa.specs.declared.instr.AluImmOp.TheVariants.{Addi}
 use Rattle.rv_machine.specs.Arithmetic.{imm_i, imm_u}
 use Rattle.rv_machine.specs.Memory.{code_start}
 use Rattle.rv_machine.specs.Sound.{AreRegisters}
 use Rattle.rv_pieces.specs.declared.piece.Piece.TheVariants.{Call}
-use Rattle.linear_machine.specs.View.{Fixed, HasCode, IsInstructionAt, ReachesView, View}
-use Rattle.linear_machine.proofs.Formats.{sets_auipc, sets_imm, sets_jalr, sets_lui}
-use Rattle.linear_machine.proofs.Sequences.{sets_as}
-use Rattle.linear_machine.proofs.Steps.{reg, set_in, set_step, set_to_step, then_leads}
+use Rattle.lin_machine.specs.View.{Fixed, HasCode, IsInstructionAt, ReachesView, View}
+use Rattle.lin_machine.proofs.Formats.{sets_auipc, sets_imm, sets_jalr, sets_lui}
+use Rattle.lin_machine.proofs.Sequences.{sets_as}
+use Rattle.lin_machine.proofs.Steps.{reg, set_in, set_step, set_to_step, then_leads}
 use Rattle.line_stands.specs.Parts.{PartStands}
 use Rattle.line_stands.proofs.Parts.{begins, nothing_more}
 use Rattle.line_calls.proofs.Leaving.{no_offset}

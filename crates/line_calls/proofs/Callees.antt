@@ -4,10 +4,10 @@ use Rattle.bs_words.specs.declared.types.Loc.{Loc}
 use Rattle.bs_words.specs.declared.types.Loc.TheVariants as loc
 use Rattle.bs_words.specs.declared.values.Value.{Value}
 use Rattle.bs_words.specs.declared.values.Value.TheVariants.{Function}
-use Rattle.emit_rules.specs.Entry.{frame_release}
-use Rattle.emit_rules.specs.Instructions.{goes_to_address}
-use Rattle.emit_rules.specs.Tests.{value_words}
-use Rattle.layout_rules.specs.Words.{NameAddresses}
+use Rattle.rv_emit_rules.specs.Entry.{frame_release}
+use Rattle.rv_emit_rules.specs.Instructions.{goes_to_address}
+use Rattle.rv_emit_rules.specs.Tests.{value_words}
+use Rattle.rv_layout_rules.specs.Words.{NameAddresses}
 use Rattle.lin_ir.specs.Formed.{IsLocation}
 use Rattle.lin_ir.specs.Meaning.{Locations}
 use Rattle.lin_ir.specs.declared.lin.Lin.{Lin}
@@ -18,14 +18,14 @@ use Rattle.rv_isa.specs.declared.instr.Instr.TheVariants.{Jalr, OpImm}
 use Rattle.rv_isa.specs.declared.register.Register.TheVariants.{T1}
 use Rattle.rv_machine.specs.Hart.{Placed}
 use Rattle.rv_machine.specs.Memory.{code_start}
-use Rattle.linear_machine.specs.Moments.{AtEntry}
-use Rattle.linear_machine.specs.Relation.{Below, Laid, StandsFor, Within, blocks_by_serial}
-use Rattle.linear_machine.specs.View.{Fixed, IsInstructionAt, View}
-use Rattle.linear_machine.proofs.Formats.{sets_imm}
-use Rattle.linear_machine.proofs.Locations.{read_register, slot_word}
-use Rattle.linear_machine.proofs.Sequences.{sets_as}
-use Rattle.linear_machine.proofs.Standing.{within_past}
-use Rattle.linear_machine.proofs.Steps.{at_place, then_leads}
+use Rattle.lin_machine.specs.Moments.{AtEntry}
+use Rattle.lin_machine.specs.Relation.{Below, Laid, StandsFor, Within, blocks_by_serial}
+use Rattle.lin_machine.specs.View.{Fixed, IsInstructionAt, View}
+use Rattle.lin_machine.proofs.Formats.{sets_imm}
+use Rattle.lin_machine.proofs.Locations.{read_register, slot_word}
+use Rattle.lin_machine.proofs.Sequences.{sets_as}
+use Rattle.lin_machine.proofs.Standing.{within_past}
+use Rattle.lin_machine.proofs.Steps.{at_place, then_leads}
 use Rattle.line_stands.specs.Parts.{PartStands}
 use Rattle.line_stands.proofs.Parts.{splits}
 use Rattle.line_values.proofs.Operands.{offset_small}

@@ -9,7 +9,7 @@ use Rattle.bs_words.specs.declared.types.Ty.TheVariants as ty
 use Rattle.bs_words.specs.declared.values.Value.{Value}
 use Rattle.cmm_meaning.specs.State.{Doing, Gave, Threw}
 use Rattle.image_form.specs.Tables.{Desc}
-use Rattle.layout_rules.specs.Laid.{address_of_place}
+use Rattle.rv_layout_rules.specs.Laid.{address_of_place}
 use Rattle.lin_ir.specs.Formed.{spare}
 use Rattle.lin_ir.specs.Meaning.{Locations, NamedAt, after_label, are_vals, at_handler, clear_destroyed, is_named_location, holds_val, on_act, poisoned, assign_spot, put_if, same_loc, unless_pointer, wrote}
 use Rattle.lin_ir.specs.declared.lin.Lin.{Lin}
@@ -25,11 +25,11 @@ use Rattle.mach_ir.specs.declared.op.Op.TheVariants as op
 use Rattle.rv_machine.specs.Frames.{descriptor_at, names_register}
 use Rattle.rv_machine.specs.Hart.{Placed}
 use Rattle.moving_laws.specs.Waiting.{IsBack}
-use Rattle.linear_machine.specs.Follows.{Agrees, IsAfter, IsAt, IsDone, IsEntered}
-use Rattle.linear_machine.specs.Relation.{AreCarried, Below, IsDescribed, Laid, Within, blocks_by_serial, pushed}
-use Rattle.linear_machine.specs.View.{Fixed, View}
-use Rattle.linear_machine.proofs.Calls.{IsCaller, IsFresh, catches, catches_place, comes_back, enters, passes_on}
-use Rattle.linear_machine.proofs.Frames.{poisoned_some, none_left}
+use Rattle.lin_machine.specs.Follows.{Agrees, IsAfter, IsAt, IsDone, IsEntered}
+use Rattle.lin_machine.specs.Relation.{AreCarried, Below, IsDescribed, Laid, Within, blocks_by_serial, pushed}
+use Rattle.lin_machine.specs.View.{Fixed, View}
+use Rattle.lin_machine.proofs.Calls.{IsCaller, IsFresh, catches, catches_place, comes_back, enters, passes_on}
+use Rattle.lin_machine.proofs.Frames.{poisoned_some, none_left}
 use Rattle.line_calls.proofs.Handlers.{cleared_alone}
 
 -- ---- what the machine holds of a file, at a frame point

@@ -4,10 +4,10 @@ use Rattle.std.proofs.lemmas.Bool.{cases_lt, eqb-true, eqb-false}
 use Rattle.std.specs.List.{AllByRecursion}
 use Rattle.bs_words.specs.Memory.{Memory}
 use Rattle.bs_words.specs.declared.values.Value.{Value}
-use Rattle.emit_rules.specs.Constants.{bytes_taken_off}
-use Rattle.emit_rules.specs.Entry.{entry_pieces}
-use Rattle.emit_rules.specs.Slots.{stack_store}
-use Rattle.layout_rules.specs.Words.{NameAddresses}
+use Rattle.rv_emit_rules.specs.Constants.{bytes_taken_off}
+use Rattle.rv_emit_rules.specs.Entry.{entry_pieces}
+use Rattle.rv_emit_rules.specs.Slots.{stack_store}
+use Rattle.rv_layout_rules.specs.Words.{NameAddresses}
 use Rattle.lin_ir.specs.Formed.{places_of}
 use Rattle.lin_ir.specs.Meaning.{Locations, State, begin_linear, put_all, linear_start}
 use Rattle.lin_ir.specs.declared.lin.Line.{Line}
@@ -21,15 +21,15 @@ use Rattle.rv_machine.specs.Services.{StackOut}
 use Rattle.rv_machine.specs.Sound.{AreRegisters, IsRegion}
 use Rattle.moving_laws.specs.Words.{IsReadable}
 use Rattle.moving_laws.proofs.Usable.{stack_readable}
-use Rattle.linear_machine.specs.Arrival.{ArrivesIn, Needs}
-use Rattle.linear_machine.specs.Follows.{IsAt, IsEntered, needs_of}
-use Rattle.linear_machine.specs.Moments.{AtEntry}
-use Rattle.linear_machine.specs.Relation.{Below, Laid, Within}
-use Rattle.linear_machine.specs.View.{EndsRunAfter, Fixed, IsInstructionAt, View}
-use Rattle.linear_machine.proofs.Arriving.{ends_arrives, leads_in}
-use Rattle.linear_machine.proofs.Slots.{IsStackWord}
-use Rattle.linear_machine.proofs.Steps.{out_step, then_ends}
-use Rattle.linear_machine.proofs.Turning.{IsBegun, begins, saved}
+use Rattle.lin_machine.specs.Arrival.{ArrivesIn, Needs}
+use Rattle.lin_machine.specs.Follows.{IsAt, IsEntered, needs_of}
+use Rattle.lin_machine.specs.Moments.{AtEntry}
+use Rattle.lin_machine.specs.Relation.{Below, Laid, Within}
+use Rattle.lin_machine.specs.View.{EndsRunAfter, Fixed, IsInstructionAt, View}
+use Rattle.lin_machine.proofs.Arriving.{ends_arrives, leads_in}
+use Rattle.lin_machine.proofs.Slots.{IsStackWord}
+use Rattle.lin_machine.proofs.Steps.{out_step, then_ends}
+use Rattle.lin_machine.proofs.Turning.{IsBegun, begins, saved}
 use Rattle.line_stands.specs.Parts.{PartStands}
 use Rattle.line_stands.proofs.Parts.{nothing_more, splits}
 use Rattle.line_calls.specs.Reaches.{Reaches}

@@ -5,12 +5,12 @@ use Rattle.bs_words.specs.Fits.{data_start}
 use Rattle.bs_words.specs.declared.types.Ret.TheVariants as ret
 use Rattle.bs_words.specs.declared.values.Value.{Value}
 use Rattle.cmm_types.proofs.Containing.{contains_none}
-use Rattle.emit_rules.specs.Entry.{FrameLayout}
-use Rattle.emit_rules.specs.Named.{IsExternalOf}
-use Rattle.layout_rules.specs.declared.form.Form.TheVariants.{Near}
-use Rattle.layout_rules.specs.Laid.{address_of_place, descriptor_laid_at}
-use Rattle.layout_rules.specs.Stands.{HasPieces}
-use Rattle.layout_rules.specs.Words.{NameAddresses}
+use Rattle.rv_emit_rules.specs.Entry.{FrameLayout}
+use Rattle.rv_emit_rules.specs.Named.{IsExternalOf}
+use Rattle.rv_layout_rules.specs.declared.form.Form.TheVariants.{Near}
+use Rattle.rv_layout_rules.specs.Laid.{address_of_place, descriptor_laid_at}
+use Rattle.rv_layout_rules.specs.Stands.{HasPieces}
+use Rattle.rv_layout_rules.specs.Words.{NameAddresses}
 use Rattle.lin_ir.specs.Formed.{formed_op, goes_to, pushes}
 use Rattle.lin_ir.specs.Meaning.{Locations, step}
 use Rattle.lin_ir.specs.declared.descr.Descr.{Descr}
@@ -29,9 +29,9 @@ use Rattle.mach_ir.specs.declared.op.Leaving.TheVariants as leaving
 use Rattle.mach_ir.specs.declared.op.Op.TheVariants as op
 use Rattle.rv_machine.specs.Frames.{descriptor_at, names_register}
 use Rattle.rv_pieces.specs.declared.piece.Piece.TheVariants.{Call, Descriptor}
-use Rattle.linear_machine.specs.Follows.{IsAt}
-use Rattle.linear_machine.specs.Relation.{Below, IsDescribed, Laid, StandsFor}
-use Rattle.linear_machine.specs.View.{Fixed, View}
+use Rattle.lin_machine.specs.Follows.{IsAt}
+use Rattle.lin_machine.specs.Relation.{Below, IsDescribed, Laid, StandsFor}
+use Rattle.lin_machine.specs.View.{Fixed, View}
 use Rattle.line_stands.specs.Lines.{LineStands}
 use Rattle.line_stands.specs.Names.{NamesStand}
 use Rattle.line_calls.specs.Calls.{FollowsSo}

@@ -9,13 +9,13 @@ use Rattle.bs_words.specs.declared.types.Loc.{Loc}
 use Rattle.bs_words.specs.declared.types.Loc.TheVariants as loc
 use Rattle.bs_words.specs.declared.values.Value.{Value}
 use Rattle.cmm_meaning.specs.State.{Gave, Outside}
-use Rattle.emit_rules.specs.Calls.{external_words}
-use Rattle.emit_rules.specs.Constants.{constant_pieces}
-use Rattle.emit_rules.specs.Instructions.{ecall, low_12}
+use Rattle.rv_emit_rules.specs.Calls.{external_words}
+use Rattle.rv_emit_rules.specs.Constants.{constant_pieces}
+use Rattle.rv_emit_rules.specs.Instructions.{ecall, low_12}
 use Rattle.image_form.specs.Image.{IsArgument, IsExt}
-use Rattle.layout_rules.specs.Laid.{address_of_place, descriptor_laid_at}
-use Rattle.layout_rules.specs.Words.{NameAddresses, upper}
-use Rattle.layout_rules.proofs.Offsets.{number_lands}
+use Rattle.rv_layout_rules.specs.Laid.{address_of_place, descriptor_laid_at}
+use Rattle.rv_layout_rules.specs.Words.{NameAddresses, upper}
+use Rattle.rv_layout_rules.proofs.Offsets.{number_lands}
 use Rattle.lin_ir.specs.Formed.{comps, places_of, spare}
 use Rattle.lin_ir.specs.Meaning.{Locations, NamedAt, after_label, are_vals, is_named_location, on_act, on_values, poisoned, step, unless_misnamed, values}
 use Rattle.lin_ir.specs.declared.descr.Descr.{Descr}
@@ -41,19 +41,19 @@ use Rattle.rv_machine.specs.Services.{Machine, arguments_from, call_made}
 use Rattle.rv_machine.specs.Sound.{AreRegisters}
 use Rattle.rv_pieces.specs.declared.piece.Piece.TheVariants.{ExternalNumber}
 use Rattle.moving_laws.specs.Stands.{AmongNumbers}
-use Rattle.linear_machine.specs.Arrival.{ArrivesIn, needs_nothing}
-use Rattle.linear_machine.specs.Follows.{Agrees, IsAfter}
-use Rattle.linear_machine.specs.Outside.{IsAsking, Taken, counted_call, observed_argument, taken_alone, taken_moving}
+use Rattle.lin_machine.specs.Arrival.{ArrivesIn, needs_nothing}
+use Rattle.lin_machine.specs.Follows.{Agrees, IsAfter}
+use Rattle.lin_machine.specs.Outside.{IsAsking, Taken, counted_call, observed_argument, taken_alone, taken_moving}
 use Rattle.cmm_meaning.specs.Run.{given_back}
-use Rattle.linear_machine.specs.Relation.{AreCarried, Below, IsDescribed, Laid, Within, blocks_by_serial}
-use Rattle.linear_machine.specs.View.{Fixed, IsInstructionAt, HasView, View}
-use Rattle.linear_machine.proofs.Arriving.{leads_in}
-use Rattle.linear_machine.proofs.Formats.{sets_imm, sets_lui}
-use Rattle.linear_machine.proofs.Moving.{hart_of, within_like}
-use Rattle.linear_machine.proofs.Operating.{dropped}
-use Rattle.linear_machine.proofs.Sequences.{sets_as}
-use Rattle.linear_machine.proofs.Serving.{hart_is, with_memory}
-use Rattle.linear_machine.proofs.Standing.{IsFree, within_changed, within_less}
+use Rattle.lin_machine.specs.Relation.{AreCarried, Below, IsDescribed, Laid, Within, blocks_by_serial}
+use Rattle.lin_machine.specs.View.{Fixed, IsInstructionAt, HasView, View}
+use Rattle.lin_machine.proofs.Arriving.{leads_in}
+use Rattle.lin_machine.proofs.Formats.{sets_imm, sets_lui}
+use Rattle.lin_machine.proofs.Moving.{hart_of, within_like}
+use Rattle.lin_machine.proofs.Operating.{dropped}
+use Rattle.lin_machine.proofs.Sequences.{sets_as}
+use Rattle.lin_machine.proofs.Serving.{hart_is, with_memory}
+use Rattle.lin_machine.proofs.Standing.{IsFree, within_changed, within_less}
 use Rattle.line_stands.specs.Names.{IsRowAt}
 use Rattle.line_stands.specs.Parts.{PartStands}
 use Rattle.line_stands.proofs.Parts.{begins, splits}

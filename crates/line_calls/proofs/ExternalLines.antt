@@ -25,16 +25,16 @@ use Rattle.mach_ir.specs.declared.op.Calling.TheVariants as calling
 use Rattle.mach_ir.specs.declared.op.Op.TheVariants as op
 use Rattle.rv_machine.specs.Hart.{Placed}
 use Rattle.rv_machine.specs.Memory.{code_start, memory_word}
-use Rattle.layout_rules.specs.Laid.{address_of_place}
-use Rattle.linear_machine.specs.Files.{IsPut}
-use Rattle.linear_machine.specs.Follows.{IsAfter, IsAt}
+use Rattle.rv_layout_rules.specs.Laid.{address_of_place}
+use Rattle.lin_machine.specs.Files.{IsPut}
+use Rattle.lin_machine.specs.Follows.{IsAfter, IsAt}
 use Rattle.cmm_meaning.specs.Run.{given_back}
-use Rattle.linear_machine.specs.Relation.{Below, Laid, StandsFor, Within, blocks_by_serial}
-use Rattle.linear_machine.specs.Straight.{Differs}
-use Rattle.linear_machine.specs.View.{Fixed, View}
-use Rattle.linear_machine.proofs.Following.{put_is, same_loc-machine}
-use Rattle.linear_machine.proofs.Standing.{within_put, a0_location}
-use Rattle.linear_machine.proofs.Trapping.{handler_is, popped, throws}
+use Rattle.lin_machine.specs.Relation.{Below, Laid, StandsFor, Within, blocks_by_serial}
+use Rattle.lin_machine.specs.Straight.{Differs}
+use Rattle.lin_machine.specs.View.{Fixed, View}
+use Rattle.lin_machine.proofs.Following.{put_is, same_loc-machine}
+use Rattle.lin_machine.proofs.Standing.{within_put, a0_location}
+use Rattle.lin_machine.proofs.Trapping.{handler_is, popped, throws}
 use Rattle.line_calls.proofs.Seats.{first_seated}
 use Rattle.line_calls.proofs.Traps.{own_trap_of}
 

@@ -31,18 +31,18 @@ use Rattle.machine_laws.proofs.Memory.{word_below}
 use Rattle.machine_laws.proofs.Words.{other_register, with_registers}
 use Rattle.machine_laws.proofs.Serving.{filled_are}
 use Rattle.moving_laws.proofs.Words.{same_or_not}
-use Rattle.linear_machine.specs.Arrival.{Gone, Needs}
-use Rattle.linear_machine.specs.Outside.{GoesOn, Taken, taken_moving}
+use Rattle.lin_machine.specs.Arrival.{Gone, Needs}
+use Rattle.lin_machine.specs.Outside.{GoesOn, Taken, taken_moving}
 use Rattle.cmm_meaning.specs.Run.{given_back}
-use Rattle.linear_machine.specs.Relation.{Below, IsDescribed, Laid, Within, blocks_by_serial}
-use Rattle.linear_machine.specs.Straight.{Differs}
-use Rattle.linear_machine.specs.View.{Fixed, IsInstructionAt, HasView, View}
-use Rattle.linear_machine.proofs.Jumps.{back_place}
-use Rattle.linear_machine.proofs.Likes.{like_refl}
-use Rattle.linear_machine.proofs.Moving.{left, left_is, within_after}
-use Rattle.linear_machine.proofs.Serving.{collection, collection_not, hart_is, with_memory, within_there}
-use Rattle.linear_machine.proofs.Steps.{one_step, other_number, ready, ready_stands}
-use Rattle.linear_machine.proofs.Storing.{bytes_need}
+use Rattle.lin_machine.specs.Relation.{Below, IsDescribed, Laid, Within, blocks_by_serial}
+use Rattle.lin_machine.specs.Straight.{Differs}
+use Rattle.lin_machine.specs.View.{Fixed, IsInstructionAt, HasView, View}
+use Rattle.lin_machine.proofs.Jumps.{back_place}
+use Rattle.lin_machine.proofs.Likes.{like_refl}
+use Rattle.lin_machine.proofs.Moving.{left, left_is, within_after}
+use Rattle.lin_machine.proofs.Serving.{collection, collection_not, hart_is, with_memory, within_there}
+use Rattle.lin_machine.proofs.Steps.{one_step, other_number, ready, ready_stands}
+use Rattle.lin_machine.proofs.Storing.{bytes_need}
 use Rattle.line_calls.proofs.Outside.{behind, behind_are, behind_others, behind_result, within_behind}
 use Rattle.line_calls.proofs.Traps.{IsTrap, is_trap}
 

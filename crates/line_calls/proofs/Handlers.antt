@@ -4,11 +4,11 @@ use Rattle.std.proofs.lemmas.Bool.{cases_lt}
 use Rattle.bs_words.specs.declared.types.Loc.{Loc}
 use Rattle.bs_words.specs.declared.types.Loc.TheVariants as loc
 use Rattle.bs_words.specs.declared.values.Value.{Value}
-use Rattle.emit_rules.specs.Calls.{return_part}
-use Rattle.emit_rules.specs.Slots.{move_pieces}
-use Rattle.emit_rules.specs.Traps.{enter_part, pop_part, push_part, raise_words}
-use Rattle.layout_rules.specs.Laid.{address_of_place}
-use Rattle.layout_rules.specs.Words.{NameAddresses}
+use Rattle.rv_emit_rules.specs.Calls.{return_part}
+use Rattle.rv_emit_rules.specs.Slots.{move_pieces}
+use Rattle.rv_emit_rules.specs.Traps.{enter_part, pop_part, push_part, raise_words}
+use Rattle.rv_layout_rules.specs.Laid.{address_of_place}
+use Rattle.rv_layout_rules.specs.Words.{NameAddresses}
 use Rattle.lin_ir.specs.Meaning.{Locations, NamedAt, after_label, clear_destroyed, on_act, assign_spot, same_loc, step}
 use Rattle.lin_ir.specs.declared.lin.Flow.TheVariants as flow
 use Rattle.lin_ir.specs.declared.lin.Lin.{Lin}
@@ -28,21 +28,21 @@ use Rattle.rv_machine.specs.Memory.{code_start, memory_word}
 use Rattle.rv_machine.specs.Services.{StackOut}
 use Rattle.moving_laws.specs.Waiting.{IsBack}
 use Rattle.moving_laws.specs.Words.{IsReadable}
-use Rattle.linear_machine.specs.Follows.{Agrees, FollowsStep, IsAt, needs_of}
-use Rattle.linear_machine.specs.Arrival.{ArrivesIn}
-use Rattle.linear_machine.specs.Moments.{AtReturn, AtThrow}
-use Rattle.linear_machine.specs.Relation.{AreCarried, Below, IsLocationRegister, Laid, RegistersHold, StandsFor, Within, blocks_by_serial}
-use Rattle.linear_machine.specs.Straight.{LeadsFurther, Differs}
-use Rattle.linear_machine.specs.View.{Fixed, HasCode, ReachesView, View}
-use Rattle.linear_machine.proofs.Arriving.{ends_arrives, leads_in}
-use Rattle.linear_machine.proofs.Endings.{Leading, pop_follows, push_follows, raise_follows, return_nothing, return_value}
-use Rattle.linear_machine.proofs.Following.{result_follows, same_loc-true}
-use Rattle.linear_machine.proofs.Frames.{heap_around}
-use Rattle.linear_machine.proofs.Jumps.{raise_differs, raise_high, raise_leads, raise_place, raise_points, raise_value, raised_at}
-use Rattle.linear_machine.proofs.Parts.{comes_here}
-use Rattle.linear_machine.proofs.Standing.{a0_location}
-use Rattle.linear_machine.proofs.Trapping.{handler_is, popped, popped_registers, pushes, throws}
-use Rattle.linear_machine.proofs.Turning.{placed_past}
+use Rattle.lin_machine.specs.Follows.{Agrees, FollowsStep, IsAt, needs_of}
+use Rattle.lin_machine.specs.Arrival.{ArrivesIn}
+use Rattle.lin_machine.specs.Moments.{AtReturn, AtThrow}
+use Rattle.lin_machine.specs.Relation.{AreCarried, Below, IsLocationRegister, Laid, RegistersHold, StandsFor, Within, blocks_by_serial}
+use Rattle.lin_machine.specs.Straight.{LeadsFurther, Differs}
+use Rattle.lin_machine.specs.View.{Fixed, HasCode, ReachesView, View}
+use Rattle.lin_machine.proofs.Arriving.{ends_arrives, leads_in}
+use Rattle.lin_machine.proofs.Endings.{Leading, pop_follows, push_follows, raise_follows, return_nothing, return_value}
+use Rattle.lin_machine.proofs.Following.{result_follows, same_loc-true}
+use Rattle.lin_machine.proofs.Frames.{heap_around}
+use Rattle.lin_machine.proofs.Jumps.{raise_differs, raise_high, raise_leads, raise_place, raise_points, raise_value, raised_at}
+use Rattle.lin_machine.proofs.Parts.{comes_here}
+use Rattle.lin_machine.proofs.Standing.{a0_location}
+use Rattle.lin_machine.proofs.Trapping.{handler_is, popped, popped_registers, pushes, throws}
+use Rattle.lin_machine.proofs.Turning.{placed_past}
 use Rattle.line_stands.specs.Parts.{PartStands}
 use Rattle.line_stands.proofs.Parts.{nothing_more}
 use Rattle.lin_laws.proofs.Forms.{same_machine}

@@ -4,12 +4,12 @@ use Rattle.std.proofs.lemmas.Bool.{eqb-true}
 use Rattle.bs_words.specs.Word.{add_word}
 use Rattle.bs_words.specs.declared.types.Loc.TheVariants as loc
 use Rattle.bs_words.specs.declared.values.Value.{Value}
-use Rattle.emit_rules.specs.Calls.{return_part}
-use Rattle.emit_rules.specs.Constants.{sum_to}
-use Rattle.emit_rules.specs.Entry.{frame_release}
-use Rattle.emit_rules.specs.Instructions.{goes_to_address}
-use Rattle.emit_rules.specs.Slots.{stack_load}
-use Rattle.layout_rules.specs.Words.{NameAddresses}
+use Rattle.rv_emit_rules.specs.Calls.{return_part}
+use Rattle.rv_emit_rules.specs.Constants.{sum_to}
+use Rattle.rv_emit_rules.specs.Entry.{frame_release}
+use Rattle.rv_emit_rules.specs.Instructions.{goes_to_address}
+use Rattle.rv_emit_rules.specs.Slots.{stack_load}
+use Rattle.rv_layout_rules.specs.Words.{NameAddresses}
 use Rattle.lin_ir.specs.Meaning.{Locations}
 use Rattle.mach_ir.specs.Acts.{Around, is_complete}
 use Rattle.rv_isa.specs.declared.instr.Instr.TheVariants.{Jalr}
@@ -20,15 +20,15 @@ use Rattle.rv_machine.specs.Memory.{Region, code_start, memory_word}
 use Rattle.rv_machine.specs.Sound.{AreRegisters}
 use Rattle.moving_laws.specs.Words.{IsReadable}
 use Rattle.moving_laws.proofs.Usable.{stack_readable}
-use Rattle.linear_machine.specs.Moments.{AtReturn}
-use Rattle.linear_machine.specs.Relation.{Below, Laid, ReturnStands, Within}
-use Rattle.linear_machine.specs.View.{Fixed, View, IsInstructionAt, ReachesView}
-use Rattle.linear_machine.proofs.Formats.{sets_jalr}
+use Rattle.lin_machine.specs.Moments.{AtReturn}
+use Rattle.lin_machine.specs.Relation.{Below, Laid, ReturnStands, Within}
+use Rattle.lin_machine.specs.View.{Fixed, View, IsInstructionAt, ReachesView}
+use Rattle.lin_machine.proofs.Formats.{sets_jalr}
 use Rattle.machine_laws.proofs.Immediates.{low_12, up}
-use Rattle.linear_machine.proofs.Jumps.{back_place}
-use Rattle.linear_machine.proofs.Slots.{IsStackWord}
-use Rattle.linear_machine.proofs.Steps.{at_place, reg, set_to_step, then_leads}
-use Rattle.linear_machine.proofs.Turning.{leaves}
+use Rattle.lin_machine.proofs.Jumps.{back_place}
+use Rattle.lin_machine.proofs.Slots.{IsStackWord}
+use Rattle.lin_machine.proofs.Steps.{at_place, reg, set_to_step, then_leads}
+use Rattle.lin_machine.proofs.Turning.{leaves}
 use Rattle.line_stands.specs.Parts.{PartStands}
 use Rattle.line_stands.proofs.Parts.{nothing_more, splits}
 use Rattle.line_calls.specs.Laws.{frame_in}

@@ -1,15 +1,15 @@
 -- A part with a descriptor in it: what is before it and what is after it.
 use Rattle.std.proofs.Common.{◌≡◌, ℕ, ◌+◌, ◌<◌, List, [], ◌∷◌, ◌++◌, append_assoc, length, Some, arith, subst}
-use Rattle.layout_rules.specs.declared.form.Form.{Form}
-use Rattle.layout_rules.specs.Forms.{ReachFrom, total_words, piece_words}
-use Rattle.layout_rules.specs.Laid.{address_of_place, descriptor_laid_at}
-use Rattle.layout_rules.specs.Stands.{HasPieces}
-use Rattle.layout_rules.specs.Words.{NameAddresses}
+use Rattle.rv_layout_rules.specs.declared.form.Form.{Form}
+use Rattle.rv_layout_rules.specs.Forms.{ReachFrom, total_words, piece_words}
+use Rattle.rv_layout_rules.specs.Laid.{address_of_place, descriptor_laid_at}
+use Rattle.rv_layout_rules.specs.Stands.{HasPieces}
+use Rattle.rv_layout_rules.specs.Words.{NameAddresses}
 use Rattle.lin_ir.specs.declared.descr.Descr.{Descr}
 use Rattle.rv_machine.specs.Frames.{descriptor_at}
 use Rattle.rv_pieces.specs.declared.piece.Piece.{Piece}
 use Rattle.rv_pieces.specs.declared.piece.Piece.TheVariants.{Descriptor}
-use Rattle.linear_machine.specs.View.{Fixed}
+use Rattle.lin_machine.specs.View.{Fixed}
 use Rattle.line_stands.specs.Parts.{PartStands, label_place}
 use Rattle.line_stands.proofs.Parts.{mark_none}
 use Rattle.line_calls.specs.Points.{AreMarked}

@@ -35,9 +35,9 @@ use Rattle.mach_ir.specs.declared.op.Op.TheVariants as op
 use Rattle.mach_ir.specs.declared.op.Pure.{Pure}
 use Rattle.mach_ir.specs.declared.op.Pure.TheVariants as pure
 use Rattle.mach_ir.specs.declared.op.Right.TheVariants as right
-use Rattle.linear_machine.specs.Follows.{FollowsStep}
-use Rattle.linear_machine.specs.Relation.{Below, Laid}
-use Rattle.linear_machine.specs.View.{Fixed, View}
+use Rattle.lin_machine.specs.Follows.{FollowsStep}
+use Rattle.lin_machine.specs.Relation.{Below, Laid}
+use Rattle.lin_machine.specs.View.{Fixed, View}
 use Rattle.line_calls.specs.Calls.{FollowsSo}
 use Rattle.line_calls.proofs.Blocks.{blocks_are_made}
 

@@ -2,9 +2,9 @@
 use Rattle.std.proofs.Common.{◌≡◌, ◌≢◌, ℕ, suc, ◌+◌, ◌-◌, ◌%◌, ◌^◌, ◌<◌, ◌≤◌, inl, inr, Bool, true, false, cond, nat_le, nat_lt, [], ◌∷◌, ◌++◌, slice_index, refl, ap₂, arith, ◌∙◌, sym, subst, ⊎_elim}
 use Rattle.std.proofs.lemmas.Bool.{leb-true, ltb-true}
 use Rattle.bs_words.specs.Word.{add_word, sub_word}
-use Rattle.emit_rules.specs.Constants.{constant_pieces, bytes_taken_off, sum_to}
-use Rattle.emit_rules.specs.Instructions.{add, alu_operation, with_immediate}
-use Rattle.layout_rules.specs.Words.{NameAddresses}
+use Rattle.rv_emit_rules.specs.Constants.{constant_pieces, bytes_taken_off, sum_to}
+use Rattle.rv_emit_rules.specs.Instructions.{add, alu_operation, with_immediate}
+use Rattle.rv_layout_rules.specs.Words.{NameAddresses}
 use Rattle.rv_isa.specs.Registers.{register_number}
 use Rattle.rv_isa.specs.declared.instr.AluImmOp.TheVariants.{Addi}
 use Rattle.rv_isa.specs.declared.instr.AluOp.TheVariants.{Add, Sub}
@@ -12,13 +12,13 @@ use Rattle.rv_isa.specs.declared.instr.Instr.{Instr}
 use Rattle.rv_isa.specs.declared.instr.Instr.TheVariants.{Op, OpImm}
 use Rattle.rv_isa.specs.declared.register.Register.{Register}
 use Rattle.rv_machine.specs.Sound.{AreRegisters}
-use Rattle.linear_machine.specs.View.{Fixed, View, IsInstructionAt}
-use Rattle.linear_machine.proofs.Formats.{sets_imm, sets_op}
-use Rattle.linear_machine.proofs.Jumps.{add_near, less_near}
+use Rattle.lin_machine.specs.View.{Fixed, View, IsInstructionAt}
+use Rattle.lin_machine.proofs.Formats.{sets_imm, sets_op}
+use Rattle.lin_machine.proofs.Jumps.{add_near, less_near}
 use Rattle.machine_laws.proofs.Immediates.{up}
-use Rattle.linear_machine.proofs.Sequences.{sets_as}
-use Rattle.linear_machine.proofs.Steps.{Passes, SetsRegister}
-use Rattle.layout_rules.specs.Forms.{total_words}
+use Rattle.lin_machine.proofs.Sequences.{sets_as}
+use Rattle.lin_machine.proofs.Steps.{Passes, SetsRegister}
+use Rattle.rv_layout_rules.specs.Forms.{total_words}
 use Rattle.line_stands.specs.Parts.{PartStands}
 use Rattle.line_values.proofs.Chains.{constant_comes}
 use Rattle.line_stands.proofs.Parts.{splits}

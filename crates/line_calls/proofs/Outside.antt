@@ -24,14 +24,14 @@ use Rattle.rv_machine.specs.Sound.{AllWords, AreRegisters}
 use Rattle.machine_laws.proofs.Words.{other_register, with_registers}
 use Rattle.machine_laws.proofs.Serving.{filled_are}
 use Rattle.moving_laws.specs.Stands.{AmongNumbers}
-use Rattle.linear_machine.specs.Files.{HoldsLess}
-use Rattle.linear_machine.specs.Outside.{GoesOn, Taken, taken_alone}
+use Rattle.lin_machine.specs.Files.{HoldsLess}
+use Rattle.lin_machine.specs.Outside.{GoesOn, Taken, taken_alone}
 use Rattle.cmm_meaning.specs.Run.{given_back}
-use Rattle.linear_machine.specs.Relation.{Below, Laid, ReturnStands, Within}
-use Rattle.linear_machine.specs.View.{Fixed, IsInstructionAt, HasView, View}
-use Rattle.linear_machine.proofs.Standing.{IsFree, within_changed}
-use Rattle.linear_machine.proofs.Likes.{known_either}
-use Rattle.linear_machine.proofs.Steps.{one_step, other_number, ready, ready_stands}
+use Rattle.lin_machine.specs.Relation.{Below, Laid, ReturnStands, Within}
+use Rattle.lin_machine.specs.View.{Fixed, IsInstructionAt, HasView, View}
+use Rattle.lin_machine.proofs.Standing.{IsFree, within_changed}
+use Rattle.lin_machine.proofs.Likes.{known_either}
+use Rattle.lin_machine.proofs.Steps.{one_step, other_number, ready, ready_stands}
 
 -- ---- what it destroys
 

@@ -9,14 +9,14 @@ use Rattle.rv_machine.specs.Arithmetic.{imm_i}
 use Rattle.rv_machine.specs.Memory.{Region, write}
 use Rattle.rv_machine.specs.Sound.{AreRegisters, IsRegion}
 use Rattle.rv_pieces.specs.declared.piece.Piece.TheVariants.{Known}
-use Rattle.layout_rules.specs.Words.{NameAddresses}
+use Rattle.rv_layout_rules.specs.Words.{NameAddresses}
 use Rattle.moving_laws.specs.Stands.{AmongNumbers}
 use Rattle.moving_laws.specs.Words.{IsReadable}
-use Rattle.linear_machine.specs.Arrival.{ArrivalIn, ArrivesIn, Needs}
-use Rattle.linear_machine.specs.Straight.{IsPast}
-use Rattle.linear_machine.specs.View.{Fixed, View, IsInstructionAt}
-use Rattle.linear_machine.proofs.Sequences.{no_change, set_changes, store_more, then_here, widened}
-use Rattle.linear_machine.proofs.Steps.{Passes, SetsRegister, reg}
+use Rattle.lin_machine.specs.Arrival.{ArrivalIn, ArrivesIn, Needs}
+use Rattle.lin_machine.specs.Straight.{IsPast}
+use Rattle.lin_machine.specs.View.{Fixed, View, IsInstructionAt}
+use Rattle.lin_machine.proofs.Sequences.{no_change, set_changes, store_more, then_here, widened}
+use Rattle.lin_machine.proofs.Steps.{Passes, SetsRegister, reg}
 use Rattle.line_stands.specs.Parts.{PartStands}
 use Rattle.line_stands.proofs.Parts.{known, nothing_more}
 use Rattle.line_calls.specs.Reaches.{Reaches}

@@ -7,17 +7,17 @@ use Rattle.bs_words.specs.Word.{add_word}
 use Rattle.bs_words.specs.declared.types.Loc.{Loc}
 use Rattle.bs_words.specs.declared.types.Loc.TheVariants as loc
 use Rattle.bs_words.specs.declared.values.Value.{Value}
-use Rattle.emit_rules.specs.Constants.{constant_pieces, bytes_taken_off}
-use Rattle.emit_rules.specs.Instructions.{ecall, load_piece, skip}
-use Rattle.emit_rules.specs.Memory.{ask, reserved}
-use Rattle.emit_rules.specs.Sizes.{words_at_most}
-use Rattle.emit_rules.specs.Traversal.{EachPiece, each_none, each_more}
-use Rattle.emit_rules.specs.Values.{Makes, makes_first, makes_lower, makes_shift, makes_sum, makes_upper}
-use Rattle.emit_rules.proofs.Sizes.{constant-in}
-use Rattle.emit_rules.proofs.Values.{constant_is_made}
+use Rattle.rv_emit_rules.specs.Constants.{constant_pieces, bytes_taken_off}
+use Rattle.rv_emit_rules.specs.Instructions.{ecall, load_piece, skip}
+use Rattle.rv_emit_rules.specs.Memory.{ask, reserved}
+use Rattle.rv_emit_rules.specs.Sizes.{words_at_most}
+use Rattle.rv_emit_rules.specs.Traversal.{EachPiece, each_none, each_more}
+use Rattle.rv_emit_rules.specs.Values.{Makes, makes_first, makes_lower, makes_shift, makes_sum, makes_upper}
+use Rattle.rv_emit_rules.proofs.Sizes.{constant-in}
+use Rattle.rv_emit_rules.proofs.Values.{constant_is_made}
 use Rattle.image_form.specs.Tables.{Desc}
-use Rattle.layout_rules.specs.Words.{NameAddresses}
-use Rattle.layout_rules.proofs.Offsets.{by_13}
+use Rattle.rv_layout_rules.specs.Words.{NameAddresses}
+use Rattle.rv_layout_rules.proofs.Offsets.{by_13}
 use Rattle.lin_ir.specs.Meaning.{Locations, are_vals, poisoned}
 use Rattle.mach_ir.specs.Acts.{Around, is_complete}
 use Rattle.rv_isa.specs.Registers.{register_number}
@@ -40,18 +40,18 @@ use Rattle.rv_pieces.specs.declared.piece.Piece.{Piece}
 use Rattle.moving_laws.specs.Stands.{AmongNumbers}
 use Rattle.moving_laws.specs.Waiting.{traps_at}
 use Rattle.moving_laws.specs.Young.{Rises}
-use Rattle.linear_machine.specs.Arrival.{Arrives, ArrivesIn, Needs}
-use Rattle.linear_machine.specs.Relation.{AreCarried, Below, HeapStands, IsDescribed, Laid, ReturnStands, SlotsHold, StandsFor, TrapsStand, Waits, Within, blocks_by_serial}
-use Rattle.linear_machine.specs.Straight.{IsPast}
-use Rattle.linear_machine.specs.View.{Fixed, IsInstructionAt, View}
-use Rattle.linear_machine.proofs.Arriving.{at_least, leads_arrives, then_arrives}
-use Rattle.linear_machine.proofs.Formats.{goes_branch_on, goes_branch_taken}
-use Rattle.linear_machine.proofs.Frames.{poisoned_some}
-use Rattle.linear_machine.proofs.Limits.{HasLimit, NeedsMore, limit_arrives, needs_more, still_needs}
-use Rattle.linear_machine.proofs.Serving.{allocation_any}
-use Rattle.linear_machine.proofs.Standing.{IsFree, within_changed, within_less, within_past}
-use Rattle.linear_machine.proofs.Steps.{SetsRegister, at_place, go_step}
-use Rattle.linear_machine.proofs.Storing.{bytes_need}
+use Rattle.lin_machine.specs.Arrival.{Arrives, ArrivesIn, Needs}
+use Rattle.lin_machine.specs.Relation.{AreCarried, Below, HeapStands, IsDescribed, Laid, ReturnStands, SlotsHold, StandsFor, TrapsStand, Waits, Within, blocks_by_serial}
+use Rattle.lin_machine.specs.Straight.{IsPast}
+use Rattle.lin_machine.specs.View.{Fixed, IsInstructionAt, View}
+use Rattle.lin_machine.proofs.Arriving.{at_least, leads_arrives, then_arrives}
+use Rattle.lin_machine.proofs.Formats.{goes_branch_on, goes_branch_taken}
+use Rattle.lin_machine.proofs.Frames.{poisoned_some}
+use Rattle.lin_machine.proofs.Limits.{HasLimit, NeedsMore, limit_arrives, needs_more, still_needs}
+use Rattle.lin_machine.proofs.Serving.{allocation_any}
+use Rattle.lin_machine.proofs.Standing.{IsFree, within_changed, within_less, within_past}
+use Rattle.lin_machine.proofs.Steps.{SetsRegister, at_place, go_step}
+use Rattle.lin_machine.proofs.Storing.{bytes_need}
 use Rattle.line_stands.specs.Parts.{PartStands}
 use Rattle.line_stands.proofs.Parts.{known, nothing_more, splits}
 use Rattle.line_calls.specs.Reaches.{Reaches}

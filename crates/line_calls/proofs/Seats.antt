@@ -9,8 +9,8 @@ use Rattle.lin_ir.specs.Formed.{places_of}
 use Rattle.lin_ir.specs.Meaning.{Locations, as_type, assign_spot, put_all, put_if, same_loc, values, with_held}
 use Rattle.lin_ir.specs.declared.lin.Spot.{Spot}
 use Rattle.mach_ir.specs.Seats.{AreSeated, InOrder, argument_locations, in_order, result_locations}
-use Rattle.linear_machine.proofs.Following.{same_loc-true}
-use Rattle.linear_machine.proofs.Turning.{IsBegun}
+use Rattle.lin_machine.proofs.Following.{same_loc-true}
+use Rattle.lin_machine.proofs.Turning.{IsBegun}
 
 -- registers one after the other
 abbrev pub Rising : ℕ → List ℕ → Type 0

@@ -30,10 +30,10 @@ use Rattle.moving_laws.proofs.Fitting.{val_fits}
 use Rattle.moving_laws.proofs.Rewriting.{NoStart, at_start, far_no_start, odd_no_start, start_inside}
 use Rattle.moving_laws.proofs.Usable.{young_readable}
 use Rattle.moving_laws.proofs.Young.{found}
-use Rattle.linear_machine.specs.Outside.{observed_argument}
-use Rattle.linear_machine.specs.Relation.{Below, Laid, StandsFor, Within, blocks_by_serial}
-use Rattle.linear_machine.specs.View.{Fixed, View}
-use Rattle.linear_machine.proofs.Moving.{hart_of, heads_of}
+use Rattle.lin_machine.specs.Outside.{observed_argument}
+use Rattle.lin_machine.specs.Relation.{Below, Laid, StandsFor, Within, blocks_by_serial}
+use Rattle.lin_machine.specs.View.{Fixed, View}
+use Rattle.lin_machine.proofs.Moving.{hart_of, heads_of}
 use Rattle.line_calls.specs.Calls.{IsInTable}
 use Rattle.line_calls.proofs.Seats.{Rising, same_place, was_read}
 

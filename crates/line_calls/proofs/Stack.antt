@@ -2,9 +2,9 @@
 use Rattle.std.proofs.Common.{◌≡◌, ◌≢◌, ℕ, suc, ◌+◌, ◌%◌, ◌^◌, ◌<◌, Bool, true, false, cond, nat_lt, [], ◌∷◌, ◌++◌, slice_index, refl, arith, subst, ⊎_elim, inl}
 use Rattle.std.specs.List.{AllByRecursion}
 use Rattle.std.proofs.lemmas.Bool.{ltb-true}
-use Rattle.emit_rules.specs.Slots.{far_stack, stack_load, stack_store}
-use Rattle.emit_rules.specs.Instructions.{load_piece, store_piece}
-use Rattle.layout_rules.specs.Words.{NameAddresses}
+use Rattle.rv_emit_rules.specs.Slots.{far_stack, stack_load, stack_store}
+use Rattle.rv_emit_rules.specs.Instructions.{load_piece, store_piece}
+use Rattle.rv_layout_rules.specs.Words.{NameAddresses}
 use Rattle.rv_isa.specs.Registers.{register_number}
 use Rattle.rv_isa.specs.declared.instr.AluOp.TheVariants.{Add}
 use Rattle.rv_isa.specs.declared.instr.Instr.TheVariants.{Load, Lui, Op, Store}
@@ -14,8 +14,8 @@ use Rattle.rv_isa.specs.declared.register.Register.{Register}
 use Rattle.rv_isa.specs.declared.register.Register.TheVariants.{Sp}
 use Rattle.rv_machine.specs.Memory.{memory_word, write}
 use Rattle.rv_machine.specs.Sound.{AreRegisters, IsRegion}
-use Rattle.linear_machine.specs.View.{Fixed, View, HasCode}
-use Rattle.linear_machine.proofs.Slots.{IsStackWord, above_12, load_far, load_near, store_far, store_near}
+use Rattle.lin_machine.specs.View.{Fixed, View, HasCode}
+use Rattle.lin_machine.proofs.Slots.{IsStackWord, above_12, load_far, load_near, store_far, store_near}
 use Rattle.line_stands.specs.Parts.{PartStands}
 use Rattle.line_stands.proofs.Parts.{known}
 use Rattle.line_calls.specs.Reaches.{Reaches}

@@ -8,8 +8,8 @@ use Rattle.bs_words.specs.declared.values.Value.{Value}
 use Rattle.bs_words.specs.declared.values.Value.TheVariants.{Word, Block, Function}
 use Rattle.cmm_meaning.specs.Evaluation.{fit_parameters}
 use Rattle.cmm_meaning.specs.State.{Inside}
-use Rattle.emit_rules.specs.Calls.{tail_call_part}
-use Rattle.layout_rules.specs.Words.{NameAddresses}
+use Rattle.rv_emit_rules.specs.Calls.{tail_call_part}
+use Rattle.rv_layout_rules.specs.Words.{NameAddresses}
 use Rattle.lin_ir.specs.Formed.{IsLocation, places_of, spare}
 use Rattle.lin_ir.specs.Meaning.{Locations, NamedAt, on_act, on_values, step, values}
 use Rattle.lin_ir.specs.declared.lin.Lin.{Lin}
@@ -24,13 +24,13 @@ use Rattle.mach_ir.specs.declared.op.Callee.TheVariants as callee
 use Rattle.mach_ir.specs.declared.op.Calling.TheVariants as calling
 use Rattle.mach_ir.specs.declared.op.Op.TheVariants as op
 use Rattle.rv_machine.specs.Hart.{Placed}
-use Rattle.linear_machine.specs.Arrival.{ArrivesIn, needs_nothing}
-use Rattle.linear_machine.specs.Follows.{Agrees, FollowsStep, IsEntered}
-use Rattle.linear_machine.specs.Moments.{AtEntry}
-use Rattle.linear_machine.specs.Relation.{Below, Laid, StandsFor, Within}
-use Rattle.linear_machine.specs.View.{Fixed, View}
-use Rattle.linear_machine.proofs.Arriving.{leads_in}
-use Rattle.linear_machine.proofs.Pure.{Reads, reads_held}
+use Rattle.lin_machine.specs.Arrival.{ArrivesIn, needs_nothing}
+use Rattle.lin_machine.specs.Follows.{Agrees, FollowsStep, IsEntered}
+use Rattle.lin_machine.specs.Moments.{AtEntry}
+use Rattle.lin_machine.specs.Relation.{Below, Laid, StandsFor, Within}
+use Rattle.lin_machine.specs.View.{Fixed, View}
+use Rattle.lin_machine.proofs.Arriving.{leads_in}
+use Rattle.lin_machine.proofs.Pure.{Reads, reads_held}
 use Rattle.line_stands.specs.Parts.{PartStands}
 use Rattle.lin_laws.proofs.Forms.{same_machine}
 use Rattle.line_calls.specs.Leading.{LeadsUpTo}

@@ -5,14 +5,14 @@ use Rattle.bs_words.specs.Word.{add_word}
 use Rattle.bs_words.proofs.Below.{add_word-below, sext_word-below}
 use Rattle.bs_words.specs.declared.types.Loc.TheVariants as loc
 use Rattle.bs_words.specs.declared.values.Value.{Value}
-use Rattle.emit_rules.specs.Entry.{frame_release}
-use Rattle.layout_rules.specs.Laid.{address_of_place}
-use Rattle.layout_rules.specs.Words.{NameAddresses, call_code, distance, upper}
-use Rattle.layout_rules.specs.declared.form.Form.{Form}
-use Rattle.layout_rules.specs.declared.form.Form.TheVariants.{Near, Middle, Far}
-use Rattle.layout_rules.specs.Forms.{call_words}
-use Rattle.emit_rules.specs.Instructions.{low_12}
-use Rattle.layout_rules.proofs.Offsets.{far_lands, number_lands}
+use Rattle.rv_emit_rules.specs.Entry.{frame_release}
+use Rattle.rv_layout_rules.specs.Laid.{address_of_place}
+use Rattle.rv_layout_rules.specs.Words.{NameAddresses, call_code, distance, upper}
+use Rattle.rv_layout_rules.specs.declared.form.Form.{Form}
+use Rattle.rv_layout_rules.specs.declared.form.Form.TheVariants.{Near, Middle, Far}
+use Rattle.rv_layout_rules.specs.Forms.{call_words}
+use Rattle.rv_emit_rules.specs.Instructions.{low_12}
+use Rattle.rv_layout_rules.proofs.Offsets.{far_lands, number_lands}
 use Rattle.lin_ir.specs.Meaning.{Locations}
 use Rattle.mach_ir.specs.Acts.{Around, is_complete}
 use Rattle.mach_ir.specs.Runs.{entry_around}
@@ -27,16 +27,16 @@ use Rattle.rv_pieces.specs.declared.piece.Piece.TheVariants.{TailCall}
 use Rattle.moving_laws.specs.Stands.{AmongNumbers}
 use Rattle.moving_laws.specs.Values.{function_at}
 use Rattle.moving_laws.specs.Waiting.{traps_at}
-use Rattle.linear_machine.specs.Moments.{AtEntry}
-use Rattle.linear_machine.specs.Relation.{AreCarried, Below, HeapStands, Laid, StandsFor, TrapsStand, Waits, Within, blocks_by_serial}
-use Rattle.linear_machine.specs.Straight.{Differs}
-use Rattle.linear_machine.specs.View.{Fixed, HasCode, IsInstructionAt, View}
-use Rattle.linear_machine.proofs.Formats.{sets_auipc, sets_imm, sets_lui}
-use Rattle.linear_machine.proofs.Frames.{heap_whole}
-use Rattle.linear_machine.proofs.Sequences.{sets_as}
-use Rattle.linear_machine.proofs.Standing.{own_past}
-use Rattle.linear_machine.proofs.Steps.{at_place}
-use Rattle.linear_machine.proofs.Turning.{placed_past, usable_past}
+use Rattle.lin_machine.specs.Moments.{AtEntry}
+use Rattle.lin_machine.specs.Relation.{AreCarried, Below, HeapStands, Laid, StandsFor, TrapsStand, Waits, Within, blocks_by_serial}
+use Rattle.lin_machine.specs.Straight.{Differs}
+use Rattle.lin_machine.specs.View.{Fixed, HasCode, IsInstructionAt, View}
+use Rattle.lin_machine.proofs.Formats.{sets_auipc, sets_imm, sets_lui}
+use Rattle.lin_machine.proofs.Frames.{heap_whole}
+use Rattle.lin_machine.proofs.Sequences.{sets_as}
+use Rattle.lin_machine.proofs.Standing.{own_past}
+use Rattle.lin_machine.proofs.Steps.{at_place}
+use Rattle.lin_machine.proofs.Turning.{placed_past, usable_past}
 use Rattle.line_stands.specs.Parts.{PartStands}
 use Rattle.line_stands.proofs.Parts.{begins, nothing_more, splits}
 use Rattle.line_calls.specs.Leading.{LeadsUpTo}

@@ -2,11 +2,11 @@
 use Rattle.std.proofs.Common.{◌≡◌, ◌≢◌, ℕ, ◌+◌, ◌-◌, ◌*◌, ◌%◌, ◌<◌, ◌≤◌, inl, inr, List, [], ◌∷◌, ◌++◌, map, slice_index, refl, ap, arith, ◌∙◌, sym, subst, ⊎_elim}
 use Rattle.bs_words.specs.Word.{add_word}
 use Rattle.bs_words.proofs.Below.{add_word-below}
-use Rattle.emit_rules.specs.Instructions.{addi, mv, store_piece, low_12}
-use Rattle.emit_rules.specs.Traps.{pop_part, push_part, raise_words}
-use Rattle.layout_rules.specs.Laid.{address_of_place}
-use Rattle.layout_rules.specs.Words.{NameAddresses, distance, upper}
-use Rattle.layout_rules.proofs.Offsets.{far_lands}
+use Rattle.rv_emit_rules.specs.Instructions.{addi, mv, store_piece, low_12}
+use Rattle.rv_emit_rules.specs.Traps.{pop_part, push_part, raise_words}
+use Rattle.rv_layout_rules.specs.Laid.{address_of_place}
+use Rattle.rv_layout_rules.specs.Words.{NameAddresses, distance, upper}
+use Rattle.rv_layout_rules.proofs.Offsets.{far_lands}
 use Rattle.lin_ir.specs.Meaning.{Locations}
 use Rattle.mach_ir.specs.Acts.{Around}
 use Rattle.rv_isa.specs.declared.instr.AluImmOp.TheVariants.{Addi}
@@ -26,12 +26,12 @@ use Rattle.moving_laws.specs.Stands.{AmongNumbers}
 use Rattle.moving_laws.specs.Waiting.{IsBack, TrapsFrom, traps_at}
 use Rattle.moving_laws.specs.Words.{IsReadable}
 use Rattle.moving_laws.proofs.Usable.{stack_readable}
-use Rattle.linear_machine.specs.Relation.{Below, Laid, Within, waiting_trap_frames}
-use Rattle.linear_machine.specs.View.{EndsRunAfter, Fixed, HasCode, IsInstructionAt, View}
-use Rattle.linear_machine.proofs.Formats.{sets_auipc, sets_imm, sets_load}
-use Rattle.linear_machine.proofs.Jumps.{add_near, less_near}
-use Rattle.linear_machine.proofs.Sequences.{sets_as}
-use Rattle.linear_machine.proofs.Steps.{SetsRegister, out_step, then_ends}
+use Rattle.lin_machine.specs.Relation.{Below, Laid, Within, waiting_trap_frames}
+use Rattle.lin_machine.specs.View.{EndsRunAfter, Fixed, HasCode, IsInstructionAt, View}
+use Rattle.lin_machine.proofs.Formats.{sets_auipc, sets_imm, sets_load}
+use Rattle.lin_machine.proofs.Jumps.{add_near, less_near}
+use Rattle.lin_machine.proofs.Sequences.{sets_as}
+use Rattle.lin_machine.proofs.Steps.{SetsRegister, out_step, then_ends}
 use Rattle.line_stands.specs.Parts.{PartStands}
 use Rattle.line_stands.proofs.Parts.{begins, known}
 use Rattle.line_calls.specs.Reaches.{Reaches}

@@ -5,11 +5,11 @@ use Rattle.std.proofs.lemmas.List.Elements.{All-head, Contains-get_or}
 use Rattle.bs_words.specs.declared.types.Comp.{Comp}
 use Rattle.bs_words.specs.declared.types.Ret.{Ret}
 use Rattle.bs_words.specs.declared.types.Ret.TheVariants as ret
-use Rattle.emit_rules.specs.Calls.{call_words, external_words, mark_of}
-use Rattle.emit_rules.specs.Emitted.{part_of_line}
-use Rattle.emit_rules.specs.Entry.{FrameLayout}
-use Rattle.layout_rules.specs.Laid.{address_of_place, descriptor_laid_at}
-use Rattle.layout_rules.specs.Words.{NameAddresses}
+use Rattle.rv_emit_rules.specs.Calls.{call_words, external_words, mark_of}
+use Rattle.rv_emit_rules.specs.Emitted.{part_of_line}
+use Rattle.rv_emit_rules.specs.Entry.{FrameLayout}
+use Rattle.rv_layout_rules.specs.Laid.{address_of_place, descriptor_laid_at}
+use Rattle.rv_layout_rules.specs.Words.{NameAddresses}
 use Rattle.lin_ir.specs.Formed.{IsFormedLine, IsLocation, IsQuiet, comps, formed_flow, formed_op, FlowHasForm, pushes}
 use Rattle.lin_ir.specs.Meaning.{Locations, NamedAt, after_label, step, values}
 use Rattle.lin_ir.specs.Walks.{may_raise, targets}
@@ -39,9 +39,9 @@ use Rattle.rv_machine.specs.Hart.{Placed}
 use Rattle.rv_pieces.specs.declared.piece.Piece.{Piece}
 use Rattle.rv_pieces.specs.declared.piece.Piece.TheVariants.{Descriptor}
 use Rattle.moving_laws.specs.Waiting.{IsBack}
-use Rattle.linear_machine.specs.Follows.{Agrees, IsAt}
-use Rattle.linear_machine.specs.Relation.{Below, Laid, Within}
-use Rattle.linear_machine.specs.View.{Fixed, View}
+use Rattle.lin_machine.specs.Follows.{Agrees, IsAt}
+use Rattle.lin_machine.specs.Relation.{Below, Laid, Within}
+use Rattle.lin_machine.specs.View.{Fixed, View}
 use Rattle.line_stands.specs.Lines.{LineStands}
 use Rattle.line_stands.specs.Parts.{PartStands}
 use Rattle.line_stands.proofs.Parts.{mark_none, nothing_more, splits}

@@ -9,9 +9,9 @@ use Rattle.image_form.specs.Tables.{Tables}
 use Rattle.lin_ir.specs.Meaning.{State}
 use Rattle.lin_ir.specs.declared.lin.Line.{Line}
 use Rattle.mach_ir.specs.Runs.{Step, Continues, Pays, Deepens, Waits, FinishesBy, Finishes, FinishesRaising, IsStuck}
-use Rattle.linear_machine.specs.Follows.{FollowsAsked, FollowsCall, FollowsStep}
-use Rattle.linear_machine.specs.Relation.{Below, Laid}
-use Rattle.linear_machine.specs.View.{Fixed, View}
+use Rattle.lin_machine.specs.Follows.{FollowsAsked, FollowsCall, FollowsStep}
+use Rattle.lin_machine.specs.Relation.{Below, Laid}
+use Rattle.lin_machine.specs.View.{Fixed, View}
 
 -- a function that a value points to is in the table
 abbrev pub IsInTable : Tables → Value → Type 0

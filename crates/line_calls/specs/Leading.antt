@@ -1,6 +1,6 @@
 -- Words of a part that end in a jump, to somewhere else.
 use Rattle.std.specs.Prelude.{◌≡◌, ℕ, ◌+◌, ◌≤◌}
-use Rattle.linear_machine.specs.View.{Fixed, View, ReachesView}
+use Rattle.lin_machine.specs.View.{Fixed, View, ReachesView}
 
 -- The words from here up to a place, at least one, lead to where something holds.
 pub record LeadsUpTo (s : Fixed) (v : View) (to : ℕ) (P : View → Type 0) : Type 0 where

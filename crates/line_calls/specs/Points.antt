@@ -4,11 +4,11 @@ use Rattle.bs_words.specs.Fits.{data_start}
 use Rattle.bs_words.specs.declared.types.Comp.{Comp}
 use Rattle.bs_words.specs.declared.types.Ret.{Ret}
 use Rattle.cmm_meaning.specs.Setting.{Setting}
-use Rattle.emit_rules.specs.Emitted.{part_of_line}
-use Rattle.emit_rules.specs.Entry.{FrameLayout}
-use Rattle.layout_rules.specs.declared.form.Form.{Form}
-use Rattle.layout_rules.specs.Forms.{piece_words}
-use Rattle.layout_rules.specs.Laid.{address_of_place, descriptor_laid_at}
+use Rattle.rv_emit_rules.specs.Emitted.{part_of_line}
+use Rattle.rv_emit_rules.specs.Entry.{FrameLayout}
+use Rattle.rv_layout_rules.specs.declared.form.Form.{Form}
+use Rattle.rv_layout_rules.specs.Forms.{piece_words}
+use Rattle.rv_layout_rules.specs.Laid.{address_of_place, descriptor_laid_at}
 use Rattle.lin_ir.specs.Formed.{spare}
 use Rattle.lin_ir.specs.Meaning.{NamedAt, after_label, is_named_location, passes_frame}
 use Rattle.lin_ir.specs.Walks.{leaves}
@@ -30,8 +30,8 @@ use Rattle.rv_machine.specs.Frames.{descriptor_at, names_register}
 use Rattle.rv_pieces.specs.declared.piece.Piece.{Piece}
 use Rattle.rv_pieces.specs.declared.piece.Piece.TheVariants.{Descriptor}
 use Rattle.moving_laws.specs.Values.{function_at}
-use Rattle.linear_machine.specs.Relation.{IsDescribed, Laid}
-use Rattle.linear_machine.specs.View.{Fixed}
+use Rattle.lin_machine.specs.Relation.{IsDescribed, Laid}
+use Rattle.lin_machine.specs.View.{Fixed}
 
 -- ---- descriptors
 

@@ -1,8 +1,8 @@
 -- Words of a part that lead to a place, and what they change on the way.
 use Rattle.std.specs.Prelude.{◌≡◌, ℕ, ◌+◌, List}
 use Rattle.rv_machine.specs.Memory.{Region}
-use Rattle.linear_machine.specs.Straight.{Changes}
-use Rattle.linear_machine.specs.View.{Fixed, View}
+use Rattle.lin_machine.specs.Straight.{Changes}
+use Rattle.lin_machine.specs.View.{Fixed, View}
 
 -- They lead to this place, where these registers alone may have changed, and the memory is this
 -- one.

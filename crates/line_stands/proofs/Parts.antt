@@ -1,16 +1,16 @@
 -- Parts are read piece by piece.
 use Rattle.std.proofs.Common.{◌≡◌, ℕ, ◌+◌, ◌≤◌, List, [], ◌∷◌, ◌++◌, arith, subst, sym}
-use Rattle.layout_rules.specs.Forms.{ReachFrom, none_far, needed_form, form_rank, total_words, piece_words}
-use Rattle.layout_rules.specs.Laid.{address_of_place}
-use Rattle.layout_rules.specs.Stands.{HasPieces}
-use Rattle.layout_rules.specs.Stands as layout
-use Rattle.layout_rules.specs.Words.{NameAddresses, instructions_of_piece}
-use Rattle.layout_rules.specs.declared.form.Form.{Form}
+use Rattle.rv_layout_rules.specs.Forms.{ReachFrom, none_far, needed_form, form_rank, total_words, piece_words}
+use Rattle.rv_layout_rules.specs.Laid.{address_of_place}
+use Rattle.rv_layout_rules.specs.Stands.{HasPieces}
+use Rattle.rv_layout_rules.specs.Stands as layout
+use Rattle.rv_layout_rules.specs.Words.{NameAddresses, instructions_of_piece}
+use Rattle.rv_layout_rules.specs.declared.form.Form.{Form}
 use Rattle.lin_ir.specs.declared.descr.Descr.{Descr}
 use Rattle.rv_isa.specs.declared.instr.Instr.{Instr}
 use Rattle.rv_pieces.specs.declared.piece.Piece.{Piece}
 use Rattle.rv_pieces.specs.declared.piece.Piece.TheVariants.{Descriptor, Known, Label}
-use Rattle.linear_machine.specs.View.{Fixed, HasCode, IsInstructionAt}
+use Rattle.lin_machine.specs.View.{Fixed, HasCode, IsInstructionAt}
 use Rattle.line_stands.specs.Parts.{PartStands, label_place}
 
 module _ (s : Fixed) (n : NameAddresses) where

@@ -2,10 +2,10 @@
 use Rattle.std.specs.Prelude.{◌≡◌, ◌⊎◌, ℕ, suc, ◌^◌, ◌<◌, true, List, ◌∷◌, length, Option, Contains, ⊤}
 use Rattle.bs_words.specs.declared.types.Comp.{Comp}
 use Rattle.cmm_meaning.specs.Setting.{Setting}
-use Rattle.emit_rules.specs.Emitted.{part_of_line}
-use Rattle.emit_rules.specs.Entry.{FrameLayout}
-use Rattle.emit_rules.specs.Units.{tests_first}
-use Rattle.layout_rules.specs.Words.{NameAddresses}
+use Rattle.rv_emit_rules.specs.Emitted.{part_of_line}
+use Rattle.rv_emit_rules.specs.Entry.{FrameLayout}
+use Rattle.rv_emit_rules.specs.Units.{tests_first}
+use Rattle.rv_layout_rules.specs.Words.{NameAddresses}
 use Rattle.lin_ir.specs.Formed.{IsFormedLine, IsQuiet, Locates, NamesLabel, SetsLocation, labels_in, lin_operand_seats, lin_result_seats, places_of, spare}
 use Rattle.lin_ir.specs.Meaning.{after_label, code_at}
 use Rattle.lin_ir.specs.Walks.{may_raise, targets}
@@ -20,8 +20,8 @@ use Rattle.mach_ir.specs.Seats.{AreSeated}
 use Rattle.mach_ir.specs.Walks.{OneOf}
 use Rattle.mach_ir.specs.declared.op.Access.TheVariants as access
 use Rattle.mach_ir.specs.declared.op.Op.TheVariants as op
-use Rattle.linear_machine.specs.Relation.{Laid}
-use Rattle.linear_machine.specs.View.{Fixed}
+use Rattle.lin_machine.specs.Relation.{Laid}
+use Rattle.lin_machine.specs.View.{Fixed}
 use Rattle.line_stands.specs.Names.{NamesStand}
 use Rattle.line_stands.specs.Parts.{PartStands}
 

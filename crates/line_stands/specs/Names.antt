@@ -3,16 +3,16 @@ use Rattle.std.specs.Prelude.{◌≡◌, ℕ, ◌^◌, ◌<◌, ◌≤◌, List,
 use Rattle.bs_words.specs.External.{External}
 use Rattle.bs_words.specs.declared.values.Value.{Value}
 use Rattle.cmm_meaning.specs.Setting.{Setting}
-use Rattle.emit_rules.specs.Named.{IsExternalOf}
-use Rattle.layout_rules.specs.Laid.{address_of_place}
-use Rattle.layout_rules.specs.Words.{NameAddresses}
+use Rattle.rv_emit_rules.specs.Named.{IsExternalOf}
+use Rattle.rv_layout_rules.specs.Laid.{address_of_place}
+use Rattle.rv_layout_rules.specs.Words.{NameAddresses}
 use Rattle.lin_ir.specs.Formed.{labels_in}
 use Rattle.lin_ir.specs.Meaning.{after_label}
 use Rattle.lin_ir.specs.declared.lin.Lin.{Lin}
 use Rattle.mach_ir.specs.Acts.{external_row}
 use Rattle.mach_ir.specs.declared.op.External as declared
-use Rattle.linear_machine.specs.Relation.{Laid, StandsFor}
-use Rattle.linear_machine.specs.View.{Fixed}
+use Rattle.lin_machine.specs.Relation.{Laid, StandsFor}
+use Rattle.lin_machine.specs.View.{Fixed}
 
 -- an external call's row in the image
 pub record IsRowAt (s : Fixed) (row : declared.External) (number : ℕ) : Type 0 where

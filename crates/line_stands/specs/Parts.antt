@@ -2,11 +2,11 @@
 use Rattle.std.specs.Prelude.{◌≡◌, ℕ, ◌+◌, ◌-◌, ◌/◌, List}
 use Rattle.rv_machine.specs.Memory.{code_start}
 use Rattle.rv_pieces.specs.declared.piece.Piece.{Piece}
-use Rattle.layout_rules.specs.declared.form.Form.{Form}
-use Rattle.layout_rules.specs.Forms.{total_words, ReachFrom}
-use Rattle.layout_rules.specs.Stands.{HasPieces}
-use Rattle.layout_rules.specs.Words.{NameAddresses}
-use Rattle.linear_machine.specs.View.{Fixed}
+use Rattle.rv_layout_rules.specs.declared.form.Form.{Form}
+use Rattle.rv_layout_rules.specs.Forms.{total_words, ReachFrom}
+use Rattle.rv_layout_rules.specs.Stands.{HasPieces}
+use Rattle.rv_layout_rules.specs.Words.{NameAddresses}
+use Rattle.lin_machine.specs.View.{Fixed}
 
 -- how many words of the code are before a label
 abbrev pub label_place : NameAddresses → ℕ → ℕ

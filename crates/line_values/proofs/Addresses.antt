@@ -5,10 +5,10 @@ use Rattle.bs_words.specs.Word.{add_word}
 use Rattle.bs_words.proofs.Below.{add_word-below}
 use Rattle.bs_words.specs.declared.values.Value.{Value}
 use Rattle.bs_words.specs.declared.values.Value.TheVariants.{Function}
-use Rattle.emit_rules.specs.Constants.{constant_pieces}
-use Rattle.emit_rules.specs.Instructions.{add}
-use Rattle.emit_rules.specs.Memory.{address_offset, address_register, address_words}
-use Rattle.layout_rules.specs.Words.{NameAddresses}
+use Rattle.rv_emit_rules.specs.Constants.{constant_pieces}
+use Rattle.rv_emit_rules.specs.Instructions.{add}
+use Rattle.rv_emit_rules.specs.Memory.{address_offset, address_register, address_words}
+use Rattle.rv_layout_rules.specs.Words.{NameAddresses}
 use Rattle.lin_ir.specs.Meaning.{Locations}
 use Rattle.mach_ir.specs.Acts.{Around, moved_by}
 use Rattle.mach_ir.specs.Forms.{is_immediate_12}
@@ -21,15 +21,15 @@ use Rattle.rv_isa.specs.declared.register.Register.{Register}
 use Rattle.rv_isa.specs.declared.register.Register.TheVariants.{T1, T2}
 use Rattle.rv_machine.specs.Arithmetic.{imm_i}
 use Rattle.rv_machine.specs.Hart.{Placed}
-use Rattle.linear_machine.specs.Relation.{Below, Laid, StandsFor, Within, blocks_by_serial}
-use Rattle.linear_machine.specs.Relation as relation
-use Rattle.linear_machine.specs.Straight.{Changes}
-use Rattle.linear_machine.specs.View.{Fixed, View, IsInstructionAt}
-use Rattle.linear_machine.proofs.Formats.{sets_op}
+use Rattle.lin_machine.specs.Relation.{Below, Laid, StandsFor, Within, blocks_by_serial}
+use Rattle.lin_machine.specs.Relation as relation
+use Rattle.lin_machine.specs.Straight.{Changes}
+use Rattle.lin_machine.specs.View.{Fixed, View, IsInstructionAt}
+use Rattle.lin_machine.proofs.Formats.{sets_op}
 use Rattle.machine_laws.proofs.Immediates.{low_12, up}
-use Rattle.linear_machine.proofs.Loading.{moved_word}
-use Rattle.linear_machine.proofs.Rows.{immediate_is}
-use Rattle.linear_machine.proofs.Sequences.{no_change, set_then, sets_as, widened}
+use Rattle.lin_machine.proofs.Loading.{moved_word}
+use Rattle.lin_machine.proofs.Rows.{immediate_is}
+use Rattle.lin_machine.proofs.Sequences.{no_change, set_then, sets_as, widened}
 use Rattle.line_stands.specs.Parts.{PartStands}
 use Rattle.line_stands.proofs.Parts.{counts, last, none_left}
 use Rattle.line_values.proofs.Chains.{constant_comes}

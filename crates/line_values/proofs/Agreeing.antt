@@ -14,10 +14,10 @@ use Rattle.rv_machine.specs.Hart.{Placed}
 use Rattle.moving_laws.specs.Heap.{AreBlocks}
 use Rattle.moving_laws.specs.Values.{function_at, start_of, cells_of_block}
 use Rattle.moving_laws.proofs.Rewriting.{start_inside}
-use Rattle.linear_machine.specs.Relation.{StandsFor}
-use Rattle.linear_machine.specs.View.{Fixed}
-use Rattle.linear_machine.proofs.Storing.{blocks_apart}
-use Rattle.linear_machine.proofs.Loading.{words_end}
+use Rattle.lin_machine.specs.Relation.{StandsFor}
+use Rattle.lin_machine.specs.View.{Fixed}
+use Rattle.lin_machine.proofs.Storing.{blocks_apart}
+use Rattle.lin_machine.proofs.Loading.{words_end}
 use Rattle.line_values.proofs.Compared.{Near, address_less, eqb_as, function_even, function_low, functions_apart, inside_block, int_le_is, le_is, near_block, near_by, near_less, near_small}
 
 ok_same : {X : Type 0} {x z : X} → ◌≡◌ {A = Result X Kind} (Ok x) (Ok z) → x ≡ z

@@ -16,10 +16,10 @@ use Rattle.bs_words.specs.Memory.{IsWidth, part, replaced}
 use Rattle.rv_machine.proofs.Bytes.{replaced-below}
 use Rattle.moving_laws.specs.Words.{held_word}
 use Rattle.moving_laws.proofs.Held.{IsDataOrAbove, IsHeld, has_byte, held_below, hold, hold_regions, read_part, word_hold, written_part}
-use Rattle.linear_machine.specs.View.{Fixed, View, HasView, ReachesView, IsInstructionAt}
-use Rattle.linear_machine.proofs.Likes.{known_same, like_hold}
-use Rattle.linear_machine.proofs.Statics.{all_share, readable_shares}
-use Rattle.linear_machine.proofs.Steps.{SetsRegister, one_step, ready, ready_stands, reg, register_reg, unserved_step, with_hart}
+use Rattle.lin_machine.specs.View.{Fixed, View, HasView, ReachesView, IsInstructionAt}
+use Rattle.lin_machine.proofs.Likes.{known_same, like_hold}
+use Rattle.lin_machine.proofs.Statics.{all_share, readable_shares}
+use Rattle.lin_machine.proofs.Steps.{SetsRegister, one_step, ready, ready_stands, reg, register_reg, unserved_step, with_hart}
 
 pub width_some : (w : ℕ) → IsWidth w → 1 ≤ w
 width_some w (inl e) = omega (arith, e)

@@ -12,11 +12,11 @@ use Rattle.rv_machine.specs.Memory.{Region}
 use Rattle.rv_machine.specs.Sound.{HasRegions, extents}
 use Rattle.moving_laws.specs.Values.{start_of, value_word, cells_of_block}
 use Rattle.moving_laws.proofs.Rewriting.{start_inside}
-use Rattle.linear_machine.specs.Contents.{size_in}
-use Rattle.linear_machine.specs.Relation.{HeapStands, StandsFor}
-use Rattle.linear_machine.specs.View.{Fixed}
-use Rattle.linear_machine.proofs.Loading.{block_there, cell_there, words_end}
-use Rattle.linear_machine.proofs.Statics.{data_held, first_in, held_readable, listed_below, readable_held, static_at}
+use Rattle.lin_machine.specs.Contents.{size_in}
+use Rattle.lin_machine.specs.Relation.{HeapStands, StandsFor}
+use Rattle.lin_machine.specs.View.{Fixed}
+use Rattle.lin_machine.proofs.Loading.{block_there, cell_there, words_end}
+use Rattle.lin_machine.proofs.Statics.{data_held, first_in, held_readable, listed_below, readable_held, static_at}
 use Rattle.std.proofs.lemmas.Option.{slice_get_within}
 use Rattle.line_values.proofs.Bytes.{width_some}
 use Rattle.line_values.proofs.Statics.{is_in}

@@ -3,11 +3,11 @@ use Rattle.std.proofs.Common.{◌≡◌, ◌≢◌, ℕ, suc, ◌+◌, ◌*◌, 
 use Rattle.std.proofs.lemmas.Bool.{cond-false, ne_eqb}
 use Rattle.bs_words.specs.Word.{add_word, sext_word, shl_word}
 use Rattle.bs_words.proofs.Below.{add_word-below, sext_word-below, shl_word-below}
-use Rattle.emit_rules.specs.Constants.{constant_pieces}
-use Rattle.emit_rules.specs.Traversal.{EachPiece, each_none, each_more}
-use Rattle.emit_rules.specs.Values.{piece_value, value_after, Makes, makes_first, makes_upper, makes_lower, makes_sum, makes_shift}
-use Rattle.emit_rules.proofs.Values.{constant_is, constant_is_made}
-use Rattle.layout_rules.specs.Words.{NameAddresses}
+use Rattle.rv_emit_rules.specs.Constants.{constant_pieces}
+use Rattle.rv_emit_rules.specs.Traversal.{EachPiece, each_none, each_more}
+use Rattle.rv_emit_rules.specs.Values.{piece_value, value_after, Makes, makes_first, makes_upper, makes_lower, makes_sum, makes_shift}
+use Rattle.rv_emit_rules.proofs.Values.{constant_is, constant_is_made}
+use Rattle.rv_layout_rules.specs.Words.{NameAddresses}
 use Rattle.rv_isa.specs.Registers.{register_number}
 use Rattle.rv_isa.specs.declared.instr.AluImmOp.TheVariants.{Addi}
 use Rattle.rv_isa.specs.declared.instr.Instr.{Instr}
@@ -17,11 +17,11 @@ use Rattle.rv_isa.specs.declared.register.Register.{Register}
 use Rattle.rv_machine.specs.Sound.{AreRegisters}
 use Rattle.rv_pieces.specs.declared.piece.Piece.{Piece}
 use Rattle.rv_pieces.specs.declared.piece.Piece.TheVariants.{Known}
-use Rattle.linear_machine.specs.Straight.{Changes}
-use Rattle.linear_machine.specs.View.{Fixed, View}
-use Rattle.linear_machine.proofs.Formats.{sets_addiw, sets_imm, sets_lui, sets_shift}
-use Rattle.linear_machine.proofs.Sequences.{no_change, sets_as, set_changes, then_changes, widened}
-use Rattle.linear_machine.proofs.Steps.{SetsRegister}
+use Rattle.lin_machine.specs.Straight.{Changes}
+use Rattle.lin_machine.specs.View.{Fixed, View}
+use Rattle.lin_machine.proofs.Formats.{sets_addiw, sets_imm, sets_lui, sets_shift}
+use Rattle.lin_machine.proofs.Sequences.{no_change, sets_as, set_changes, then_changes, widened}
+use Rattle.lin_machine.proofs.Steps.{SetsRegister}
 use Rattle.line_stands.specs.Parts.{PartStands}
 use Rattle.line_stands.proofs.Parts.{leads, none_left}
 

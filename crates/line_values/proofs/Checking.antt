@@ -3,10 +3,10 @@ use Rattle.std.proofs.Common.{◌≡◌, ℕ, ◌+◌, ◌*◌, ◌^◌, ◌<◌
 use Rattle.bs_words.specs.declared.values.Kind.{Kind}
 use Rattle.bs_words.specs.declared.values.Value.{Value}
 use Rattle.bs_words.specs.declared.values.Value.TheVariants.{Word, Block, Function}
-use Rattle.emit_rules.specs.Slots.{fetch_pieces, register_of, second}
-use Rattle.emit_rules.specs.Tests.{constant_register, constant_words}
-use Rattle.layout_rules.specs.Laid.{address_of_place}
-use Rattle.layout_rules.specs.Words.{NameAddresses}
+use Rattle.rv_emit_rules.specs.Slots.{fetch_pieces, register_of, second}
+use Rattle.rv_emit_rules.specs.Tests.{constant_register, constant_words}
+use Rattle.rv_layout_rules.specs.Laid.{address_of_place}
+use Rattle.rv_layout_rules.specs.Words.{NameAddresses}
 use Rattle.lin_ir.specs.Formed.{IsLocation}
 use Rattle.lin_ir.specs.Meaning.{Locations, NamedAt, after_label, on_act, on_values, step, at_handler, wrote}
 use Rattle.lin_ir.specs.declared.lin.Lin.{Lin}
@@ -24,13 +24,13 @@ use Rattle.rv_isa.specs.declared.register.Register.TheVariants.{T1, T2}
 use Rattle.rv_machine.specs.Arithmetic.{is_taken, imm_u}
 use Rattle.rv_machine.specs.Hart.{Placed}
 use Rattle.rv_pieces.specs.declared.piece.Piece.{Piece}
-use Rattle.linear_machine.specs.Follows.{Agrees, FollowsStep, IsAt, IsDone}
-use Rattle.linear_machine.specs.Relation.{Below, Laid, StandsFor, Within, blocks_by_serial, waiting_trap_frames}
-use Rattle.linear_machine.specs.Straight.{LeadsFurther}
-use Rattle.linear_machine.specs.View.{Fixed, View, HasCode, ReachesView, IsInstructionAt}
-use Rattle.linear_machine.proofs.Pure.{Reads, reads_held}
-use Rattle.linear_machine.proofs.Reading.{reads_one, reads_two}
-use Rattle.linear_machine.proofs.Steps.{reg, then_leads, at_place, go_step}
+use Rattle.lin_machine.specs.Follows.{Agrees, FollowsStep, IsAt, IsDone}
+use Rattle.lin_machine.specs.Relation.{Below, Laid, StandsFor, Within, blocks_by_serial, waiting_trap_frames}
+use Rattle.lin_machine.specs.Straight.{LeadsFurther}
+use Rattle.lin_machine.specs.View.{Fixed, View, HasCode, ReachesView, IsInstructionAt}
+use Rattle.lin_machine.proofs.Pure.{Reads, reads_held}
+use Rattle.lin_machine.proofs.Reading.{reads_one, reads_two}
+use Rattle.lin_machine.proofs.Steps.{reg, then_leads, at_place, go_step}
 use Rattle.line_stands.specs.Parts.{PartStands}
 use Rattle.line_stands.proofs.Parts.{counts, last, leads}
 use Rattle.line_values.proofs.Jumping.{code_near, skips}
@@ -42,7 +42,7 @@ use Rattle.bs_words.specs.declared.types.Ty.TheVariants as ty
 use Rattle.bs_words.proofs.Below.{sext_word-below}
 use Rattle.cmm_meaning.specs.Evaluation.{bound_error}
 use Rattle.cmm_meaning.specs.State.{Threw}
-use Rattle.emit_rules.specs.Traps.{check_part, raise_bound_error, raise_words}
+use Rattle.rv_emit_rules.specs.Traps.{check_part, raise_bound_error, raise_words}
 use Rattle.mach_ir.specs.declared.op.Leaving.TheVariants as leaving
 use Rattle.mach_ir.specs.declared.op.Op.TheVariants as op
 use Rattle.bs_words.specs.declared.types.Loc.TheVariants as loc
@@ -51,18 +51,18 @@ use Rattle.rv_isa.specs.declared.instr.AluImmOp.TheVariants.{Addi}
 use Rattle.rv_isa.specs.declared.instr.Instr.TheVariants.{Branch, Jalr, Load, Lui, OpImm}
 use Rattle.rv_isa.specs.declared.instr.LoadWidth.TheVariants.{Ld}
 use Rattle.rv_machine.specs.Memory.{code_start, memory_word, Region}
-use Rattle.linear_machine.proofs.Arriving.{leads_in}
-use Rattle.linear_machine.proofs.Formats.{goes_branch_on, goes_branch_taken, sets_lui}
+use Rattle.lin_machine.proofs.Arriving.{leads_in}
+use Rattle.lin_machine.proofs.Formats.{goes_branch_on, goes_branch_taken, sets_lui}
 use Rattle.machine_laws.proofs.Immediates.{by_20}
-use Rattle.linear_machine.proofs.Sequences.{set_changes}
-use Rattle.linear_machine.specs.Moments.{AtThrow}
-use Rattle.linear_machine.proofs.Jumps.{raise_differs, raise_high, raise_leads, raise_place, raise_points, raise_value, raised_at}
-use Rattle.linear_machine.proofs.Trapping.{handler_is, popped, throws}
+use Rattle.lin_machine.proofs.Sequences.{set_changes}
+use Rattle.lin_machine.specs.Moments.{AtThrow}
+use Rattle.lin_machine.proofs.Jumps.{raise_differs, raise_high, raise_leads, raise_place, raise_points, raise_value, raised_at}
+use Rattle.lin_machine.proofs.Trapping.{handler_is, popped, throws}
 use Rattle.moving_laws.specs.Words.{IsReadable}
 use Rattle.moving_laws.proofs.Usable.{stack_readable}
-use Rattle.emit_rules.specs.Instructions.{skip}
-use Rattle.linear_machine.proofs.Operating.{dropped, target_register}
-use Rattle.linear_machine.proofs.Standing.{IsFree, within_changed, a0_location}
+use Rattle.rv_emit_rules.specs.Instructions.{skip}
+use Rattle.lin_machine.proofs.Operating.{dropped, target_register}
+use Rattle.lin_machine.proofs.Standing.{IsFree, within_changed, a0_location}
 use Rattle.line_values.proofs.Testing.{Seconded, both_come, second_constant, second_location}
 
 -- ---- the innermost trap

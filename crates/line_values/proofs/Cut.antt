@@ -17,17 +17,17 @@ use Rattle.rv_machine.specs.Start.{data_region, start_memory}
 use Rattle.moving_laws.specs.Stands.{AmongNumbers, StaticsStand}
 use Rattle.moving_laws.specs.Values.{HasFunctions, IsKnown, IsStill, value_word}
 use Rattle.moving_laws.specs.Words.{held_word}
-use Rattle.linear_machine.specs.Contents.{statics_of}
-use Rattle.linear_machine.specs.Moments.{AtEntry}
-use Rattle.linear_machine.specs.Statics.{StaticsLie}
-use Rattle.linear_machine.proofs.Beginning.{at_start, nothing_below, start_fixed, start_view}
+use Rattle.lin_machine.specs.Contents.{statics_of}
+use Rattle.lin_machine.specs.Moments.{AtEntry}
+use Rattle.lin_machine.specs.Statics.{StaticsLie}
+use Rattle.lin_machine.proofs.Beginning.{at_start, nothing_below, start_fixed, start_view}
 use Rattle.bs_words.specs.declared.types.Comp.{Comp}
 use Rattle.bs_words.specs.declared.types.Comp.TheVariants as comp
 use Rattle.bs_words.specs.declared.types.Loc.TheVariants as loc
 use Rattle.bs_words.specs.declared.types.Ret.TheVariants as ret
 use Rattle.bs_words.proofs.Lists.{none_in}
-use Rattle.emit_rules.specs.Emitted.{part_of_line}
-use Rattle.layout_rules.specs.declared.form.Form.TheVariants.{Near}
+use Rattle.rv_emit_rules.specs.Emitted.{part_of_line}
+use Rattle.rv_layout_rules.specs.declared.form.Form.TheVariants.{Near}
 use Rattle.lin_ir.specs.Formed.{IsLocation, NamesLabel, formed_op, goes_to, is_colour, is_home, pushes, spare}
 use Rattle.lin_ir.specs.Meaning.{Locations, NamedAt, step}
 use Rattle.lin_ir.specs.declared.lin.Lin.{Lin}
@@ -45,9 +45,9 @@ use Rattle.mach_ir.specs.declared.op.Op.TheVariants as op
 use Rattle.rv_isa.specs.declared.instr.Instr.TheVariants.{Store}
 use Rattle.rv_isa.specs.declared.instr.StoreWidth.TheVariants.{Sb}
 use Rattle.rv_machine.specs.Hart.{Placed}
-use Rattle.linear_machine.specs.Follows.{FollowsStep}
-use Rattle.linear_machine.specs.Relation.{Below, Laid, Within}
-use Rattle.linear_machine.specs.View.{Fixed, View, IsInstructionAt}
+use Rattle.lin_machine.specs.Follows.{FollowsStep}
+use Rattle.lin_machine.specs.Relation.{Below, Laid, Within}
+use Rattle.lin_machine.specs.View.{Fixed, View, IsInstructionAt}
 use Rattle.line_stands.specs.Lines.{LineStands, Nowhere}
 use Rattle.line_stands.specs.Parts.{PartStands}
 use Rattle.line_values.specs.Followed.{plain_store}

@@ -7,11 +7,11 @@ use Rattle.bs_words.specs.declared.types.Comp.TheVariants as comp
 use Rattle.bs_words.specs.declared.types.Loc.TheVariants as loc
 use Rattle.bs_words.specs.declared.types.Ret.TheVariants as ret
 use Rattle.bs_words.proofs.Lists.{none_in}
-use Rattle.emit_rules.specs.Constants.{constant_pieces}
-use Rattle.emit_rules.specs.Emitted.{part_of_line}
-use Rattle.emit_rules.specs.Entry.{FrameLayout}
-use Rattle.layout_rules.specs.Words.{NameAddresses}
-use Rattle.layout_rules.specs.declared.form.Form.TheVariants.{Near}
+use Rattle.rv_emit_rules.specs.Constants.{constant_pieces}
+use Rattle.rv_emit_rules.specs.Emitted.{part_of_line}
+use Rattle.rv_emit_rules.specs.Entry.{FrameLayout}
+use Rattle.rv_layout_rules.specs.Words.{NameAddresses}
+use Rattle.rv_layout_rules.specs.declared.form.Form.TheVariants.{Near}
 use Rattle.mach_ir.specs.declared.op.Calling.TheVariants as calling
 use Rattle.mach_ir.specs.declared.op.External.{External}
 use Rattle.lin_ir.specs.Formed.{IsLocation, NamesLabel, formed_op, goes_to, is_colour, is_home, pushes}
@@ -29,9 +29,9 @@ use Rattle.mach_ir.specs.declared.op.Pure.TheVariants as pure
 use Rattle.rv_isa.specs.declared.instr.AluImmOp.TheVariants.{Addi}
 use Rattle.rv_isa.specs.declared.instr.Instr.TheVariants.{OpImm}
 use Rattle.rv_machine.specs.Hart.{Placed}
-use Rattle.linear_machine.specs.Follows.{FollowsStep}
-use Rattle.linear_machine.specs.Relation.{Below, Laid, Within}
-use Rattle.linear_machine.specs.View.{Fixed, View, IsInstructionAt}
+use Rattle.lin_machine.specs.Follows.{FollowsStep}
+use Rattle.lin_machine.specs.Relation.{Below, Laid, Within}
+use Rattle.lin_machine.specs.View.{Fixed, View, IsInstructionAt}
 use Rattle.line_stands.specs.Lines.{LineStands}
 use Rattle.line_stands.specs.Parts.{PartStands}
 use Rattle.line_values.specs.Followed.{plain_pure}

@@ -3,12 +3,12 @@ use Rattle.std.proofs.Common.{◌≡◌, ℕ, zero, suc, ◌+◌, ◌^◌, ◌<�
 use Rattle.std.specs.List.{AllByRecursion, Contains}
 use Rattle.std.proofs.lemmas.List.Elements.{recursion_from_All}
 use Rattle.bs_words.specs.declared.types.Comp.{Comp}
-use Rattle.emit_rules.specs.Emitted.{part_of_line}
-use Rattle.emit_rules.specs.Entry.{FrameLayout}
-use Rattle.emit_rules.specs.Units.{is_branch}
-use Rattle.emit_rules.proofs.Units.{if_branch}
-use Rattle.layout_rules.specs.Forms.{total_words}
-use Rattle.layout_rules.specs.Words.{NameAddresses}
+use Rattle.rv_emit_rules.specs.Emitted.{part_of_line}
+use Rattle.rv_emit_rules.specs.Entry.{FrameLayout}
+use Rattle.rv_emit_rules.specs.Units.{is_branch}
+use Rattle.rv_emit_rules.proofs.Units.{if_branch}
+use Rattle.rv_layout_rules.specs.Forms.{total_words}
+use Rattle.rv_layout_rules.specs.Words.{NameAddresses}
 use Rattle.lin_ir.specs.Formed.{FlowHasForm, IsFormedLine, formed_op, formed_flow, IsLocation, goes_to, comps, spare}
 use Rattle.lin_ir.specs.Meaning.{Locations, NamedAt, State, after_label, code_at, step}
 use Rattle.lin_ir.specs.Walks.{may_raise, targets}
@@ -33,19 +33,19 @@ use Rattle.mach_ir.specs.declared.op.Pure.TheVariants as pure
 use Rattle.bs_words.proofs.Lists.{first_in, none_in}
 use Rattle.mach_ir.specs.declared.op.Right.{Right}
 use Rattle.mach_ir.specs.declared.op.Right.TheVariants as right
-use Rattle.linear_machine.specs.Follows.{FollowsStep, IsAt}
-use Rattle.linear_machine.specs.Relation.{Below, Laid}
-use Rattle.linear_machine.specs.View.{Fixed, View}
-use Rattle.linear_machine.proofs.Arriving.{at_least}
-use Rattle.linear_machine.proofs.Pure.{Reads}
-use Rattle.linear_machine.proofs.Rows.{immediate_small}
+use Rattle.lin_machine.specs.Follows.{FollowsStep, IsAt}
+use Rattle.lin_machine.specs.Relation.{Below, Laid}
+use Rattle.lin_machine.specs.View.{Fixed, View}
+use Rattle.lin_machine.proofs.Arriving.{at_least}
+use Rattle.lin_machine.proofs.Pure.{Reads}
+use Rattle.lin_machine.proofs.Rows.{immediate_small}
 use Rattle.mach_ir.proofs.Immediates.{immediate_word}
 use Rattle.line_stands.specs.Lines.{LineStands}
 use Rattle.line_stands.specs.Parts.{PartStands}
 use Rattle.lin_laws.proofs.Forms.{label_inv, jump_inv, exit_inv, branch_inv, switch_inv}
 use Rattle.mach_ir.proofs.Forms.{symbol_inv, copy_inv, load_inv, store_inv, register_inv}
 use Rattle.line_values.specs.Followed.{BranchesAreFollowed, Followed, FollowsBranch, IsPlain, plain_pure, plain_load, plain_store, plain_check, plain_label, plain_jump, plain_exit, plain_branch, plain_switch}
-use Rattle.layout_rules.specs.Laid.{address_of_place}
+use Rattle.rv_layout_rules.specs.Laid.{address_of_place}
 use Rattle.line_values.proofs.Checking.{check_line, check_with_line}
 use Rattle.line_values.proofs.Landing.{Lies, exit_line, jump_line, label_line}
 use Rattle.line_values.proofs.Loading.{load_line}

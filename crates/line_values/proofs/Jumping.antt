@@ -5,13 +5,13 @@ use Rattle.std.proofs.lemmas.Option.{slice_get_within}
 use Rattle.std.proofs.Math.Bool.{not-not}
 use Rattle.bs_words.specs.Word.{add_word}
 use Rattle.bs_words.proofs.Below.{add_word-below}
-use Rattle.layout_rules.specs.Forms.{branch_form, branch_reaches, branch_words, jal_reaches, jump_form, form_rank}
-use Rattle.layout_rules.specs.Laid.{address_of_place}
-use Rattle.layout_rules.specs.Words.{branch_code, branch_offset, distance, far_jump, inverted, jal_offset, jump_code, upper}
-use Rattle.emit_rules.specs.Instructions.{low_12}
-use Rattle.layout_rules.specs.declared.form.Form.{Form}
-use Rattle.layout_rules.specs.declared.form.Form.TheVariants.{Near, Middle, Far}
-use Rattle.layout_rules.proofs.Offsets.{branch_lands, by_13, far_lands, jal_lands}
+use Rattle.rv_layout_rules.specs.Forms.{branch_form, branch_reaches, branch_words, jal_reaches, jump_form, form_rank}
+use Rattle.rv_layout_rules.specs.Laid.{address_of_place}
+use Rattle.rv_layout_rules.specs.Words.{branch_code, branch_offset, distance, far_jump, inverted, jal_offset, jump_code, upper}
+use Rattle.rv_emit_rules.specs.Instructions.{low_12}
+use Rattle.rv_layout_rules.specs.declared.form.Form.{Form}
+use Rattle.rv_layout_rules.specs.declared.form.Form.TheVariants.{Near, Middle, Far}
+use Rattle.rv_layout_rules.proofs.Offsets.{branch_lands, by_13, far_lands, jal_lands}
 use Rattle.rv_isa.specs.Registers.{register_number}
 use Rattle.rv_isa.specs.declared.instr.Condition.{Condition}
 use Rattle.rv_isa.specs.declared.instr.Condition.TheVariants as condition
@@ -22,11 +22,11 @@ use Rattle.rv_isa.specs.declared.register.Register.{Register}
 use Rattle.rv_machine.specs.Arithmetic.{imm_b, imm_i, imm_u, is_less, is_taken}
 use Rattle.rv_machine.specs.Memory.{code_start}
 use Rattle.rv_machine.specs.Sound.{AreRegisters}
-use Rattle.linear_machine.specs.Straight.{Differs}
-use Rattle.linear_machine.specs.View.{Fixed, View, HasCode, IsInstructionAt, ReachesView}
-use Rattle.linear_machine.proofs.Formats.{goes_branch_on, goes_branch_taken, goes_jal, sets_auipc, sets_jalr}
-use Rattle.linear_machine.proofs.Sequences.{code_past, set_changes}
-use Rattle.linear_machine.proofs.Steps.{at_place, go_step, reg, set_to_step, then_leads}
+use Rattle.lin_machine.specs.Straight.{Differs}
+use Rattle.lin_machine.specs.View.{Fixed, View, HasCode, IsInstructionAt, ReachesView}
+use Rattle.lin_machine.proofs.Formats.{goes_branch_on, goes_branch_taken, goes_jal, sets_auipc, sets_jalr}
+use Rattle.lin_machine.proofs.Sequences.{code_past, set_changes}
+use Rattle.lin_machine.proofs.Steps.{at_place, go_step, reg, set_to_step, then_leads}
 
 -- so many instructions lead to a place, where t1 and t2 alone may have changed
 pub record Goes (s : Fixed) (u : View) (k to : ℕ) : Type 0 where

@@ -1,10 +1,10 @@
 -- Labels, jumps and exits follow their lines.
 use Rattle.std.proofs.Common.{◌≡◌, ℕ, ◌+◌, ◌^◌, ◌<◌, ◌≤◌, inl, inr, Bool, true, false, List, [], ◌∷◌, length, Some, refl, arith, sym, subst, ⊎_elim}
-use Rattle.layout_rules.specs.Forms.{jump_form, jump_words, form_rank, piece_words}
-use Rattle.layout_rules.specs.Laid.{address_of_place}
-use Rattle.layout_rules.specs.Words.{NameAddresses, jump_code}
-use Rattle.layout_rules.specs.declared.form.Form.{Form}
-use Rattle.layout_rules.specs.declared.form.Form.TheVariants.{Near, Middle, Far}
+use Rattle.rv_layout_rules.specs.Forms.{jump_form, jump_words, form_rank, piece_words}
+use Rattle.rv_layout_rules.specs.Laid.{address_of_place}
+use Rattle.rv_layout_rules.specs.Words.{NameAddresses, jump_code}
+use Rattle.rv_layout_rules.specs.declared.form.Form.{Form}
+use Rattle.rv_layout_rules.specs.declared.form.Form.TheVariants.{Near, Middle, Far}
 use Rattle.lin_ir.specs.Meaning.{Locations, NamedAt, after_label, step, wrote}
 use Rattle.lin_ir.specs.declared.lin.Flow.TheVariants as flow
 use Rattle.lin_ir.specs.declared.lin.Lin.{Lin}
@@ -16,16 +16,16 @@ use Rattle.rv_machine.specs.Hart.{Placed}
 use Rattle.rv_machine.specs.Sound.{AreRegisters}
 use Rattle.rv_pieces.specs.declared.piece.Piece.{Piece}
 use Rattle.rv_pieces.specs.declared.piece.Piece.TheVariants.{Jump, Label}
-use Rattle.linear_machine.specs.Arrival.{ArrivesIn}
-use Rattle.linear_machine.specs.Follows.{Agrees, FollowsStep, IsAt, needs_of}
-use Rattle.linear_machine.specs.Relation.{Below, Laid, ReturnStands, Within}
-use Rattle.linear_machine.specs.Straight.{Differs}
-use Rattle.linear_machine.specs.View.{Fixed, View, HasCode, ReachesView}
-use Rattle.linear_machine.proofs.Arriving.{leads_in}
-use Rattle.linear_machine.proofs.Flows.{label_follows}
-use Rattle.linear_machine.proofs.Following.{agrees_on}
-use Rattle.linear_machine.proofs.Standing.{within_past}
-use Rattle.linear_machine.proofs.Steps.{at_place}
+use Rattle.lin_machine.specs.Arrival.{ArrivesIn}
+use Rattle.lin_machine.specs.Follows.{Agrees, FollowsStep, IsAt, needs_of}
+use Rattle.lin_machine.specs.Relation.{Below, Laid, ReturnStands, Within}
+use Rattle.lin_machine.specs.Straight.{Differs}
+use Rattle.lin_machine.specs.View.{Fixed, View, HasCode, ReachesView}
+use Rattle.lin_machine.proofs.Arriving.{leads_in}
+use Rattle.lin_machine.proofs.Flows.{label_follows}
+use Rattle.lin_machine.proofs.Following.{agrees_on}
+use Rattle.lin_machine.proofs.Standing.{within_past}
+use Rattle.lin_machine.proofs.Steps.{at_place}
 use Rattle.line_stands.specs.Parts.{PartStands, label_place}
 use Rattle.line_stands.proofs.Parts.{none_left, starts}
 use Rattle.line_values.proofs.Jumping.{IsPlace, Jumped, code_near, jump_goes}

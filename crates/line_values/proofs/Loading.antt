@@ -8,10 +8,10 @@ use Rattle.bs_words.specs.declared.types.Ty.TheVariants as ty
 use Rattle.bs_words.specs.declared.values.Kind.{Kind}
 use Rattle.bs_words.specs.declared.values.Value.{Value}
 use Rattle.bs_words.specs.declared.values.Value.TheVariants.{Word, Block, Function}
-use Rattle.emit_rules.specs.Instructions.{load_piece}
-use Rattle.emit_rules.specs.Memory.{address_offset, address_register, address_words, load_from, load_part, load_width}
-use Rattle.emit_rules.specs.Slots.{fetch_pieces, keep_pieces, register_of, target}
-use Rattle.layout_rules.specs.Words.{NameAddresses}
+use Rattle.rv_emit_rules.specs.Instructions.{load_piece}
+use Rattle.rv_emit_rules.specs.Memory.{address_offset, address_register, address_words, load_from, load_part, load_width}
+use Rattle.rv_emit_rules.specs.Slots.{fetch_pieces, keep_pieces, register_of, target}
+use Rattle.rv_layout_rules.specs.Words.{NameAddresses}
 use Rattle.lin_ir.specs.Formed.{IsLocation}
 use Rattle.lin_ir.specs.Meaning.{Locations, NamedAt, on_act, on_values, assign_spot, step}
 use Rattle.lin_ir.specs.declared.lin.Lin.{Lin}
@@ -32,14 +32,14 @@ use Rattle.rv_isa.specs.declared.register.Register.TheVariants.{T1}
 use Rattle.rv_machine.specs.Hart.{Placed, bytes_loaded, register_loaded}
 use Rattle.machine_laws.proofs.Values.{loaded_word}
 use Rattle.rv_pieces.specs.declared.piece.Piece.{Piece}
-use Rattle.linear_machine.specs.Follows.{Agrees, FollowsStep}
-use Rattle.linear_machine.specs.Relation.{Below, Laid, StandsFor, Within, blocks_by_serial}
-use Rattle.linear_machine.specs.Straight.{Changes, LeadsFurther}
-use Rattle.linear_machine.specs.View.{Fixed, View, IsInstructionAt}
-use Rattle.linear_machine.proofs.Following.{PassesSpare, result_follows}
-use Rattle.linear_machine.proofs.Pure.{Reads, reads_held}
-use Rattle.linear_machine.proofs.Reading.{reads_one}
-use Rattle.linear_machine.proofs.Sequences.{set_then, sets_as, widened}
+use Rattle.lin_machine.specs.Follows.{Agrees, FollowsStep}
+use Rattle.lin_machine.specs.Relation.{Below, Laid, StandsFor, Within, blocks_by_serial}
+use Rattle.lin_machine.specs.Straight.{Changes, LeadsFurther}
+use Rattle.lin_machine.specs.View.{Fixed, View, IsInstructionAt}
+use Rattle.lin_machine.proofs.Following.{PassesSpare, result_follows}
+use Rattle.lin_machine.proofs.Pure.{Reads, reads_held}
+use Rattle.lin_machine.proofs.Reading.{reads_one}
+use Rattle.lin_machine.proofs.Sequences.{set_then, sets_as, widened}
 use Rattle.line_stands.specs.Parts.{PartStands}
 use Rattle.line_stands.proofs.Parts.{counts, last}
 use Rattle.line_values.proofs.Bytes.{sets_load_part}
@@ -47,10 +47,10 @@ use Rattle.line_values.proofs.Cells.{reached}
 use Rattle.line_values.proofs.Operands.{fetches, targeted}
 use Rattle.std.proofs.Math.Nat.{mod-lt}
 use Rattle.std.proofs.lemmas.Nat.{pow_pos}
-use Rattle.linear_machine.proofs.Operating.{unary}
-use Rattle.linear_machine.proofs.Standing.{IsScratch}
-use Rattle.linear_machine.proofs.Operators.{ok_is}
-use Rattle.linear_machine.proofs.Loads.{fit_is}
+use Rattle.lin_machine.proofs.Operating.{unary}
+use Rattle.lin_machine.proofs.Standing.{IsScratch}
+use Rattle.lin_machine.proofs.Operators.{ok_is}
+use Rattle.lin_machine.proofs.Loads.{fit_is}
 use Rattle.line_values.proofs.Addresses.{addresses, no_function}
 
 -- ---- chunks

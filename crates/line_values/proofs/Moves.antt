@@ -7,12 +7,12 @@ use Rattle.bs_words.specs.declared.types.Loc.{Loc}
 use Rattle.bs_words.specs.declared.types.Loc.TheVariants as loc
 use Rattle.bs_words.specs.declared.values.Value.{Value}
 use Rattle.bs_words.specs.declared.values.Value.TheVariants.{Word, Block, Function}
-use Rattle.emit_rules.specs.Constants.{above_12, constant_pieces}
-use Rattle.emit_rules.specs.Emitted.{pure_part}
-use Rattle.emit_rules.specs.Instructions.{load_piece, low_12}
-use Rattle.emit_rules.specs.Slots.{copy_pieces, far_stack, keep_pieces, stack_load, target}
-use Rattle.layout_rules.specs.Words.{NameAddresses, upper}
-use Rattle.layout_rules.proofs.Offsets.{number_lands}
+use Rattle.rv_emit_rules.specs.Constants.{above_12, constant_pieces}
+use Rattle.rv_emit_rules.specs.Emitted.{pure_part}
+use Rattle.rv_emit_rules.specs.Instructions.{load_piece, low_12}
+use Rattle.rv_emit_rules.specs.Slots.{copy_pieces, far_stack, keep_pieces, stack_load, target}
+use Rattle.rv_layout_rules.specs.Words.{NameAddresses, upper}
+use Rattle.rv_layout_rules.proofs.Offsets.{number_lands}
 use Rattle.lin_ir.specs.Formed.{IsLocation}
 use Rattle.lin_ir.specs.Meaning.{Locations, NamedAt, on_act, assign_spot, same_loc, step}
 use Rattle.lin_ir.specs.declared.lin.Lin.{Lin}
@@ -34,18 +34,18 @@ use Rattle.rv_isa.specs.declared.register.Register.TheVariants.{Sp, T2}
 use Rattle.rv_machine.specs.Arithmetic.{imm_i, imm_u}
 use Rattle.rv_machine.specs.Hart.{Placed}
 use Rattle.rv_pieces.specs.declared.piece.Piece.TheVariants.{SymbolAddress}
-use Rattle.linear_machine.specs.Follows.{Agrees, FollowsStep}
-use Rattle.linear_machine.specs.Relation.{Below, Laid, StandsFor, Within, blocks_by_serial}
-use Rattle.linear_machine.specs.Straight.{Changes, LeadsFurther}
-use Rattle.linear_machine.specs.View.{Fixed, View, HasCode, IsInstructionAt}
-use Rattle.linear_machine.proofs.Following.{PassesSpare, result_follows, same_loc-true}
-use Rattle.linear_machine.proofs.Formats.{sets_imm, sets_lui}
+use Rattle.lin_machine.specs.Follows.{Agrees, FollowsStep}
+use Rattle.lin_machine.specs.Relation.{Below, Laid, StandsFor, Within, blocks_by_serial}
+use Rattle.lin_machine.specs.Straight.{Changes, LeadsFurther}
+use Rattle.lin_machine.specs.View.{Fixed, View, HasCode, IsInstructionAt}
+use Rattle.lin_machine.proofs.Following.{PassesSpare, result_follows, same_loc-true}
+use Rattle.lin_machine.proofs.Formats.{sets_imm, sets_lui}
 use Rattle.machine_laws.proofs.Immediates.{low_12 as small_12, up}
-use Rattle.linear_machine.proofs.Locations.{read_far, read_near, read_register}
-use Rattle.linear_machine.proofs.Operating.{worked}
-use Rattle.linear_machine.proofs.Pure.{Reads, constant_follows, copy_follows, copy_nothing}
-use Rattle.linear_machine.proofs.Sequences.{set_changes, set_then, sets_as, widened}
-use Rattle.linear_machine.proofs.Standing.{IsScratch}
+use Rattle.lin_machine.proofs.Locations.{read_far, read_near, read_register}
+use Rattle.lin_machine.proofs.Operating.{worked}
+use Rattle.lin_machine.proofs.Pure.{Reads, constant_follows, copy_follows, copy_nothing}
+use Rattle.lin_machine.proofs.Sequences.{set_changes, set_then, sets_as, widened}
+use Rattle.lin_machine.proofs.Standing.{IsScratch}
 use Rattle.line_stands.specs.Parts.{PartStands}
 use Rattle.line_stands.proofs.Parts.{counts, last, leads, none_left, starts}
 use Rattle.line_values.proofs.Chains.{constant_comes}

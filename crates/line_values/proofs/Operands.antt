@@ -4,10 +4,10 @@ use Rattle.std.proofs.lemmas.Bool.{ltb-true}
 use Rattle.bs_words.specs.declared.types.Loc.{Loc}
 use Rattle.bs_words.specs.declared.types.Loc.TheVariants as loc
 use Rattle.bs_words.specs.declared.values.Value.{Value}
-use Rattle.emit_rules.specs.Instructions.{load_piece, store_piece}
-use Rattle.emit_rules.specs.Constants.{above_12}
-use Rattle.emit_rules.specs.Slots.{far_stack, fetch_pieces, keep_pieces, register_of, stack_store, target}
-use Rattle.layout_rules.specs.Words.{NameAddresses}
+use Rattle.rv_emit_rules.specs.Instructions.{load_piece, store_piece}
+use Rattle.rv_emit_rules.specs.Constants.{above_12}
+use Rattle.rv_emit_rules.specs.Slots.{far_stack, fetch_pieces, keep_pieces, register_of, stack_store, target}
+use Rattle.rv_layout_rules.specs.Words.{NameAddresses}
 use Rattle.lin_ir.specs.Formed.{IsLocation}
 use Rattle.lin_ir.specs.Meaning.{Locations, assign_spot, same_loc}
 use Rattle.lin_ir.specs.declared.lin.Lin.{Lin}
@@ -22,14 +22,14 @@ use Rattle.rv_isa.specs.declared.instr.StoreWidth.TheVariants.{Sd}
 use Rattle.rv_isa.specs.declared.register.Register.{Register}
 use Rattle.rv_isa.specs.declared.register.Register.TheVariants.{Sp, T1, T2}
 use Rattle.rv_machine.specs.Hart.{Placed}
-use Rattle.linear_machine.specs.Files.{IsPut}
-use Rattle.linear_machine.specs.Relation.{Below, Laid, Within}
-use Rattle.linear_machine.specs.Relation as relation
-use Rattle.linear_machine.specs.View.{Fixed, View, HasCode}
-use Rattle.linear_machine.proofs.Following.{put_is, same_loc-slot}
-use Rattle.linear_machine.proofs.Operating.{IsTarget, dropped, target_put, target_register, target_slot}
-use Rattle.linear_machine.proofs.Parts.{Fetches, Keeps, fetch_far, fetch_near, fetch_register, keep_far, keep_near, keep_register}
-use Rattle.linear_machine.proofs.Standing.{IsScratch}
+use Rattle.lin_machine.specs.Files.{IsPut}
+use Rattle.lin_machine.specs.Relation.{Below, Laid, Within}
+use Rattle.lin_machine.specs.Relation as relation
+use Rattle.lin_machine.specs.View.{Fixed, View, HasCode}
+use Rattle.lin_machine.proofs.Following.{put_is, same_loc-slot}
+use Rattle.lin_machine.proofs.Operating.{IsTarget, dropped, target_put, target_register, target_slot}
+use Rattle.lin_machine.proofs.Parts.{Fetches, Keeps, fetch_far, fetch_near, fetch_register, keep_far, keep_near, keep_register}
+use Rattle.lin_machine.proofs.Standing.{IsScratch}
 use Rattle.line_stands.specs.Parts.{PartStands}
 use Rattle.line_stands.proofs.Parts.{last, leads, none_left}
 use Rattle.line_values.proofs.Places.{no_unset, slot_of, usual_of}

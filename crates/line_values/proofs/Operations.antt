@@ -6,10 +6,10 @@ use Rattle.bs_words.specs.declared.operators.IntOp.{IntOp}
 use Rattle.bs_words.specs.declared.operators.IntOp.TheVariants as operator
 use Rattle.bs_words.specs.declared.values.Value.{Value}
 use Rattle.bs_words.specs.declared.values.Value.TheVariants.{Word}
-use Rattle.emit_rules.specs.Emitted.{pure_part}
-use Rattle.emit_rules.specs.Operators.{operated, operated_with}
-use Rattle.emit_rules.specs.Slots.{fetch_pieces, keep_pieces, register_of, target}
-use Rattle.layout_rules.specs.Words.{NameAddresses}
+use Rattle.rv_emit_rules.specs.Emitted.{pure_part}
+use Rattle.rv_emit_rules.specs.Operators.{operated, operated_with}
+use Rattle.rv_emit_rules.specs.Slots.{fetch_pieces, keep_pieces, register_of, target}
+use Rattle.rv_layout_rules.specs.Words.{NameAddresses}
 use Rattle.lin_ir.specs.Formed.{IsLocation}
 use Rattle.lin_ir.specs.Meaning.{Locations, NamedAt, step}
 use Rattle.lin_ir.specs.declared.lin.Lin.{Lin}
@@ -29,16 +29,16 @@ use Rattle.rv_machine.specs.Arithmetic.{bit_of}
 use Rattle.rv_machine.specs.Hart.{Placed}
 use Rattle.rv_machine.specs.Memory.{Region}
 use Rattle.rv_pieces.specs.declared.piece.Piece.{Piece}
-use Rattle.linear_machine.specs.Contents.{size_in}
-use Rattle.linear_machine.specs.Follows.{Agrees, FollowsStep}
-use Rattle.linear_machine.specs.Relation.{Below, HeapStands, Laid, StandsFor, Within, blocks_by_serial}
-use Rattle.linear_machine.specs.Relation as relation
-use Rattle.linear_machine.specs.View.{Fixed, View}
-use Rattle.linear_machine.proofs.Following.{PassesSpare}
-use Rattle.linear_machine.proofs.Operators.{add_row, add_val_row, add_addr_row, sub_row, mul_row, mulh_row, div_row, mod_row, and_row, or_row, xor_row, shl_row, shr_row, sar_row}
-use Rattle.linear_machine.proofs.Pure.{Reads, operator_follows, operator_with_follows}
-use Rattle.linear_machine.proofs.Sequences.{widened}
-use Rattle.linear_machine.proofs.Standing.{IsScratch}
+use Rattle.lin_machine.specs.Contents.{size_in}
+use Rattle.lin_machine.specs.Follows.{Agrees, FollowsStep}
+use Rattle.lin_machine.specs.Relation.{Below, HeapStands, Laid, StandsFor, Within, blocks_by_serial}
+use Rattle.lin_machine.specs.Relation as relation
+use Rattle.lin_machine.specs.View.{Fixed, View}
+use Rattle.lin_machine.proofs.Following.{PassesSpare}
+use Rattle.lin_machine.proofs.Operators.{add_row, add_val_row, add_addr_row, sub_row, mul_row, mulh_row, div_row, mod_row, and_row, or_row, xor_row, shl_row, shr_row, sar_row}
+use Rattle.lin_machine.proofs.Pure.{Reads, operator_follows, operator_with_follows}
+use Rattle.lin_machine.proofs.Sequences.{widened}
+use Rattle.lin_machine.proofs.Standing.{IsScratch}
 use Rattle.line_stands.specs.Parts.{PartStands}
 use Rattle.line_stands.proofs.Parts.{counts}
 use Rattle.line_values.proofs.Agreeing.{AreSized, compared_words, signed_agrees, truth_is, unsigned_agrees}

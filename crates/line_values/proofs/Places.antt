@@ -8,7 +8,7 @@ use Rattle.lin_ir.specs.Formed.{is_colour, is_slot, IsLocation, is_home, is_spar
 use Rattle.lin_ir.specs.declared.lin.Lin.{Lin}
 use Rattle.mach_ir.specs.Placed.{colour_numbers}
 use Rattle.rv_isa.specs.Registers.{register_number, register_at}
-use Rattle.linear_machine.specs.Relation as relation
+use Rattle.lin_machine.specs.Relation as relation
 use Rattle.lin_laws.proofs.Forms.{same_machine}
 
 -- a register that holds values, with the number that its name has

@@ -7,10 +7,10 @@ use Rattle.bs_words.specs.declared.operators.CmpOp.{CmpOp}
 use Rattle.bs_words.specs.declared.operators.CmpOp.TheVariants as compare
 use Rattle.bs_words.specs.declared.operators.IntOp.{IntOp}
 use Rattle.bs_words.specs.declared.operators.IntOp.TheVariants as operator
-use Rattle.emit_rules.specs.Constants.{constant_pieces}
-use Rattle.emit_rules.specs.Instructions.{addi, alu_operation, shift_piece, with_immediate}
-use Rattle.emit_rules.specs.Operators.{compared, compared_with, operated, operated_with}
-use Rattle.layout_rules.specs.Words.{NameAddresses}
+use Rattle.rv_emit_rules.specs.Constants.{constant_pieces}
+use Rattle.rv_emit_rules.specs.Instructions.{addi, alu_operation, shift_piece, with_immediate}
+use Rattle.rv_emit_rules.specs.Operators.{compared, compared_with, operated, operated_with}
+use Rattle.rv_layout_rules.specs.Words.{NameAddresses}
 use Rattle.mach_ir.specs.Forms.{is_immediate, is_immediate_12, is_opposite_immediate_12}
 use Rattle.rv_isa.specs.Registers.{register_number}
 use Rattle.rv_isa.specs.declared.instr.AluImmOp.{AluImmOp}
@@ -27,13 +27,13 @@ use Rattle.rv_isa.specs.declared.register.Register.TheVariants.{T2}
 use Rattle.rv_machine.specs.Arithmetic.{alu, bit_of, imm_i}
 use Rattle.rv_machine.specs.Sound.{AreRegisters}
 use Rattle.machine_laws.proofs.Values.{alu-below, alu_imm-below}
-use Rattle.linear_machine.specs.Straight.{Changes}
-use Rattle.linear_machine.specs.View.{Fixed, View, IsInstructionAt}
-use Rattle.linear_machine.proofs.Formats.{sets_imm, sets_op}
+use Rattle.lin_machine.specs.Straight.{Changes}
+use Rattle.lin_machine.specs.View.{Fixed, View, IsInstructionAt}
+use Rattle.lin_machine.proofs.Formats.{sets_imm, sets_op}
 use Rattle.machine_laws.proofs.Immediates.{by_12}
-use Rattle.linear_machine.proofs.Rows.{IsImmediateRow, adds, less, less_unsigned, and_bits, or_bits, xor_bits, immediate_sets, immediate_small, shift_sets}
-use Rattle.linear_machine.proofs.Sequences.{set_changes, set_then, sets_as, then_changes, widened}
-use Rattle.linear_machine.proofs.Steps.{SetsRegister}
+use Rattle.lin_machine.proofs.Rows.{IsImmediateRow, adds, less, less_unsigned, and_bits, or_bits, xor_bits, immediate_sets, immediate_small, shift_sets}
+use Rattle.lin_machine.proofs.Sequences.{set_changes, set_then, sets_as, then_changes, widened}
+use Rattle.lin_machine.proofs.Steps.{SetsRegister}
 use Rattle.line_stands.specs.Parts.{PartStands}
 use Rattle.line_stands.proofs.Parts.{counts, last, leads}
 use Rattle.line_values.proofs.Chains.{constant_comes}

@@ -20,11 +20,11 @@ use Rattle.moving_laws.proofs.Held.{IsHeld, hold, hold_other, hold_same, readabl
 use Rattle.moving_laws.proofs.Rewriting.{start_inside}
 use Rattle.moving_laws.proofs.Words.{same_or_not}
 use Rattle.moving_laws.proofs.Fitting.{int_still}
-use Rattle.linear_machine.specs.Contents.{static_in, statics_of}
-use Rattle.linear_machine.specs.Relation.{HeapStands, StandsFor}
-use Rattle.linear_machine.specs.Statics.{AreBehind, IsCellList, StaticsLie}
-use Rattle.linear_machine.specs.View.{Fixed}
-use Rattle.linear_machine.proofs.Statics.{data_held, static_at}
+use Rattle.lin_machine.specs.Contents.{static_in, statics_of}
+use Rattle.lin_machine.specs.Relation.{HeapStands, StandsFor}
+use Rattle.lin_machine.specs.Statics.{AreBehind, IsCellList, StaticsLie}
+use Rattle.lin_machine.specs.View.{Fixed}
+use Rattle.lin_machine.proofs.Statics.{data_held, static_at}
 
 -- ---- what fits
 

@@ -14,8 +14,8 @@ use Rattle.bs_words.proofs.Truths.{bool_same}
 use Rattle.mach_ir.specs.Acts.{Act, Around, Goes, On, Stuck, is_among_cells, after_store, first_written, stuck_unless, stored_act, without}
 use Rattle.rv_machine.specs.Hart.{Placed}
 use Rattle.rv_machine.specs.Memory.{Region, write}
-use Rattle.linear_machine.specs.Relation.{StandsFor, HeapStands}
-use Rattle.linear_machine.specs.View.{Fixed}
+use Rattle.lin_machine.specs.Relation.{StandsFor, HeapStands}
+use Rattle.lin_machine.specs.View.{Fixed}
 use Rattle.line_values.proofs.Cells.{Lies, head_cell, own_cell, static_cell, Reached}
 use Rattle.std.proofs.lemmas.Bool.{eqb-true, leb-true, le-leb, ltb-true, lt-ltb}
 use Rattle.std.proofs.lemmas.Option.{get_or_from_slice_get}
@@ -23,12 +23,12 @@ use Rattle.rv_machine.proofs.Bytes.{replaced-below}
 use Rattle.moving_laws.specs.Values.{FitsCell, IsKnown, start_of}
 use Rattle.rv_machine.specs.Moving.{is_scanned}
 use Rattle.rv_machine.specs.Sound.{HasRegions, extents}
-use Rattle.linear_machine.proofs.Storing.{heap_stored, without_is}
-use Rattle.linear_machine.proofs.Writing.{heap_headed}
+use Rattle.lin_machine.proofs.Storing.{heap_stored, without_is}
+use Rattle.lin_machine.proofs.Writing.{heap_headed}
 use Rattle.moving_laws.specs.Words.{IsReadable, held_word}
 use Rattle.moving_laws.proofs.Held.{held_below, hold}
 use Rattle.moving_laws.proofs.Fitting.{int_still}
-use Rattle.linear_machine.proofs.Statics.{hold_readable}
+use Rattle.lin_machine.proofs.Statics.{hold_readable}
 use Rattle.line_values.proofs.Statics.{static_stored, val_of}
 
 -- ---- the value of a cell after a store

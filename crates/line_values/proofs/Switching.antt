@@ -7,10 +7,10 @@ use Rattle.bs_words.specs.declared.types.Loc.{Loc}
 use Rattle.bs_words.specs.declared.types.Loc.TheVariants as loc
 use Rattle.bs_words.specs.declared.values.Kind.{Kind}
 use Rattle.bs_words.specs.declared.values.Value.TheVariants.{Word}
-use Rattle.emit_rules.specs.Instructions.{addi}
-use Rattle.emit_rules.specs.Tests.{switch_part, table_of_jumps, tests_in_turn, value_words}
-use Rattle.layout_rules.specs.Laid.{address_of_place}
-use Rattle.layout_rules.specs.Words.{NameAddresses, far_jump}
+use Rattle.rv_emit_rules.specs.Instructions.{addi}
+use Rattle.rv_emit_rules.specs.Tests.{switch_part, table_of_jumps, tests_in_turn, value_words}
+use Rattle.rv_layout_rules.specs.Laid.{address_of_place}
+use Rattle.rv_layout_rules.specs.Words.{NameAddresses, far_jump}
 use Rattle.lin_ir.specs.Formed.{IsLocation}
 use Rattle.lin_ir.specs.Meaning.{Locations, NamedAt, after_label, on_act, on_values, step, wrote}
 use Rattle.lin_ir.specs.declared.lin.Flow.TheVariants as flow
@@ -32,19 +32,19 @@ use Rattle.rv_machine.specs.Hart.{Placed}
 use Rattle.rv_machine.specs.Memory.{code_start}
 use Rattle.rv_machine.specs.Sound.{AreRegisters}
 use Rattle.rv_pieces.specs.declared.piece.Piece.TheVariants.{Jump, Row}
-use Rattle.linear_machine.specs.Follows.{Agrees, FollowsStep}
-use Rattle.linear_machine.specs.Relation.{Below, Laid, Within}
-use Rattle.linear_machine.specs.Straight.{Changes, LeadsFurther, Differs}
-use Rattle.linear_machine.specs.View.{Fixed, View, HasCode, IsInstructionAt, ReachesView}
-use Rattle.linear_machine.proofs.Formats.{sets_auipc, sets_imm, sets_jalr, sets_op, sets_shift}
+use Rattle.lin_machine.specs.Follows.{Agrees, FollowsStep}
+use Rattle.lin_machine.specs.Relation.{Below, Laid, Within}
+use Rattle.lin_machine.specs.Straight.{Changes, LeadsFurther, Differs}
+use Rattle.lin_machine.specs.View.{Fixed, View, HasCode, IsInstructionAt, ReachesView}
+use Rattle.lin_machine.proofs.Formats.{sets_auipc, sets_imm, sets_jalr, sets_op, sets_shift}
 use Rattle.machine_laws.proofs.Immediates.{by_20, down, high_12, low_12, up}
-use Rattle.linear_machine.proofs.Locations.{read_register}
-use Rattle.linear_machine.proofs.Parts.{changes_come}
-use Rattle.linear_machine.proofs.Pure.{Reads, reads_held}
-use Rattle.linear_machine.proofs.Reading.{reads_one}
-use Rattle.linear_machine.proofs.Sequences.{code_past, set_changes, set_more, sets_as, widened}
-use Rattle.linear_machine.proofs.Standing.{within_past}
-use Rattle.linear_machine.proofs.Steps.{at_place, reg, set_to_step, then_leads}
+use Rattle.lin_machine.proofs.Locations.{read_register}
+use Rattle.lin_machine.proofs.Parts.{changes_come}
+use Rattle.lin_machine.proofs.Pure.{Reads, reads_held}
+use Rattle.lin_machine.proofs.Reading.{reads_one}
+use Rattle.lin_machine.proofs.Sequences.{code_past, set_changes, set_more, sets_as, widened}
+use Rattle.lin_machine.proofs.Standing.{within_past}
+use Rattle.lin_machine.proofs.Steps.{at_place, reg, set_to_step, then_leads}
 use Rattle.line_stands.specs.Parts.{PartStands}
 use Rattle.line_stands.proofs.Parts.{counts, last, leads, starts}
 use Rattle.line_values.proofs.Jumping.{Goes, code_near, far_goes}

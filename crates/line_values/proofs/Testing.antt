@@ -13,14 +13,14 @@ use Rattle.bs_words.specs.declared.types.Loc.{Loc}
 use Rattle.bs_words.specs.declared.values.Kind.{Kind}
 use Rattle.bs_words.specs.declared.values.Value.{Value}
 use Rattle.bs_words.specs.declared.values.Value.TheVariants.{Word}
-use Rattle.emit_rules.specs.Constants.{constant_pieces}
-use Rattle.emit_rules.specs.Slots.{fetch_pieces, register_of, second}
-use Rattle.emit_rules.specs.Tests.{branch_part, constant_register, constant_words, signed_branch, unsigned_branch}
-use Rattle.layout_rules.specs.Forms.{branch_form, branch_words, form_rank}
-use Rattle.layout_rules.specs.Laid.{address_of_place}
-use Rattle.layout_rules.specs.Words.{NameAddresses, branch_code}
-use Rattle.layout_rules.specs.declared.form.Form.{Form}
-use Rattle.layout_rules.specs.declared.form.Form.TheVariants.{Near, Middle, Far}
+use Rattle.rv_emit_rules.specs.Constants.{constant_pieces}
+use Rattle.rv_emit_rules.specs.Slots.{fetch_pieces, register_of, second}
+use Rattle.rv_emit_rules.specs.Tests.{branch_part, constant_register, constant_words, signed_branch, unsigned_branch}
+use Rattle.rv_layout_rules.specs.Forms.{branch_form, branch_words, form_rank}
+use Rattle.rv_layout_rules.specs.Laid.{address_of_place}
+use Rattle.rv_layout_rules.specs.Words.{NameAddresses, branch_code}
+use Rattle.rv_layout_rules.specs.declared.form.Form.{Form}
+use Rattle.rv_layout_rules.specs.declared.form.Form.TheVariants.{Near, Middle, Far}
 use Rattle.lin_ir.specs.Formed.{IsLocation, comps}
 use Rattle.lin_ir.specs.Meaning.{Locations, NamedAt, after_label, on_act, on_values, step}
 use Rattle.lin_ir.specs.declared.lin.Flow.TheVariants as flow
@@ -45,17 +45,17 @@ use Rattle.rv_machine.specs.Hart.{Placed}
 use Rattle.rv_machine.specs.Sound.{AreRegisters}
 use Rattle.rv_pieces.specs.declared.piece.Piece.{Piece}
 use Rattle.rv_pieces.specs.declared.piece.Piece.TheVariants as piece
-use Rattle.linear_machine.specs.Follows.{Agrees}
-use Rattle.linear_machine.specs.Relation.{Below, Laid, StandsFor, Within, blocks_by_serial}
-use Rattle.linear_machine.specs.Straight.{Changes, LeadsFurther}
-use Rattle.linear_machine.specs.View.{Fixed, View, HasCode}
-use Rattle.linear_machine.proofs.Parts.{changes_come, comes_then}
-use Rattle.linear_machine.proofs.Pure.{Reads, reads_held}
-use Rattle.linear_machine.proofs.Reading.{reads_one, reads_two}
-use Rattle.linear_machine.proofs.Rows.{immediate_small}
-use Rattle.linear_machine.proofs.Sequences.{no_change, widened}
-use Rattle.linear_machine.proofs.Standing.{within_past}
-use Rattle.linear_machine.proofs.Steps.{reg, then_leads}
+use Rattle.lin_machine.specs.Follows.{Agrees}
+use Rattle.lin_machine.specs.Relation.{Below, Laid, StandsFor, Within, blocks_by_serial}
+use Rattle.lin_machine.specs.Straight.{Changes, LeadsFurther}
+use Rattle.lin_machine.specs.View.{Fixed, View, HasCode}
+use Rattle.lin_machine.proofs.Parts.{changes_come, comes_then}
+use Rattle.lin_machine.proofs.Pure.{Reads, reads_held}
+use Rattle.lin_machine.proofs.Reading.{reads_one, reads_two}
+use Rattle.lin_machine.proofs.Rows.{immediate_small}
+use Rattle.lin_machine.proofs.Sequences.{no_change, widened}
+use Rattle.lin_machine.proofs.Standing.{within_past}
+use Rattle.lin_machine.proofs.Steps.{reg, then_leads}
 use Rattle.line_stands.specs.Parts.{PartStands}
 use Rattle.line_values.specs.Followed.{FollowsBranch}
 use Rattle.line_stands.proofs.Parts.{counts, none_left, starts}

@@ -5,9 +5,9 @@ use Rattle.bs_words.specs.Word.{add_word}
 use Rattle.bs_words.specs.declared.types.Chunk.{Chunk}
 use Rattle.bs_words.specs.declared.types.Chunk.TheVariants as chunk
 use Rattle.bs_words.specs.declared.values.Value.{Value}
-use Rattle.emit_rules.specs.Memory.{address_offset, address_register, address_words, store_width, store_part}
-use Rattle.emit_rules.specs.Slots.{fetch_pieces, register_of}
-use Rattle.layout_rules.specs.Words.{NameAddresses}
+use Rattle.rv_emit_rules.specs.Memory.{address_offset, address_register, address_words, store_width, store_part}
+use Rattle.rv_emit_rules.specs.Slots.{fetch_pieces, register_of}
+use Rattle.rv_layout_rules.specs.Words.{NameAddresses}
 use Rattle.lin_ir.specs.Formed.{IsLocation}
 use Rattle.lin_ir.specs.Meaning.{Locations, NamedAt, on_act, on_values, step}
 use Rattle.lin_ir.specs.declared.lin.Lin.{Lin}
@@ -29,26 +29,26 @@ use Rattle.rv_machine.proofs.Bytes.{replaced-below}
 use Rattle.moving_laws.specs.Words.{held_word}
 use Rattle.moving_laws.proofs.Held.{held_below, hold, hold_regions, word_hold}
 use Rattle.rv_pieces.specs.declared.piece.Piece.{Piece}
-use Rattle.linear_machine.specs.Follows.{Agrees, FollowsStep}
-use Rattle.linear_machine.specs.Relation.{Below, Laid, StandsFor, Within, blocks_by_serial}
-use Rattle.linear_machine.specs.Straight.{LeadsFurther}
-use Rattle.linear_machine.specs.View.{Fixed, View, IsInstructionAt}
-use Rattle.linear_machine.proofs.Parts.{changes_come, comes_then}
-use Rattle.linear_machine.proofs.Pure.{Reads, reads_held}
-use Rattle.linear_machine.proofs.Standing.{within_past}
-use Rattle.linear_machine.proofs.Steps.{reg, reg_below, then_leads}
+use Rattle.lin_machine.specs.Follows.{Agrees, FollowsStep}
+use Rattle.lin_machine.specs.Relation.{Below, Laid, StandsFor, Within, blocks_by_serial}
+use Rattle.lin_machine.specs.Straight.{LeadsFurther}
+use Rattle.lin_machine.specs.View.{Fixed, View, IsInstructionAt}
+use Rattle.lin_machine.proofs.Parts.{changes_come, comes_then}
+use Rattle.lin_machine.proofs.Pure.{Reads, reads_held}
+use Rattle.lin_machine.proofs.Standing.{within_past}
+use Rattle.lin_machine.proofs.Steps.{reg, reg_below, then_leads}
 use Rattle.line_stands.specs.Parts.{PartStands}
 use Rattle.line_stands.proofs.Parts.{counts, last}
 use Rattle.line_values.proofs.Cells.{reached}
 use Rattle.line_values.proofs.Operands.{fetches}
 use Rattle.line_values.proofs.Addresses.{addresses, no_function}
 use Rattle.rv_isa.specs.declared.instr.Instr.TheVariants.{Store}
-use Rattle.linear_machine.proofs.Writing.{within_changed}
+use Rattle.lin_machine.proofs.Writing.{within_changed}
 use Rattle.line_values.proofs.Bytes.{store_part_step}
 use Rattle.line_values.proofs.Loading.{chunk_width}
-use Rattle.emit_rules.specs.Instructions.{store_piece}
-use Rattle.linear_machine.proofs.Following.{agrees_on, goes_follows}
-use Rattle.linear_machine.proofs.Reading.{reads_two}
+use Rattle.rv_emit_rules.specs.Instructions.{store_piece}
+use Rattle.lin_machine.proofs.Following.{agrees_on, goes_follows}
+use Rattle.lin_machine.proofs.Reading.{reads_two}
 use Rattle.line_values.proofs.Landing.{within_at}
 use Rattle.line_values.proofs.Storing.{store_goes}
 use Rattle.line_values.proofs.Testing.{second_location}

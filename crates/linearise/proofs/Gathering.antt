@@ -6,8 +6,8 @@ use Rattle.bs_words.specs.declared.types.Loc.{Loc}
 use Rattle.bs_words.specs.declared.types.Loc.TheVariants as loc
 use Rattle.mach_ir.specs.declared.reg.Reg.{Reg}
 use Rattle.mach_ir.specs.declared.mach.Instr.{Instr}
-use Rattle.linear_rules.specs.Lowered.{with_slot_of, slots_of_regs, slots_of_code, is_among_numbers, limit_above}
-use Rattle.linear_rules.proofs.Slots.{above_first, above_later}
+use Rattle.linearise_rules.specs.Lowered.{with_slot_of, slots_of_regs, slots_of_code, is_among_numbers, limit_above}
+use Rattle.linearise_rules.proofs.Slots.{above_first, above_later}
 use Rattle.bs_words.proofs.Lists.{drop_none, drop_step}
 
 pub regs_append : (rs : List Reg) (ks : List ℕ) → slots_of_regs rs ks ≡ slots_of_regs rs [] ++ ks

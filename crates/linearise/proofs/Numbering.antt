@@ -14,8 +14,8 @@ use Rattle.lin_ir.specs.declared.lin.Flow.TheVariants as flow
 use Rattle.lin_ir.specs.declared.lin.LinOp.{LinOp}
 use Rattle.lin_ir.specs.declared.lin.Line.{Line}
 use Rattle.lin_ir.specs.declared.lin.Spot.{Spot}
-use Rattle.linear_rules.specs.Lowered.{with_slot_of, slots_of_regs, slots_of_code, slots_of_function, is_among_numbers, count_below, limit_above, slot_number, slot_count, home, spot_of_register, spots, is_idle, line_of, pops, lines_of, lowered_code, lowered}
-use Rattle.linear_rules.proofs.Slots.{among_below}
+use Rattle.linearise_rules.specs.Lowered.{with_slot_of, slots_of_regs, slots_of_code, slots_of_function, is_among_numbers, count_below, limit_above, slot_number, slot_count, home, spot_of_register, spots, is_idle, line_of, pops, lines_of, lowered_code, lowered}
+use Rattle.linearise_rules.proofs.Slots.{among_below}
 use Rattle.linearise.specs.Numbers.{number_of_slot, AreSlotFlags, IsTable, running}
 
 zero_is : (k : ℕ) → k ≤ 0 → k ≡ 0

@@ -1,6 +1,6 @@
 -- Tables of the numbers that slots get.
 use Rattle.std.specs.Prelude.{◌≡◌, ℕ, suc, ◌<◌, ◌≤◌, Bool, true, false, List, [], ◌∷◌, length, slice_index_or}
-use Rattle.linear_rules.specs.Lowered.{is_among_numbers, count_below, limit_above}
+use Rattle.linearise_rules.specs.Lowered.{is_among_numbers, count_below, limit_above}
 
 -- the number of a slot; one that the table does not have gets 0
 abbrev pub number_of_slot : List ℕ → ℕ → ℕ

@@ -3,7 +3,7 @@ ghost use Rattle.std.specs.Prelude.{◌≡◌, ◌∷◌, IfOk};
 ghost use Rattle.lin_ir.specs.Formed.{bare_flow};
 ghost use Rattle.lin_ir.specs.declared.lin.Flow.TheVariants as flow;
 ghost use Rattle.lin_ir.specs.declared.lin.LinOp.TheVariants as lin;
-ghost use Rattle.linear_rules.specs.Lowered.{same_spot, is_idle, line_of, pops, lines_of_mark, lowered_one};
+ghost use Rattle.linearise_rules.specs.Lowered.{same_spot, is_idle, line_of, pops, lines_of_mark, lowered_one};
 ghost use Rattle.linearise.specs.Numbers.{number_of_slot};
 
 use crate::backward::Backward;

@@ -1,6 +1,6 @@
 //! The lines of a function.
 ghost use Rattle.std.specs.Prelude.{◌≡◌, ◌<◌, ◌^◌, IfOk};
-ghost use Rattle.linear_rules.specs.Lowered.{slots_of_function, limit_above, lowered_code, lowered};
+ghost use Rattle.linearise_rules.specs.Lowered.{slots_of_function, limit_above, lowered_code, lowered};
 ghost use Rattle.linearise.specs.Numbers.{number_of_slot};
 
 use crate::backward::Backward;

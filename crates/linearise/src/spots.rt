@@ -1,7 +1,7 @@
 //! Registers as spots.
 ghost use Rattle.std.specs.Prelude.{◌≡◌, IfOk};
 ghost use Rattle.lin_ir.specs.Formed.{bare_flow};
-ghost use Rattle.linear_rules.specs.Lowered.{home, spot_of_register, spots, line_of};
+ghost use Rattle.linearise_rules.specs.Lowered.{home, spot_of_register, spots, line_of};
 ghost use Rattle.linearise.specs.Numbers.{number_of_slot};
 
 use bs_words::Loc;

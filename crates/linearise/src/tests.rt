@@ -1,6 +1,6 @@
 //! Opposite tests: a branch goes where its test holds, and the true part of an `if` comes next.
 ghost use Rattle.std.specs.Prelude.{◌≡◌};
-ghost use Rattle.linear_rules.specs.Lowered.{opposite_compare, opposite_test};
+ghost use Rattle.linearise_rules.specs.Lowered.{opposite_compare, opposite_test};
 
 use bs_words::CmpOp;
 use mach_ir::Test;

@@ -37,13 +37,13 @@ use Rattle.rv_machine.specs.Run.{seen}
 use Rattle.rv_machine.specs.Services.{Machine, Now, Going, Over, call_made, external, external_at, frame_call, served}
 use Rattle.rv_machine.specs.Services as machine
 use Rattle.rv_machine.specs.Sound.{IsStackBase}
-use Rattle.linear_machine.specs.Arrival.{Gone}
-use Rattle.linear_machine.specs.Follows as follows
-use Rattle.linear_machine.specs.Outside.{Taken, taken_of, counted_call, GoesOn, IsAsking}
-use Rattle.emit_rules.specs.Calls.{external_service}
-use Rattle.linear_machine.specs.Relation.{Below, Laid}
-use Rattle.linear_machine.specs.View.{Fixed, View, HasView}
-use Rattle.linear_machine.proofs.Steps.{ready, ready_stands, one_step, other_number}
+use Rattle.lin_machine.specs.Arrival.{Gone}
+use Rattle.lin_machine.specs.Follows as follows
+use Rattle.lin_machine.specs.Outside.{Taken, taken_of, counted_call, GoesOn, IsAsking}
+use Rattle.rv_emit_rules.specs.Calls.{external_service}
+use Rattle.lin_machine.specs.Relation.{Below, Laid}
+use Rattle.lin_machine.specs.View.{Fixed, View, HasView}
+use Rattle.lin_machine.proofs.Steps.{ready, ready_stands, one_step, other_number}
 use Rattle.linking.specs.Assembled.{Setup}
 use Rattle.linking.specs.Carries.{Outer, outer_of, Out, no_stack, no_heap, EventuallyHolds, Near, CarriesOutside}
 use Rattle.linking.specs.Pace.{Words}

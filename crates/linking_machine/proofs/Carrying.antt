@@ -29,12 +29,12 @@ use Rattle.rv_machine.specs.Run.{seen}
 use Rattle.rv_machine.specs.Services.{Machine, Now, Going, Over}
 use Rattle.rv_machine.specs.Services as machine
 use Rattle.rv_machine.specs.Sound.{AllWords, IsStackBase}
-use Rattle.linear_machine.specs.Arrival.{Needs, needs_nothing, ArrivalIn, Gone, ArrivesIn}
-use Rattle.linear_machine.specs.Follows.{IsAt, used, needs_of, FollowsCall, FollowsTail}
-use Rattle.linear_machine.specs.Follows as follows
-use Rattle.linear_machine.specs.Outside.{observed_argument}
-use Rattle.linear_machine.specs.Relation.{Below, Laid}
-use Rattle.linear_machine.specs.View.{Fixed, View}
+use Rattle.lin_machine.specs.Arrival.{Needs, needs_nothing, ArrivalIn, Gone, ArrivesIn}
+use Rattle.lin_machine.specs.Follows.{IsAt, used, needs_of, FollowsCall, FollowsTail}
+use Rattle.lin_machine.specs.Follows as follows
+use Rattle.lin_machine.specs.Outside.{observed_argument}
+use Rattle.lin_machine.specs.Relation.{Below, Laid}
+use Rattle.lin_machine.specs.View.{Fixed, View}
 use Rattle.linking.specs.Assembled.{Setup}
 use Rattle.linking.specs.Carries.{Outer, Out, no_stack, no_heap, EventuallyHolds, Near, IsAfterStep, CarriesCall, CarriesTail, CarriesStep}
 use Rattle.linking.specs.Pace.{Words}

@@ -13,7 +13,7 @@ use Rattle.rv_machine.specs.Loading.{IsRoom}
 use Rattle.rv_machine.specs.Places.{stack_bottom}
 use Rattle.rv_machine.specs.Sound.{IsStackBase}
 use Rattle.selection_rules.specs.Bounded.{BoundedDoing}
-use Rattle.linear_machine.specs.Relation.{Laid}
+use Rattle.lin_machine.specs.Relation.{Laid}
 use Rattle.linking.specs.Pace.{Words}
 use Rattle.linking_stages.specs.Chain.{IsGivenWords}
 use Rattle.linking_stages.proofs.Chain.{lowered_keep}

@@ -34,22 +34,22 @@ use Rattle.rv_machine.specs.Loading.{IsRoom}
 use Rattle.rv_machine.specs.Memory.{code_start}
 use Rattle.rv_machine.specs.Places.{stack_bottom}
 use Rattle.rv_machine.specs.Sound.{IsStackBase}
-use Rattle.linear_machine.specs.Arrival.{ArrivesIn}
-use Rattle.linear_machine.specs.Follows.{IsAt, IsEntered, used, needs_of, FollowsStep}
-use Rattle.linear_machine.specs.Relation.{Below, Laid}
-use Rattle.linear_machine.specs.View.{Fixed, View, IsInstructionAt, HasCode}
-use Rattle.linear_machine.proofs.Arriving.{leads_in}
-use Rattle.linear_machine.proofs.Endings.{return_value}
-use Rattle.linear_machine.proofs.Formats.{sets_imm, sets_jalr}
+use Rattle.lin_machine.specs.Arrival.{ArrivesIn}
+use Rattle.lin_machine.specs.Follows.{IsAt, IsEntered, used, needs_of, FollowsStep}
+use Rattle.lin_machine.specs.Relation.{Below, Laid}
+use Rattle.lin_machine.specs.View.{Fixed, View, IsInstructionAt, HasCode}
+use Rattle.lin_machine.proofs.Arriving.{leads_in}
+use Rattle.lin_machine.proofs.Endings.{return_value}
+use Rattle.lin_machine.proofs.Formats.{sets_imm, sets_jalr}
 use Rattle.machine_laws.proofs.Immediates.{low_12, up}
-use Rattle.linear_machine.proofs.Jumps.{back_place}
-use Rattle.linear_machine.proofs.Operating.{dropped, target_put, target_register}
-use Rattle.linear_machine.proofs.Parts.{keep_register}
-use Rattle.linear_machine.proofs.Pure.{constant_follows}
-use Rattle.linear_machine.proofs.Sequences.{set_changes, sets_as}
-use Rattle.linear_machine.proofs.Standing.{a0_location}
-use Rattle.linear_machine.proofs.Steps.{at_place, set_to_step, stays}
-use Rattle.linear_machine.proofs.Turning.{begins, leaves}
+use Rattle.lin_machine.proofs.Jumps.{back_place}
+use Rattle.lin_machine.proofs.Operating.{dropped, target_put, target_register}
+use Rattle.lin_machine.proofs.Parts.{keep_register}
+use Rattle.lin_machine.proofs.Pure.{constant_follows}
+use Rattle.lin_machine.proofs.Sequences.{set_changes, sets_as}
+use Rattle.lin_machine.proofs.Standing.{a0_location}
+use Rattle.lin_machine.proofs.Steps.{at_place, set_to_step, stays}
+use Rattle.lin_machine.proofs.Turning.{begins, leaves}
 use Rattle.linking.specs.Assembled.{Setup}
 use Rattle.linking_machine.specs.Emitted.{FollowsLine}
 use Rattle.linking_machine.specs.Standing.{fixed_of}

@@ -8,7 +8,7 @@ use Rattle.cmm_meaning.specs.State.{Doing, Asked, Callee, Inside, Outside}
 use Rattle.correctness.specs.Correct.{IsCorrect}
 use Rattle.correctness.specs.InNeed.{AsksInNeed}
 use Rattle.correctness.specs.Setting.{layout_of, AreRowsOf}
-use Rattle.emit_rules.specs.Units.{owed_before, tests_first}
+use Rattle.rv_emit_rules.specs.Units.{owed_before, tests_first}
 use Rattle.guarded_machine.specs.Guarded.{guarded_of}
 use Rattle.image_form.specs.Tables.{Tables}
 use Rattle.lin_ir.specs.Meaning.{Locations, NamedAt, State, after_label, at_code, on_values, step, values}
@@ -26,14 +26,14 @@ use Rattle.rv_machine.specs.Places.{stack_bottom}
 use Rattle.rv_machine.specs.Run.{seen}
 use Rattle.rv_machine.specs.Services.{Now}
 use Rattle.rv_machine.specs.Sound.{IsStackBase}
-use Rattle.linear_machine.specs.Arrival.{ArrivesIn}
-use Rattle.linear_machine.specs.Follows.{FollowsAsked, FollowsStep, IsAt, needs_of, used}
-use Rattle.linear_machine.specs.Relation.{Below, Laid}
-use Rattle.linear_machine.specs.View.{View}
-use Rattle.linear_machine.proofs.Arriving.{at_least, leads_in}
-use Rattle.linear_machine.proofs.Beginning.{nothing_below}
-use Rattle.linear_machine.proofs.Following.{agrees_on}
-use Rattle.linear_machine.proofs.Steps.{stays}
+use Rattle.lin_machine.specs.Arrival.{ArrivesIn}
+use Rattle.lin_machine.specs.Follows.{FollowsAsked, FollowsStep, IsAt, needs_of, used}
+use Rattle.lin_machine.specs.Relation.{Below, Laid}
+use Rattle.lin_machine.specs.View.{View}
+use Rattle.lin_machine.proofs.Arriving.{at_least, leads_in}
+use Rattle.lin_machine.proofs.Beginning.{nothing_below}
+use Rattle.lin_machine.proofs.Following.{agrees_on}
+use Rattle.lin_machine.proofs.Steps.{stays}
 use Rattle.linking.specs.Assembled.{Setup, IsPassedOn, Assembled}
 use Rattle.linking.specs.Carries.{Outer, EventuallyHolds, Near, CarriesAsked, Carries}
 use Rattle.linking.specs.Keeps.{ProgramKeeps}

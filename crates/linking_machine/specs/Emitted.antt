@@ -8,7 +8,7 @@ use Rattle.cmm_data.specs.Placement.{data_end}
 use Rattle.cmm_tree.specs.Tree.{FunctionTree, FileTree, functions, comps_of}
 use Rattle.cmm_meaning.specs.State.{Callee, Inside, Outside}
 use Rattle.correctness.specs.Setting.{layout_of}
-use Rattle.emit_rules.specs.Units.{owed_before}
+use Rattle.rv_emit_rules.specs.Units.{owed_before}
 use Rattle.guarded_machine.specs.Guarded.{guarded_of}
 use Rattle.image_form.specs.Tables.{Tables, Func}
 use Rattle.lin_ir.specs.Meaning.{NamedAt, State, after_label, step, linear_start}
@@ -25,16 +25,16 @@ use Rattle.rv_machine.specs.Run.{seen}
 use Rattle.rv_machine.specs.Start.{start_memory}
 use Rattle.rv_machine.specs.Services.{Now}
 use Rattle.rv_machine.specs.Sound.{IsStackBase}
-use Rattle.linear_machine.specs.Arrival.{ArrivesIn}
-use Rattle.linear_machine.specs.Contents.{statics_of}
+use Rattle.lin_machine.specs.Arrival.{ArrivesIn}
+use Rattle.lin_machine.specs.Contents.{statics_of}
 use Rattle.line_calls.specs.Calls.{FollowsSo}
 use Rattle.line_stands.specs.Lines.{FreeStands}
 use Rattle.line_values.specs.Followed.{FollowsBranch}
-use Rattle.linear_machine.specs.Follows.{IsAt, IsEntered, used, needs_of}
-use Rattle.linear_machine.specs.Relation.{Below, Laid}
-use Rattle.linear_machine.specs.Statics.{StaticsLie}
-use Rattle.linear_machine.specs.View.{Fixed, View}
-use Rattle.linear_machine.proofs.Beginning.{nothing_below}
+use Rattle.lin_machine.specs.Follows.{IsAt, IsEntered, used, needs_of}
+use Rattle.lin_machine.specs.Relation.{Below, Laid}
+use Rattle.lin_machine.specs.Statics.{StaticsLie}
+use Rattle.lin_machine.specs.View.{Fixed, View}
+use Rattle.lin_machine.proofs.Beginning.{nothing_below}
 use Rattle.linking.specs.Assembled.{Setup, IsStub}
 use Rattle.linking.specs.Pace.{Words, IsReached}
 use Rattle.linking.specs.Program.{activation_in}

@@ -12,9 +12,9 @@ use Rattle.rv_machine.specs.Loading.{IsRoom}
 use Rattle.rv_machine.specs.Places.{stack_bottom}
 use Rattle.rv_machine.specs.Services.{Machine, Now, Going}
 use Rattle.rv_machine.specs.Sound.{IsStackBase}
-use Rattle.linear_machine.specs.Follows.{IsAt, IsDone, IsEntered}
-use Rattle.linear_machine.specs.Relation.{Below, Laid}
-use Rattle.linear_machine.specs.View.{Fixed, View, HasView}
+use Rattle.lin_machine.specs.Follows.{IsAt, IsDone, IsEntered}
+use Rattle.lin_machine.specs.Relation.{Below, Laid}
+use Rattle.lin_machine.specs.View.{Fixed, View, HasView}
 use Rattle.linking.specs.Assembled.{Setup}
 use Rattle.linking.specs.Carries.{Outer}
 

@@ -11,7 +11,7 @@ ghost use Rattle.correctness.specs.InNeed.{AsksInNeed};
 ghost use Rattle.image_form.specs.Tables.{Tables};
 ghost use Rattle.lin_ir.specs.Meaning.{NamedAt, State};
 ghost use Rattle.lin_ir.specs.declared.lin.Lin.{Lin};
-ghost use Rattle.linear_machine.specs.Relation.{Laid};
+ghost use Rattle.lin_machine.specs.Relation.{Laid};
 ghost use Rattle.linking.specs.Pace.{Words};
 ghost use Rattle.linking_machine.specs.Compiled.{IsCompiled};
 ghost use Rattle.mach_ir.specs.declared.mach.Mach.{Mach};

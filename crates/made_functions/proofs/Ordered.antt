@@ -7,7 +7,7 @@ use Rattle.cmm_tree.specs.Tree.{FunctionTree}
 use Rattle.std.specs.Prelude.{List}
 use Rattle.lin_ir.specs.declared.descr.Descr.{Descr}
 use Rattle.lin_ir.specs.declared.lin.Lin.{Lin}
-use Rattle.linear_pass.specs.Linear.{IsLinearOf}
+use Rattle.lin_pass.specs.Linear.{IsLinearOf}
 use Rattle.mach_ir.specs.declared.mach.Mach.{Mach}
 use Rattle.rv_pieces.specs.declared.piece.Pieces.{Pieces}
 use Rattle.made_functions.specs.Made.{in_order, IsMadeOf}

@@ -3,7 +3,7 @@ use Rattle.std.specs.Prelude.{◌+◌, ◌*◌, ◌≤◌, List, length, All}
 use Rattle.cmm_tree.specs.Tree.{FunctionTree}
 use Rattle.correctness.specs.Bounds.{most_words}
 use Rattle.correctness.specs.Measures.{frame_points, tries}
-use Rattle.emit_rules.specs.Sizes.{words_at_most}
+use Rattle.rv_emit_rules.specs.Sizes.{words_at_most}
 use Rattle.lin_ir.specs.declared.descr.Descr.{Descr}
 use Rattle.rv_pieces.specs.declared.piece.Pieces.{Pieces}
 

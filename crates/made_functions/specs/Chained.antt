@@ -12,10 +12,10 @@ use Rattle.lin_ir.specs.Walks.{LiveAt, Reached, StandsAsLine}
 use Rattle.lin_ir.specs.declared.descr.Descr.{Descr}
 use Rattle.lin_ir.specs.declared.lin.Lin.{Lin}
 use Rattle.lin_ir.specs.declared.lin.Line.{Line}
-use Rattle.tidy_rules.specs.Regular.{IsRegular, IsTidy}
-use Rattle.linear_pass.specs.Linear.{NamesHomes}
+use Rattle.lin_tidy_rules.specs.Regular.{IsRegular, IsTidy}
+use Rattle.lin_pass.specs.Linear.{NamesHomes}
 use Rattle.line_stands.specs.Lines.{OffsetFits}
-use Rattle.emit_rules.specs.Emitted.{IsEmitted}
+use Rattle.rv_emit_rules.specs.Emitted.{IsEmitted}
 use Rattle.rv_pieces.specs.declared.piece.Pieces.{Pieces}
 
 -- What is known of its lines alone, beside its text.

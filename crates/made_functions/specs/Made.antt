@@ -8,13 +8,13 @@ use Rattle.choices.specs.declared.choices.Order.TheVariants.{Plain}
 use Rattle.cmm_tree.specs.Tree.{FunctionTree}
 use Rattle.selection_rules.specs.Select.{selected}
 use Rattle.mach_ir.specs.declared.mach.Mach.{Mach}
-use Rattle.mach_passes.specs.Prepared.{IsPreparedMach}
-use Rattle.rounds_rules.specs.Rounds.{IsRegisterAllocated}
+use Rattle.prepare_rules.specs.Prepared.{IsPreparedMach}
+use Rattle.reg_rounds_rules.specs.Rounds.{IsRegisterAllocated}
 use Rattle.lin_ir.specs.Descriptors.{AreExact, frame_point_count}
 use Rattle.lin_ir.specs.declared.descr.Descr.{Descr}
 use Rattle.lin_ir.specs.declared.lin.Lin.{Lin}
-use Rattle.linear_pass.specs.Linear.{IsLinearOf}
-use Rattle.emit_rules.specs.Emitted.{IsEmitted}
+use Rattle.lin_pass.specs.Linear.{IsLinearOf}
+use Rattle.rv_emit_rules.specs.Emitted.{IsEmitted}
 use Rattle.rv_pieces.specs.declared.piece.Pieces.{Pieces}
 
 -- lines in the order that is chosen

@@ -6,16 +6,16 @@ use Rattle.lin_ir.specs.Descriptors.{AreExact}
 use Rattle.lin_ir.specs.declared.descr.Descr.{Descr}
 use Rattle.lin_ir.specs.declared.lin.Lin.{Lin}
 use Rattle.lin_laws.proofs.Unique.{exact_unique}
-use Rattle.linear_pass.specs.Linear.{IsLinearOf}
-use Rattle.rounds_rules.specs.Rounds.{IsRegisterAllocated}
-use Rattle.linear_pass.proofs.Once.{linear_once}
-use Rattle.rounds_rules.proofs.Once.{allocated_once}
+use Rattle.lin_pass.specs.Linear.{IsLinearOf}
+use Rattle.reg_rounds_rules.specs.Rounds.{IsRegisterAllocated}
+use Rattle.lin_pass.proofs.Once.{linear_once}
+use Rattle.reg_rounds_rules.proofs.Once.{allocated_once}
 use Rattle.mach_ir.specs.declared.mach.Mach.{Mach}
-use Rattle.emit_rules.specs.Emitted.{IsEmitted}
-use Rattle.emit_rules.proofs.Once.{emitted_once}
+use Rattle.rv_emit_rules.specs.Emitted.{IsEmitted}
+use Rattle.rv_emit_rules.proofs.Once.{emitted_once}
 use Rattle.rv_pieces.specs.declared.piece.Pieces.{Pieces}
 use Rattle.made_functions.specs.Made.{IsMadeOf, in_order}
-use Rattle.mach_passes.proofs.Whole.{one_prepared}
+use Rattle.prepare_rules.proofs.Whole.{one_prepared}
 use Rattle.selection_rules.specs.Select.{selected}
 
 module _ {choices : Choices} {tree : FunctionTree} {m n : Lin} {ds es : List Descr} {p q : Pieces} (h : IsMadeOf choices tree m ds p) (k : IsMadeOf choices tree n es q)

@@ -11,7 +11,7 @@ use Rattle.mach_ir.specs.declared.op.Leaving.TheVariants as leaving
 use Rattle.mach_ir.specs.declared.op.Op.TheVariants as op
 use Rattle.mach_ir.specs.declared.reg.Reg.{Reg}
 use Rattle.pass_rules.specs.Measures.{code_words, code_points, exit_count, other_operands}
-use Rattle.places_rules.specs.Places.{ColoursLow}
+use Rattle.colouring_rules.specs.Places.{ColoursLow}
 
 -- no more than so many tries are round each place of the code
 abbrev pub TriesAtMost : Mach → ℕ → Type 0

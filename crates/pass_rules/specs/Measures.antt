@@ -1,6 +1,6 @@
 -- How large the code of a Mach function is, by its instructions.
 use Rattle.std.specs.Prelude.{ℕ, suc, ◌+◌, ◌*◌, Bool, true, false, cond, List, [], ◌∷◌, length}
-use Rattle.linear_rules.specs.Lowered.{same_spot}
+use Rattle.linearise_rules.specs.Lowered.{same_spot}
 use Rattle.mach_ir.specs.Formed.{is_exit}
 use Rattle.mach_ir.specs.Meaning.{passes_frame}
 use Rattle.mach_ir.specs.declared.mach.Instr.{Instr}

@@ -6,21 +6,21 @@ use Rattle.choices.specs.declared.choices.Alloc.{Alloc}
 use Rattle.cmm_tree.specs.Measures.{all_tries}
 use Rattle.cmm_tree.specs.Symbols.{DefinedSymbol}
 use Rattle.cmm_tree.specs.Tree.{Parameter, FunctionTree}
-use Rattle.combine_rules.specs.Kept.{holds_block}
+use Rattle.comballoc_rules.specs.Kept.{holds_block}
 use Rattle.correctness.specs.Measures.{tries}
 use Rattle.mach_ir.specs.Sizes.{operand_count, HasRoom}
 use Rattle.mach_ir.specs.declared.mach.Mach.{Mach}
 use Rattle.mach_ir.specs.declared.reg.Reg.{Reg}
 use Rattle.mach_ir.proofs.Keeping.{keeps_then}
-use Rattle.mach_passes.specs.Prepared.{IsPreparable, IsPreparedMach, prepared_size}
-use Rattle.mach_passes.specs.Prepared as prepared
-use Rattle.mach_passes.proofs.Whole.{prepared_kept}
+use Rattle.prepare_rules.specs.Prepared.{IsPreparable, IsPreparedMach, prepared_size}
+use Rattle.prepare_rules.specs.Prepared as prepared
+use Rattle.prepare_rules.proofs.Whole.{prepared_kept}
 use Rattle.pass_rules.specs.Carried.{IsCarried}
 use Rattle.pass_rules.proofs.Operands.{others_few}
 use Rattle.pass_rules.specs.Measures.{copy_words}
-use Rattle.rounds_rules.specs.Rounds.{IsRegisterAllocated, allocated_size}
-use Rattle.rounds_rules.specs.Rounds as rounds
-use Rattle.rounds_rules.proofs.Kept.{allocated_kept}
+use Rattle.reg_rounds_rules.specs.Rounds.{IsRegisterAllocated, allocated_size}
+use Rattle.reg_rounds_rules.specs.Rounds as rounds
+use Rattle.reg_rounds_rules.proofs.Kept.{allocated_kept}
 use Rattle.selection_places.proofs.Placed.{selected_low}
 use Rattle.selection_promise.specs.Selects.{IsAccepted, Selects, size_by}
 use Rattle.selection_promise.proofs.Promised.{promised, few_tokens, narrow_body}

@@ -7,7 +7,7 @@ use Rattle.mach_ir.specs.Sizes.{OpenAtMost}
 use Rattle.mach_ir.specs.Walks.{IsRegister}
 use Rattle.mach_ir.specs.declared.mach.Mach.{Mach}
 use Rattle.mach_ir.specs.declared.reg.Reg.{Reg}
-use Rattle.places_rules.specs.Places.{SlotsGrow}
+use Rattle.colouring_rules.specs.Places.{SlotsGrow}
 
 module _ {p q : Mach} (keeps : Keeps p q) (no_slot : (r : Reg) → IsRegister p r → (slot : ℕ) → r.loc ≢ loc.Slot slot)
     (origins : (r : Reg) → IsRegister p r → r.origin ≡ r.number) where

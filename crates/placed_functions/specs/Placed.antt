@@ -14,7 +14,7 @@ use Rattle.mach_ir.specs.declared.mach.Instr.{Instr}
 use Rattle.mach_ir.specs.declared.mach.Mach.{Mach}
 use Rattle.pass_rules.specs.Carried.{TriesAtMost, OffsetFits, EndsInReturn}
 use Rattle.pass_rules.specs.Measures.{code_words, code_points, exit_count}
-use Rattle.places_rules.specs.Places.{SlotsGrow}
+use Rattle.colouring_rules.specs.Places.{SlotsGrow}
 use Rattle.selection_rules.specs.Select.{selected}
 
 pub record IsPlacedFor (tree : FunctionTree) (q : Mach) : Type 0 where

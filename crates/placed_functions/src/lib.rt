@@ -8,9 +8,9 @@ ghost use Rattle.choices.specs.declared.choices.Alloc.{Alloc};
 ghost use Rattle.cmm_tree.specs.Symbols.{DefinedSymbol};
 ghost use Rattle.cmm_tree.specs.Tree.{FunctionTree};
 ghost use Rattle.mach_ir.specs.declared.mach.Mach.{Mach};
-ghost use Rattle.mach_passes.specs.Prepared.{IsPreparable, IsPreparedMach};
+ghost use Rattle.prepare_rules.specs.Prepared.{IsPreparable, IsPreparedMach};
 ghost use Rattle.placed_functions.specs.Placed.{IsPlacedFor};
-ghost use Rattle.rounds_rules.specs.Rounds.{IsRegisterAllocated};
+ghost use Rattle.reg_rounds_rules.specs.Rounds.{IsRegisterAllocated};
 ghost use Rattle.selection_promise.specs.Selects.{IsAccepted};
 ghost use Rattle.selection_rules.specs.Select.{selected};
 

@@ -6,12 +6,12 @@ use Rattle.mach_ir.specs.Formed.{WellFormed}
 use Rattle.mach_ir.specs.Placed.{WellPlaced}
 use Rattle.mach_ir.specs.Sizes.{HasRoom}
 use Rattle.mach_ir.specs.declared.mach.Mach.{Mach}
-use Rattle.mach_passes.specs.Prepared.{IsPreparable, prepared_size}
+use Rattle.prepare_rules.specs.Prepared.{IsPreparable, prepared_size}
 use Rattle.hoist_rules.specs.Chosen.{HasConstantsFirst}
 use Rattle.sink_rules.specs.Chosen.{IsSunk}
-use Rattle.mach_passes.specs.Stages.{IsOverMach, IsPassedTo, spills, splits}
-use Rattle.mach_passes.proofs.Room.{spilled_room}
-use Rattle.mach_passes.proofs.Whole.{dropped_cut, hoist_cut, sunk_stage, slots_stage}
+use Rattle.prepare_rules.specs.Stages.{IsOverMach, IsPassedTo, spills, splits}
+use Rattle.prepare_rules.proofs.Room.{spilled_room}
+use Rattle.prepare_rules.proofs.Whole.{dropped_cut, hoist_cut, sunk_stage, slots_stage}
 use Rattle.spill_rules.specs.Chosen.{IsSpilled}
 use Rattle.split_rules.specs.Split.{IsSplit, split_size}
 

@@ -1,8 +1,8 @@
 //! The passes, in their order.
 ghost use Rattle.std.specs.Prelude.{length, IfOk};
 ghost use Rattle.mach_ir.specs.Sizes.{HasRoom};
-ghost use Rattle.mach_passes.specs.Prepared.{IsPreparable, prepared_size};
-ghost use Rattle.mach_passes.specs.Stages.{IsOverMach, IsPassedTo};
+ghost use Rattle.prepare_rules.specs.Prepared.{IsPreparable, prepared_size};
+ghost use Rattle.prepare_rules.specs.Stages.{IsOverMach, IsPassedTo};
 
 use comballoc::combine;
 use cse_deadcode::{cse, drop_dead, propagate};

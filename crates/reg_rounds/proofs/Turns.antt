@@ -2,9 +2,9 @@
 use Rattle.std.proofs.Common.{◌≡◌, ℕ, suc, ◌+◌, ◌<◌, ◌≤◌, Bool, true, false, subst, arith}
 use Rattle.choices.specs.declared.choices.Alloc.{Alloc}
 use Rattle.mach_ir.specs.declared.mach.Mach.{Mach}
-use Rattle.places_rules.specs.Places.{rest_in_slots}
+use Rattle.colouring_rules.specs.Places.{rest_in_slots}
 use Rattle.reload_rules.specs.Reloaded.{IsFree}
-use Rattle.rounds_rules.specs.Rounds.{IsRound, RoundsAsked, one_more, most_rounds, EndsRounds, asks_no_more, gives_up, IsAllocatedIn}
+use Rattle.reg_rounds_rules.specs.Rounds.{IsRound, RoundsAsked, one_more, most_rounds, EndsRounds, asks_no_more, gives_up, IsAllocatedIn}
 
 plus_one : (n : ℕ) → suc n ≡ n + 1
 plus_one n = omega arith

@@ -5,9 +5,9 @@ ghost use Rattle.mach_ir.specs.Formed.{WellFormed};
 ghost use Rattle.mach_ir.specs.Placed.{WellPlaced};
 ghost use Rattle.mach_ir.specs.Sizes.{HasRoom};
 ghost use Rattle.pass_rules.specs.Measures.{other_operands};
-ghost use Rattle.places_rules.specs.Places.{ColoursLow};
+ghost use Rattle.colouring_rules.specs.Places.{ColoursLow};
 ghost use Rattle.reload_rules.specs.Kept.{with_copies};
-ghost use Rattle.rounds_rules.specs.Rounds.{IsRound, IsAllocatedIn, allocated_size};
+ghost use Rattle.reg_rounds_rules.specs.Rounds.{IsRound, IsAllocatedIn, allocated_size};
 
 use crate::copies::copy;
 use crate::slots::rest_in_slots;

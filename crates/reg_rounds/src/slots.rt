@@ -1,6 +1,6 @@
 //! The last resort: registers whose places are open go to slots.
 ghost use Rattle.std.specs.Prelude.{◌≡◌, IfOk};
-ghost use Rattle.places_rules.specs.Places.{located_register, all_placed, placed_instr, placed_code, last_resort, rest_in_slots};
+ghost use Rattle.colouring_rules.specs.Places.{located_register, all_placed, placed_instr, placed_code, last_resort, rest_in_slots};
 
 use bs_words::Loc;
 use mach_ir::{Instr, Mach, Reg, Seq};

@@ -5,7 +5,7 @@ use Rattle.mach_ir.specs.Walks.{IsRegister}
 use Rattle.mach_ir.specs.declared.reg.Reg.{Reg}
 use Rattle.mach_ir.specs.declared.mach.Instr.{Instr}
 use Rattle.mach_ir.specs.declared.mach.Mach.{Mach}
-use Rattle.places_rules.specs.Places.{LocationAssignment, located_register, all_placed, placed_instr, placed_code, with_places, with_colouring}
+use Rattle.colouring_rules.specs.Places.{LocationAssignment, located_register, all_placed, placed_instr, placed_code, with_places, with_colouring}
 use Rattle.reload_rules.specs.Reloaded.{any_needs, reloaded_code, reloaded, to_slots, in_slots, IsReloadedBy, is_coloured, asks_again}
 
 module _ (place : Colouring) (first : LocationAssignment) where

@@ -8,7 +8,7 @@ use Rattle.mach_ir.specs.declared.reg.Reg.{Reg}
 use Rattle.mach_ir.specs.declared.mach.Instr.{Instr}
 use Rattle.mach_ir.specs.declared.mach.Mach.{Mach}
 use Rattle.pass_rules.specs.Measures.{other_operands}
-use Rattle.places_rules.specs.Places.{placed_code}
+use Rattle.colouring_rules.specs.Places.{placed_code}
 use Rattle.reload_rules.proofs.Copies.{few_past, placed_others}
 use Rattle.reload_rules.proofs.Numbers.{after_true, past_rises}
 use Rattle.reload_rules.specs.Kept.{with_copies}

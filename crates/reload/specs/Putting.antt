@@ -1,6 +1,6 @@
 -- Where registers are put.
 use Rattle.mach_ir.specs.Placed.{Colouring}
-use Rattle.places_rules.specs.Places.{LocationAssignment}
+use Rattle.colouring_rules.specs.Places.{LocationAssignment}
 use Rattle.reload_rules.specs.Reloaded.{to_slots}
 use Rattle.reload.specs.declared.places.Putting.{Putting}
 use Rattle.reload.specs.declared.places.Putting.TheVariants as putting

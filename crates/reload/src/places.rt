@@ -1,7 +1,7 @@
 //! Registers put where a colouring has them.
 ghost use Rattle.std.specs.Prelude.{◌≡◌, IfOk};
 ghost use Rattle.mach_ir.specs.Graph.{coloured_location};
-ghost use Rattle.places_rules.specs.Places.{located_register, all_placed, placed_instr, placed_code, with_places};
+ghost use Rattle.colouring_rules.specs.Places.{located_register, all_placed, placed_instr, placed_code, with_places};
 ghost use Rattle.reload_rules.specs.Reloaded.{slot_or};
 ghost use Rattle.reload.specs.Putting.{placing};
 

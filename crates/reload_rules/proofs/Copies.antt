@@ -13,7 +13,7 @@ use Rattle.mach_ir.specs.declared.mach.Instr.{Instr}
 use Rattle.mach_laws.specs.Expand.{expand}
 use Rattle.mach_laws.proofs.Grows.{held, operands_append}
 use Rattle.pass_rules.specs.Measures.{operands_with, other_operands}
-use Rattle.places_rules.specs.Places.{LocationAssignment, located_register, all_placed, placed_code}
+use Rattle.colouring_rules.specs.Places.{LocationAssignment, located_register, all_placed, placed_code}
 use Rattle.spill_rules.specs.Spilled.{copy_instruction}
 use Rattle.reload_rules.specs.Reloaded.{reads_registers, writes_registers, is_renewed, fresh_stand_in, next_reload_number, number_past, renewed, reloads, spills, results_from, past_instr, renewed_instr, reloaded_instr}
 use Rattle.reload_rules.proofs.Numbers.{after_few}

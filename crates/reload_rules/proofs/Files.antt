@@ -10,7 +10,7 @@ use Rattle.mach_ir.specs.Formed.{AreDistinct}
 use Rattle.mach_ir.specs.Meaning.{File, assign_register, put_if, put_all, with_held, values}
 use Rattle.mach_ir.specs.Walks.{AmongRegisters, first, later}
 use Rattle.mach_ir.specs.declared.reg.Reg.{Reg}
-use Rattle.places_rules.proofs.Files.{put_here}
+use Rattle.colouring_rules.proofs.Files.{put_here}
 use Rattle.mach_laws.proofs.Files.{put_other}
 use Rattle.reload_rules.specs.Reloaded.{is_renewed, fresh_stand_in, next_reload_number, renewed}
 use Rattle.reload_rules.proofs.Numbers.{IsFor, for_this, for_other, after_true, after_rises, for_from, for_in}

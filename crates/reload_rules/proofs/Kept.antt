@@ -36,7 +36,7 @@ use Rattle.mach_laws.proofs.Among.{left_among, right_among, split_among, number_
 use Rattle.mach_laws.proofs.Files.{put_other}
 use Rattle.mach_laws.proofs.Raised.{IsRaised, Told, told_jump, told_unwind, told_ask, IsSilent, told, label_silent, try_silent}
 use Rattle.mach_laws.proofs.Walking.{across_live}
-use Rattle.places_rules.proofs.Files.{past_same, cleared, not_cleared, put_here}
+use Rattle.colouring_rules.proofs.Files.{past_same, cleared, not_cleared, put_here}
 use Rattle.liveness.proofs.Bounds.{killed_is_colour}
 use Rattle.spill_rules.specs.Spilled.{copy_instruction}
 use Rattle.spill_rules.proofs.Holding.{values_held, FitsIn, put_fits, put_holds, clear_fits, frame_fits, live_register, fit_at_entry, agree_at_entry, copy_step, vals_copy}

@@ -23,10 +23,10 @@ use Rattle.mach_ir.specs.declared.mach.Mach.{Mach}
 use Rattle.mach_laws.specs.Expand.{all}
 use Rattle.mach_laws.proofs.Places.{label_expand, ending_label, ending_of, contains_of}
 use Rattle.mach_laws.proofs.Among.{left_among, right_among, split_among, number_among, among_of}
-use Rattle.places_rules.specs.Places.{ColoursLow}
-use Rattle.places_rules.proofs.Open.{machine_open}
-use Rattle.places_rules.proofs.Whole.{AreRegisters, FixedSeats, fixed_in_order, fixed_after_first, fixed_operands, fixed_results, tail_fixed, head_fixed}
-use Rattle.places_rules.proofs.Walked.{colour_place}
+use Rattle.colouring_rules.specs.Places.{ColoursLow}
+use Rattle.colouring_rules.proofs.Open.{machine_open}
+use Rattle.colouring_rules.proofs.Whole.{AreRegisters, FixedSeats, fixed_in_order, fixed_after_first, fixed_operands, fixed_results, tail_fixed, head_fixed}
+use Rattle.colouring_rules.proofs.Walked.{colour_place}
 use Rattle.spill_rules.specs.Spilled.{copy_instruction}
 use Rattle.spill_rules.proofs.Chosen.{no_result}
 use Rattle.reload_rules.specs.Reloaded.{reads_registers, writes_registers, is_in_slot, is_renewed, fresh_stand_in, next_reload_number, renewed}

@@ -11,11 +11,11 @@ use Rattle.mach_ir.specs.Walks.{InCode, in_args, in_results, further, IsRegister
 use Rattle.mach_ir.specs.declared.reg.Reg.{Reg}
 use Rattle.mach_ir.specs.declared.mach.Instr.{Instr}
 use Rattle.mach_ir.specs.declared.mach.Mach.{Mach}
-use Rattle.places_rules.specs.Places.{LocationAssignment, IsProperAssignment, ColoursLow, located_register, all_placed, placed_code}
-use Rattle.places_rules.proofs.Open.{slot_open, machine_slot}
-use Rattle.places_rules.proofs.Lists.{was}
-use Rattle.places_rules.proofs.Text.{was_register}
-use Rattle.places_rules.proofs.Walked.{colour_place}
+use Rattle.colouring_rules.specs.Places.{LocationAssignment, IsProperAssignment, ColoursLow, located_register, all_placed, placed_code}
+use Rattle.colouring_rules.proofs.Open.{slot_open, machine_slot}
+use Rattle.colouring_rules.proofs.Lists.{was}
+use Rattle.colouring_rules.proofs.Text.{was_register}
+use Rattle.colouring_rules.proofs.Walked.{colour_place}
 use Rattle.reload_rules.specs.Reloaded.{reads_registers, writes_registers, is_in_slot, is_renewed, any_renewed, any_needs, slot_or, to_slots, in_slots}
 
 -- what becomes of a register's place

@@ -9,12 +9,12 @@ use Rattle.mach_ir.specs.Walks.{IsRegister, Joined}
 use Rattle.mach_ir.proofs.Keeping.{keeps_then}
 use Rattle.mach_ir.specs.declared.mach.Mach.{Mach}
 use Rattle.pass_rules.specs.Measures.{other_operands}
-use Rattle.places_rules.specs.Places.{ColoursLow, with_colouring}
-use Rattle.places_rules.proofs.Colouring.{coloured_kept}
-use Rattle.places_rules.proofs.Open.{not_open}
-use Rattle.places_rules.proofs.Text.{placed_formed}
-use Rattle.places_rules.proofs.Walked.{no_addr_before}
-use Rattle.places_rules.proofs.Whole.{placed_keeps, placed_well, placed_seated, placed_size, placed_slots}
+use Rattle.colouring_rules.specs.Places.{ColoursLow, with_colouring}
+use Rattle.colouring_rules.proofs.Colouring.{coloured_kept}
+use Rattle.colouring_rules.proofs.Open.{not_open}
+use Rattle.colouring_rules.proofs.Text.{placed_formed}
+use Rattle.colouring_rules.proofs.Walked.{no_addr_before}
+use Rattle.colouring_rules.proofs.Whole.{placed_keeps, placed_well, placed_seated, placed_size, placed_slots}
 use Rattle.reload_rules.specs.Kept.{with_copies, IsReloadKept}
 use Rattle.reload_rules.specs.Reloaded.{any_needs, reloaded, to_slots, in_slots, IsFree, IsReloadedBy, is_coloured, asks_again}
 use Rattle.reload_rules.proofs.Copies.{placed_others}

@@ -20,8 +20,8 @@ use Rattle.mach_laws.specs.Expand.{expand, Ending, all}
 use Rattle.mach_laws.proofs.Places.{label_expand, handler_expand, ending_label, ending_from_handler, contains_of}
 use Rattle.mach_laws.proofs.Walking.{across_live}
 use Rattle.pass_rules.specs.Measures.{other_operands}
-use Rattle.places_rules.specs.Places.{IsSlot}
-use Rattle.places_rules.proofs.Open.{slot_open}
+use Rattle.colouring_rules.specs.Places.{IsSlot}
+use Rattle.colouring_rules.proofs.Open.{slot_open}
 use Rattle.spill_rules.specs.Spilled.{copy_instruction}
 use Rattle.spill_rules.proofs.Holding.{live_register}
 use Rattle.spill_rules.proofs.Text.{copy_no_symbol, copy_no_external}

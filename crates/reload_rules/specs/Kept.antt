@@ -8,7 +8,7 @@ use Rattle.mach_ir.specs.Sizes.{Size, HasSize, OpenAtMost}
 use Rattle.mach_ir.specs.Walks.{NoAddrLive}
 use Rattle.mach_ir.specs.declared.mach.Mach.{Mach}
 use Rattle.pass_rules.specs.Measures.{other_operands}
-use Rattle.places_rules.specs.Places.{ColoursLow, SlotsGrow}
+use Rattle.colouring_rules.specs.Places.{ColoursLow, SlotsGrow}
 use Rattle.reload_rules.specs.Reloaded.{any_needs}
 
 -- so many copies more, each with an operand, a result and a register of its own

@@ -15,7 +15,7 @@ use Rattle.mach_ir.specs.declared.mach.MachOp.{MachOp}
 use Rattle.mach_ir.specs.declared.mach.MachOp.TheVariants as mach
 use Rattle.mach_ir.specs.declared.mach.Instr.{Instr}
 use Rattle.mach_ir.specs.declared.mach.Mach.{Mach}
-use Rattle.places_rules.specs.Places.{LocationAssignment, with_places, with_colouring}
+use Rattle.colouring_rules.specs.Places.{LocationAssignment, with_places, with_colouring}
 use Rattle.spill_rules.specs.Spilled.{copy_instruction}
 
 -- ---- which operands and results

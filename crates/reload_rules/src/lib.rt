@@ -12,7 +12,7 @@ ghost use Rattle.mach_ir.specs.Formed.{WellFormed};
 ghost use Rattle.mach_ir.specs.Placed.{Colouring, IsProperColouring, WellPlaced};
 ghost use Rattle.mach_ir.specs.Walks.{IsRegister, Joined};
 ghost use Rattle.mach_ir.specs.declared.mach.Mach.{Mach};
-ghost use Rattle.places_rules.specs.Places.{ColoursLow};
+ghost use Rattle.colouring_rules.specs.Places.{ColoursLow};
 ghost use Rattle.reload_rules.specs.Kept.{IsReloadKept};
 ghost use Rattle.reload_rules.specs.Reloaded.{IsReloadedBy};
 

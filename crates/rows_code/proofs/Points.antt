@@ -4,8 +4,8 @@ use Rattle.std.specs.List.{AllByRecursion, count_by}
 use Rattle.std.proofs.lemmas.List.Sums.{sum_by-append, sum_by-cons}
 use Rattle.cmm_tree.specs.Tree.{FileTree}
 use Rattle.image_form.specs.Image.{EachNext, IsEntry, IsNextEntry}
-use Rattle.layout_rules.proofs.Rules.{all_append}
-use Rattle.layout_rules.specs.Conditions.{IsDescriptor, AreDescriptors, AreNamesPresent, piece_weight, weight_of}
+use Rattle.rv_layout_rules.proofs.Rules.{all_append}
+use Rattle.rv_layout_rules.specs.Conditions.{IsDescriptor, AreDescriptors, AreNamesPresent, piece_weight, weight_of}
 use Rattle.lin_ir.specs.declared.descr.Descr.{Descr}
 use Rattle.rows_code.specs.Points.{AreSlots, no_slot, one_slot, IsShortDescriptor, ArePointPieces, no_point, one_point, CanStand}
 use Rattle.rv_isa.specs.Encoding.{InstrFits}

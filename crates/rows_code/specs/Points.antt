@@ -1,7 +1,7 @@
 -- Pieces of a function with many frame descriptors.
 use Rattle.std.specs.Prelude.{ℕ, suc, ◌*◌, ◌^◌, ◌≤◌, ◌<◌, List, [], ◌∷◌, ◌++◌, length}
 use Rattle.cmm_tree.specs.Tree.{FileTree}
-use Rattle.layout_rules.specs.Conditions.{IsDescriptor, IsFunctionLaid, weight_of}
+use Rattle.rv_layout_rules.specs.Conditions.{IsDescriptor, IsFunctionLaid, weight_of}
 use Rattle.lin_ir.specs.declared.descr.Descr.{Descr}
 use Rattle.rv_isa.specs.Encoding.{InstrFits}
 use Rattle.rv_isa.specs.declared.instr.Instr.{Instr}

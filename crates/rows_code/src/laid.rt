@@ -1,12 +1,12 @@
 //! From the pieces of a function to the forms in which they are laid, and to its words.
 ghost use Rattle.std.specs.Prelude.{IsTrue};
-ghost use Rattle.layout_rules.specs.Conditions.{HasAlignedTarget};
+ghost use Rattle.rv_layout_rules.specs.Conditions.{HasAlignedTarget};
 ghost use Rattle.rv_isa.specs.Encoding.{InstrFits};
 ghost use Rattle.rv_pieces.specs.Named.{PieceFits};
 
 use anyhow::{Result, bail, ensure};
 use bs_words::Name;
-use layout_rules::Form;
+use rv_layout_rules::Form;
 use mach_ir::Label;
 use rv_isa::Instr;
 use rv_layout::{forms_of, put_piece, words_of};

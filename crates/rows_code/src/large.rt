@@ -6,7 +6,7 @@
 //! 4 more, and at most 67,108,864.
 ghost use Rattle.cmm_front.specs.FileOf.{HasPlace};
 ghost use Rattle.cmm_tree.specs.View.{file_view};
-ghost use Rattle.layout_rules.specs.Conditions.{CanBeLaid};
+ghost use Rattle.rv_layout_rules.specs.Conditions.{CanBeLaid};
 
 use crate::counted::count_functions;
 use crate::large_pieces::pieces_of;

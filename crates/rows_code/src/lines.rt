@@ -9,7 +9,7 @@ use crate::described::put_descriptors;
 use crate::numbered::is_numbered;
 use anyhow::{Result, bail};
 use lin_ir::{Lin, text};
-use linear_tidy::tidy;
+use lin_tidy::tidy;
 use linearise::lower;
 use mach_ir::Mach;
 use mach_ir::page::Page;
@@ -32,7 +32,7 @@ pub(crate) fn put(alloc: Global, page: &mut Page, mach: &Mach) -> Result<()> {
     if !is_numbered(&lowered) {
         bail!("some location has no number");
     }
-    if !linear_tidy::has_room(&lowered) {
+    if !lin_tidy::has_room(&lowered) {
         bail!("no room for lines");
     }
     let tidied = tidy(alloc, lowered)?;

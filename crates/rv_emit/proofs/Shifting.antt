@@ -3,8 +3,8 @@ use Rattle.std.proofs.Common.{◌≡◌, ℕ, zero, suc, ◌+◌, Bool, true, fa
 use Rattle.std.proofs.lemmas.Grind.{common_steps}
 use Rattle.rv_isa.specs.declared.register.Register.{Register}
 use Rattle.rv_pieces.specs.declared.piece.Piece.{Piece}
-use Rattle.emit_rules.specs.Instructions.{low_12, addi}
-use Rattle.emit_rules.specs.Constants.{is_word_32, constant_32, upper_constant, shifted, constant_shifted}
+use Rattle.rv_emit_rules.specs.Instructions.{low_12, addi}
+use Rattle.rv_emit_rules.specs.Constants.{is_word_32, constant_32, upper_constant, shifted, constant_shifted}
 
 on-true : (b : Bool) (x y : List Piece) → b ≡ true → cond b x y ≡ x
 on-true true x y e = refl

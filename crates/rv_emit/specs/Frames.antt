@@ -1,5 +1,5 @@
 -- Frames as the code has them.
-use Rattle.emit_rules.specs.Entry.{FrameLayout}
+use Rattle.rv_emit_rules.specs.Entry.{FrameLayout}
 use Rattle.rv_emit.specs.declared.form.FrameForm.{FrameForm}
 
 abbrev pub frame_layout_of : FrameForm → FrameLayout

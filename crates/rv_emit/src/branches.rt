@@ -1,8 +1,8 @@
 //! Labels, jumps, branches on tests, and switches.
 ghost use Rattle.std.specs.Prelude.{◌≡◌, [], ◌∷◌, map, IfOk};
-ghost use Rattle.emit_rules.specs.Tests.{constant_register, constant_words, right_register, right_words, signed_branch};
-ghost use Rattle.emit_rules.specs.Tests.{unsigned_branch, test_words, test_branch, branch_part, value_words};
-ghost use Rattle.emit_rules.specs.Tests.{tests_in_turn, table_of_jumps, switch_part};
+ghost use Rattle.rv_emit_rules.specs.Tests.{constant_register, constant_words, right_register, right_words, signed_branch};
+ghost use Rattle.rv_emit_rules.specs.Tests.{unsigned_branch, test_words, test_branch, branch_part, value_words};
+ghost use Rattle.rv_emit_rules.specs.Tests.{tests_in_turn, table_of_jumps, switch_part};
 ghost use Rattle.rv_emit.specs.Outputs.{AddsPieces};
 
 use crate::output::Output;

@@ -1,6 +1,6 @@
 //! Calls, and the return from a function.
 ghost use Rattle.std.specs.Prelude.{◌≡◌, [], ◌∷◌, IfOk, option_copied};
-ghost use Rattle.emit_rules.specs.Calls.{mark_of, call_words, callee_words, goes_to_callee, tail_call_part, external_service, external_words, return_part};
+ghost use Rattle.rv_emit_rules.specs.Calls.{mark_of, call_words, callee_words, goes_to_callee, tail_call_part, external_service, external_words, return_part};
 ghost use Rattle.rv_emit.specs.Outputs.{AddsPieces};
 ghost use Rattle.rv_emit.specs.Frames.{frame_layout_of};
 

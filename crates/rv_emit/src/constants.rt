@@ -1,7 +1,7 @@
 //! Constants, and sums of a register and a constant.
 ghost use Rattle.std.specs.Prelude.{◌≡◌, ◌+◌, ◌*◌, ◌++◌, ◌≤◌, IfOk};
 ghost use Rattle.mach_ir.specs.Forms.{is_immediate_12};
-ghost use Rattle.emit_rules.specs.Constants.{is_word_32, above_12, lower_part, constant_32, upper_constant, shifted, constant_shifted, constant_pieces, sum_to, bytes_taken_off};
+ghost use Rattle.rv_emit_rules.specs.Constants.{is_word_32, above_12, lower_part, constant_32, upper_constant, shifted, constant_shifted, constant_pieces, sum_to, bytes_taken_off};
 ghost use Rattle.rv_emit.specs.Outputs.{AddsPieces};
 
 use crate::output::Output;
@@ -107,7 +107,7 @@ impl Output {
     }
 
     /// The word becomes the register's value. The only error is want of memory.
-    #[tactic(auto, unfolding(emit_rules::specs::Constants::constant_pieces))]
+    #[tactic(auto, unfolding(rv_emit_rules::specs::Constants::constant_pieces))]
     pub fn constant(&mut self, to: Register, word: u64) -> Result<(), AllocError>
         ensures { IfOk result (λ _. AddsPieces self.old self.new (constant_pieces to word)) }
     {

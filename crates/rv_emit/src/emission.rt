@@ -3,10 +3,10 @@ ghost use Rattle.std.specs.Prelude.{◌≡◌, ◌≤◌, IfOk, option_copied, s
 ghost use Rattle.lin_ir.specs.Descriptors.{frame_bytes, FitsDescriptors};
 ghost use Rattle.lin_ir.specs.Formed.{AreLocated};
 ghost use Rattle.lin_ir.specs.Walks.{OneDepth};
-ghost use Rattle.emit_rules.specs.Calls.{mark_of};
-ghost use Rattle.emit_rules.specs.Emitted.{operator_part, pure_part, access_part, calling_part, leaving_part, op_part};
-ghost use Rattle.emit_rules.specs.Emitted.{flow_part, part_of_line, part_before, descriptor, left_after};
-ghost use Rattle.emit_rules.specs.Emitted.{parts_of_lines, emitted, IsEmitted};
+ghost use Rattle.rv_emit_rules.specs.Calls.{mark_of};
+ghost use Rattle.rv_emit_rules.specs.Emitted.{operator_part, pure_part, access_part, calling_part, leaving_part, op_part};
+ghost use Rattle.rv_emit_rules.specs.Emitted.{flow_part, part_of_line, part_before, descriptor, left_after};
+ghost use Rattle.rv_emit_rules.specs.Emitted.{parts_of_lines, emitted, IsEmitted};
 ghost use Rattle.rv_emit.specs.Outputs.{AddsPieces};
 ghost use Rattle.rv_emit.specs.Frames.{frame_layout_of};
 

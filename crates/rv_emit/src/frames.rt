@@ -1,7 +1,7 @@
 //! The frame of a function: its entry, and how it gives the frame back.
 ghost use Rattle.std.specs.Prelude.{◌≡◌, ◌≤◌, IfOk};
 ghost use Rattle.lin_ir.specs.Descriptors.{frame_bytes};
-ghost use Rattle.emit_rules.specs.Entry.{frame_of, frame_allocation, entry_pieces, restored, raised_stack_pointer, frame_release, return_offset};
+ghost use Rattle.rv_emit_rules.specs.Entry.{frame_of, frame_allocation, entry_pieces, restored, raised_stack_pointer, frame_release, return_offset};
 ghost use Rattle.rv_emit.specs.Outputs.{AddsPieces};
 ghost use Rattle.rv_emit.specs.Frames.{frame_layout_of};
 

@@ -1,7 +1,7 @@
 //! Instructions over registers.
 ghost use Rattle.std.specs.Prelude.{◌≡◌, ◌<◌, [], ◌∷◌, IfOk};
-ghost use Rattle.emit_rules.specs.Instructions.{low_12, with_immediate, addi, mv, alu_operation, add, shift_piece};
-ghost use Rattle.emit_rules.specs.Instructions.{lui, addiw, auipc, load_piece, store_piece, skip, goes_to_address, calls_at, ecall};
+ghost use Rattle.rv_emit_rules.specs.Instructions.{low_12, with_immediate, addi, mv, alu_operation, add, shift_piece};
+ghost use Rattle.rv_emit_rules.specs.Instructions.{lui, addiw, auipc, load_piece, store_piece, skip, goes_to_address, calls_at, ecall};
 ghost use Rattle.rv_emit.specs.Outputs.{AddsPieces};
 
 use crate::output::Output;

@@ -1,7 +1,7 @@
 //! Emission: from a Linear function and its frame descriptors to pieces of code, whose targets are
 //! still named, as `Emit` makes it of `Linear` in OCaml's `asmcomp`.
 //!
-//! What the pieces are is defined in `emit_rules`. Each function here puts the pieces of one thing.
+//! What the pieces are is defined in `rv_emit_rules`. Each function here puts the pieces of one thing.
 #![tactic(auto)]
 
 pub mod branches;

@@ -1,11 +1,11 @@
 //! Loads, stores and allocations.
 ghost use Rattle.std.specs.Prelude.{◌≡◌, ◌<◌, ◌^◌, ◌++◌, IfOk, option_copied};
 ghost use Rattle.mach_ir.specs.Blocks.{total_block_bytes};
-ghost use Rattle.emit_rules.specs.Memory.{address_words, address_register, address_offset, load_width, load_from};
-ghost use Rattle.emit_rules.specs.Memory.{load_part, store_width, store_part, ask, reserved, addresses, alloc_part};
-ghost use Rattle.emit_rules.specs.Constants.{sum_to};
-ghost use Rattle.emit_rules.specs.Slots.{target, keep_pieces};
-ghost use Rattle.emit_rules.specs.Calls.{mark_of};
+ghost use Rattle.rv_emit_rules.specs.Memory.{address_words, address_register, address_offset, load_width, load_from};
+ghost use Rattle.rv_emit_rules.specs.Memory.{load_part, store_width, store_part, ask, reserved, addresses, alloc_part};
+ghost use Rattle.rv_emit_rules.specs.Constants.{sum_to};
+ghost use Rattle.rv_emit_rules.specs.Slots.{target, keep_pieces};
+ghost use Rattle.rv_emit_rules.specs.Calls.{mark_of};
 ghost use Rattle.rv_emit.specs.Outputs.{AddsPieces};
 
 use crate::constants::is_immediate_12;

@@ -1,6 +1,6 @@
 //! Slots, where operands are read and results are made, and copies.
 ghost use Rattle.std.specs.Prelude.{◌≡◌, IfOk};
-ghost use Rattle.emit_rules.specs.Slots.{far_stack, stack_load, stack_store, slot_offset, first_location, second, register_of, fetch_pieces, target, keep_pieces, copy_pieces, move_pieces};
+ghost use Rattle.rv_emit_rules.specs.Slots.{far_stack, stack_load, stack_store, slot_offset, first_location, second, register_of, fetch_pieces, target, keep_pieces, copy_pieces, move_pieces};
 ghost use Rattle.rv_emit.specs.Outputs.{AddsPieces};
 
 use crate::constants::above_12;

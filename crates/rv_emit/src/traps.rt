@@ -1,7 +1,7 @@
 //! Traps, raises and bound tests.
 ghost use Rattle.std.specs.Prelude.{[], ◌∷◌, IfOk};
-ghost use Rattle.emit_rules.specs.Instructions.{load_piece};
-ghost use Rattle.emit_rules.specs.Traps.{raise_words, push_part, pop_part, enter_part, raise_bound_error, check_part};
+ghost use Rattle.rv_emit_rules.specs.Instructions.{load_piece};
+ghost use Rattle.rv_emit_rules.specs.Traps.{raise_words, push_part, pop_part, enter_part, raise_bound_error, check_part};
 ghost use Rattle.rv_emit.specs.Outputs.{AddsPieces};
 
 use crate::branches::right_register;

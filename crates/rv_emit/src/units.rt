@@ -2,7 +2,7 @@
 ghost use Rattle.std.specs.Prelude.{◌≡◌};
 ghost use Rattle.lin_ir.specs.Formed.{is_label};
 ghost use Rattle.lin_ir.specs.Meaning.{has_label};
-ghost use Rattle.emit_rules.specs.Units.{is_branch, tests_first, falls_to, is_free_exit};
+ghost use Rattle.rv_emit_rules.specs.Units.{is_branch, tests_first, falls_to, is_free_exit};
 
 use lin_ir::{Flow, LinOp, Line};
 use mach_ir::Label;

@@ -1,10 +1,10 @@
 -- How tables and forms grow while the pieces of a function are walked.
 use Rattle.std.proofs.Common.{◌≡◌, ℕ, zero, suc, ◌+◌, ◌≤◌, ◌<◌, List, [], ◌∷◌, ◌++◌, length, get_or, drop, replicate, refl, sym, ap, ◌∙◌, subst, append_assoc, drop-cons, arith}
 use Rattle.std.proofs.lemmas.List.{drop_all, append-nil}
-use Rattle.layout_rules.specs.declared.form.Form.{Form}
-use Rattle.layout_rules.specs.declared.form.Form.TheVariants.{Near}
-use Rattle.layout_rules.specs.Forms.{piece_words, none_far, needed_form, longer, grown_from, AllNear, ranks}
-use Rattle.layout_rules.specs.Laid.{descriptor_laid_at, descs_in}
+use Rattle.rv_layout_rules.specs.declared.form.Form.{Form}
+use Rattle.rv_layout_rules.specs.declared.form.Form.TheVariants.{Near}
+use Rattle.rv_layout_rules.specs.Forms.{piece_words, none_far, needed_form, longer, grown_from, AllNear, ranks}
+use Rattle.rv_layout_rules.specs.Laid.{descriptor_laid_at, descs_in}
 use Rattle.rv_layout.specs.Descs.{desc_in}
 use Rattle.rv_layout.specs.Tables.{LabelBelow, LabelsBelow}
 use Rattle.rv_pieces.specs.declared.piece.Piece.{Piece}

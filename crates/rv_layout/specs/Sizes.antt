@@ -2,7 +2,7 @@
 use Rattle.std.specs.Prelude.{◌≡◌}
 use Rattle.bs_fault.specs.declared.large.Section.TheVariants.{Func, Code, Data, Syms, Root, Extc, Desc}
 use Rattle.image_form.specs.Tables.{Tables}
-use Rattle.layout_rules.specs.TooLarge.{section_bytes_of}
+use Rattle.rv_layout_rules.specs.TooLarge.{section_bytes_of}
 use Rattle.rv_layout.specs.declared.sizes.Sizes.{Sizes}
 
 -- These are the bytes of the bodies of the sections of these tables.

@@ -1,14 +1,14 @@
 //! The descriptors of a function.
 ghost use Rattle.std.specs.Prelude.{◌≡◌, ◌+◌, ◌*◌, ◌<◌, ◌^◌, ◌++◌, length, map, IfOk, OnOk};
 ghost use Rattle.image_form.specs.Tables.{desc};
-ghost use Rattle.layout_rules.specs.Forms.{total_words};
-ghost use Rattle.layout_rules.specs.Laid.{descriptor_laid_at, descs_in};
+ghost use Rattle.rv_layout_rules.specs.Forms.{total_words};
+ghost use Rattle.rv_layout_rules.specs.Laid.{descriptor_laid_at, descs_in};
 ghost use Rattle.rv_layout.specs.Descs.{desc_in};
 
 use crate::forms::words_of;
 use bs_words::List;
 use image_form::DescRow;
-use layout_rules::Form;
+use rv_layout_rules::Form;
 use lin_ir::Descr;
 use rv_pieces::Piece;
 use std::alloc::{AllocError, Global};

@@ -1,12 +1,12 @@
 //! The forms in which the pieces of a function are laid.
 ghost use Rattle.std.specs.Prelude.{◌≡◌, ◌*◌, ◌<◌, ◌≤◌, ◌^◌, length, IfOk};
-ghost use Rattle.layout_rules.specs.Forms.{branch_words, jump_words, call_words, piece_words, branch_reaches, jal_reaches};
-ghost use Rattle.layout_rules.specs.Forms.{branch_form, jump_form, none_far, needed_form, form_rank, ranks, longer, grown_from};
-ghost use Rattle.layout_rules.specs.Forms.{AreForms};
+ghost use Rattle.rv_layout_rules.specs.Forms.{branch_words, jump_words, call_words, piece_words, branch_reaches, jal_reaches};
+ghost use Rattle.rv_layout_rules.specs.Forms.{branch_form, jump_form, none_far, needed_form, form_rank, ranks, longer, grown_from};
+ghost use Rattle.rv_layout_rules.specs.Forms.{AreForms};
 ghost use Rattle.rv_layout.specs.Tables.{words_of_labels};
 
 use crate::labels::{Labels, label_bound};
-use layout_rules::Form;
+use rv_layout_rules::Form;
 use rv_pieces::Piece;
 use std::alloc::{AllocError, Global};
 

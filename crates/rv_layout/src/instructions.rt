@@ -1,14 +1,14 @@
 //! The words of pieces, once it is known where everything lies.
 ghost use Rattle.std.specs.Prelude.{◌≡◌, ◌+◌, ◌%◌, ◌<◌, ◌^◌, [], ◌∷◌, ◌++◌, map, OnOk};
-ghost use Rattle.layout_rules.specs.Conditions.{HasAlignedTarget};
+ghost use Rattle.rv_layout_rules.specs.Conditions.{HasAlignedTarget};
 ghost use Rattle.rv_pieces.specs.Named.{PieceFits};
-ghost use Rattle.layout_rules.specs.Words.{distance, branch_offset, jal_offset, upper, inverted, far_jump};
-ghost use Rattle.emit_rules.specs.Instructions.{low_12};
-ghost use Rattle.layout_rules.specs.Words.{number_into, address_into, branch_code, jump_code, call_code, code_to};
+ghost use Rattle.rv_layout_rules.specs.Words.{distance, branch_offset, jal_offset, upper, inverted, far_jump};
+ghost use Rattle.rv_emit_rules.specs.Instructions.{low_12};
+ghost use Rattle.rv_layout_rules.specs.Words.{number_into, address_into, branch_code, jump_code, call_code, code_to};
 ghost use Rattle.rv_isa.specs.Encoding.{encoded, InstrFits};
 ghost use Rattle.rv_isa.specs.Registers.{register_number};
 
-use layout_rules::Form;
+use rv_layout_rules::Form;
 use rv_isa::{AluImmOp, Condition, Instr, Register, encode};
 use rv_pieces::Piece;
 use std::alloc::AllocError;

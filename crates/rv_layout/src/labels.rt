@@ -3,7 +3,7 @@ ghost use Rattle.std.specs.Prelude.{◌≡◌, ℕ, ◌<◌, ◌≤◌, ◌^◌,
 ghost use Rattle.rv_layout.specs.Tables.{label_noted, words_of_labels, IsLabelTable, LabelBelow, LabelsBelow};
 
 use crate::forms::words_of;
-use layout_rules::Form;
+use rv_layout_rules::Form;
 use mach_ir::Label;
 use rv_pieces::Piece;
 use std::alloc::{AllocError, Global};

@@ -1,7 +1,7 @@
 //! Which section of an image is the first that passes its limit.
 ghost use Rattle.std.specs.Prelude.{◌≡◌};
 ghost use Rattle.image_form.specs.Tables.{Tables};
-ghost use Rattle.layout_rules.specs.TooLarge.{first_too_large};
+ghost use Rattle.rv_layout_rules.specs.TooLarge.{first_too_large};
 ghost use Rattle.rv_layout.specs.Sizes.{AreSizesOf};
 
 use bs_fault::{Large, Section};

@@ -1,14 +1,14 @@
 //! The words of a function.
 ghost use Rattle.std.specs.Prelude.{◌≡◌, ◌+◌, ◌*◌, ◌%◌, ◌<◌, ◌^◌, ◌++◌, length, OnOk};
 ghost use Rattle.std.specs.List.{AllByRecursion};
-ghost use Rattle.layout_rules.specs.Conditions.{AllLead};
+ghost use Rattle.rv_layout_rules.specs.Conditions.{AllLead};
 ghost use Rattle.rv_pieces.specs.Named.{PieceFits};
-ghost use Rattle.layout_rules.specs.Forms.{total_words};
-ghost use Rattle.layout_rules.specs.Words.{words_to};
+ghost use Rattle.rv_layout_rules.specs.Forms.{total_words};
+ghost use Rattle.rv_layout_rules.specs.Words.{words_to};
 
 use crate::forms::words_of;
 use crate::instructions::put_piece;
-use layout_rules::Form;
+use rv_layout_rules::Form;
 use rv_pieces::Piece;
 use std::alloc::AllocError;
 

@@ -7,8 +7,8 @@ use Rattle.cmm_tree.specs.Tree.{FunctionTree}
 use Rattle.mach_ir.specs.Placed.{colour_numbers, HasColourOrSlot, in_colour, HasColourRegisters, LocationsAgree, WellPlaced}
 use Rattle.mach_ir.specs.Walks.{IsRegister, is_param, Joined, one_way, other_way, Meets, at_write, at_params}
 use Rattle.mach_ir.specs.declared.reg.Reg.{Reg}
-use Rattle.places_rules.specs.Places.{ColoursLow}
-use Rattle.places_rules.proofs.Open.{machine_open}
+use Rattle.colouring_rules.specs.Places.{ColoursLow}
+use Rattle.colouring_rules.proofs.Open.{machine_open}
 use Rattle.selection_rules.specs.Select.{selected, first_after_colours, seats, colour_regs}
 use Rattle.selection_places.proofs.Sets.{Role, Plain, New, Seated, IsColour, left, right as in_right, it, Listed}
 use Rattle.selection_places.proofs.Coded as coded

@@ -13,7 +13,7 @@ use Rattle.mach_ir.specs.Placed.{colour_numbers}
 use Rattle.mach_ir.specs.Sizes.{Size, HasSize, OpenAtMost}
 use Rattle.mach_ir.specs.Walks.{IsRegister}
 use Rattle.mach_ir.specs.declared.reg.Reg.{Reg}
-use Rattle.places_rules.proofs.Open.{machine_open, slot_open, machine_slot}
+use Rattle.colouring_rules.proofs.Open.{machine_open, slot_open, machine_slot}
 use Rattle.selection_rules.specs.Select.{NamedRegister, scopes, selected, first_after_colours, seat, seats, result_seat, params_from, colour_regs, regs_of, width, is_based}
 use Rattle.selection_laws.specs.Fits.{Fits, RowFits, BindingsFit, CasesFit, HandlersFit, FunctionFits}
 use Rattle.selection_places.proofs.Sets.{Role, Plain, New, Seated, IsColour, Block, is_seated, left, right as in_right, One, it, Listed}

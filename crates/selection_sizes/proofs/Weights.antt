@@ -7,7 +7,7 @@ use Rattle.bs_words.specs.declared.types.Comp.{Comp}
 use Rattle.bs_words.specs.declared.types.Ret.{Ret}
 use Rattle.bs_words.specs.declared.types.Ret.TheVariants as ret
 use Rattle.mach_ir.specs.declared.blocks.NewBlock.{NewBlock}
-use Rattle.linear_rules.specs.Lowered.{same_spot}
+use Rattle.linearise_rules.specs.Lowered.{same_spot}
 use Rattle.mach_ir.specs.Sizes.{operand_count}
 use Rattle.mach_ir.specs.declared.mach.Instr.{Instr}
 use Rattle.mach_ir.specs.declared.mach.Mark.TheVariants as mark

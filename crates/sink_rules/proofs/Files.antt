@@ -15,7 +15,7 @@ use Rattle.mach_ir.specs.declared.reg.Reg.{Reg}
 use Rattle.mach_ir.specs.declared.mach.Instr.{Instr}
 use Rattle.mach_ir.specs.declared.mach.Mach.{Mach}
 use Rattle.liveness.proofs.Bounds.{killed_is_colour}
-use Rattle.places_rules.proofs.Files.{put_here}
+use Rattle.colouring_rules.proofs.Files.{put_here}
 use Rattle.mach_laws.proofs.Among.{number_among}
 use Rattle.mach_laws.proofs.Files.{put_other}
 

@@ -29,7 +29,7 @@ use Rattle.mach_laws.proofs.Places.{ending_next, stands_of, results_in, form_of}
 use Rattle.mach_laws.proofs.Simulate.{Agrees}
 use Rattle.mach_laws.proofs.Among.{split_among, among_or_not}
 use Rattle.mach_laws.proofs.Raised.{IsSilent, label_silent, try_silent, told}
-use Rattle.places_rules.proofs.Files.{not_cleared, put_both}
+use Rattle.colouring_rules.proofs.Files.{not_cleared, put_both}
 use Rattle.spill_rules.proofs.Holding.{FitsIn, put_fits, put_holds, clear_fits, frame_fits, fit_at_entry, agree_at_entry}
 use Rattle.sink_rules.specs.Sunk.{SinkPlan, to_itself, planned_moves, IsSinkPlan}
 use Rattle.sink_rules.specs.Walks as walks

@@ -17,7 +17,7 @@ use Rattle.mach_ir.specs.declared.mach.Instr.{Instr}
 use Rattle.mach_ir.specs.declared.mach.Mach.{Mach}
 use Rattle.mach_laws.specs.Expand.{expand, Ending, all, more}
 use Rattle.mach_laws.proofs.Places.{ending_next, stands_of}
-use Rattle.places_rules.proofs.Lists.{was}
+use Rattle.colouring_rules.proofs.Lists.{was}
 use Rattle.bs_words.proofs.Lists.{first_in, later_in}
 use Rattle.pass_rules.proofs.Words.{both_sum}
 use Rattle.sink_rules.specs.Sunk.{SinkPlan, to_itself, planned_moves, sunk_instr, sunk, IsSinkPlan}

@@ -26,7 +26,7 @@ use Rattle.mach_laws.proofs.Simulate.{Agrees}
 use Rattle.mach_laws.proofs.Among.{left_among, right_among, split_among, number_among, among_or_not}
 use Rattle.mach_laws.proofs.Raised.{IsRaised, IsSilent, label_silent, try_silent, told}
 use Rattle.mach_laws.proofs.Walking.{across_live}
-use Rattle.places_rules.proofs.Files.{past_same, cleared, not_cleared, PutsToo, put_twice, put_both}
+use Rattle.colouring_rules.proofs.Files.{past_same, cleared, not_cleared, PutsToo, put_twice, put_both}
 use Rattle.split_rules.specs.Renamed.{Naming, all_numbered, renamed_code, renamed}
 use Rattle.split_rules.specs.Split.{IsNaming}
 use Rattle.split_rules.specs.Writes.{from_entry, from_write}

@@ -10,7 +10,7 @@ use Rattle.mach_ir.specs.Walks.{AmongRegisters, is_in_code, StandsAsInstr, here,
 use Rattle.mach_ir.specs.declared.reg.Reg.{Reg}
 use Rattle.mach_ir.specs.declared.mach.Instr.{Instr}
 use Rattle.mach_ir.specs.declared.mach.Mach.{Mach}
-use Rattle.places_rules.proofs.Open.{machine_open, slot_open}
+use Rattle.colouring_rules.proofs.Open.{machine_open, slot_open}
 use Rattle.mach_ir.specs.Meaning.{killed}
 use Rattle.mach_laws.proofs.Among.{left_among, among_of}
 use Rattle.mach_laws.proofs.Places.{args_in, results_in}

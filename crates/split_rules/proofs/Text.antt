@@ -14,7 +14,7 @@ use Rattle.mach_laws.proofs.InPlace as text
 use Rattle.mach_laws.proofs.InPlace.{AreAlike, same_op, was_main}
 use Rattle.mach_laws.proofs.Places.{label_expand, handler_expand, tries_expand}
 use Rattle.mach_laws.proofs.Among.{among_of}
-use Rattle.places_rules.proofs.Lists.{was}
+use Rattle.colouring_rules.proofs.Lists.{was}
 use Rattle.split_rules.specs.Renamed.{Naming, register_renumbered, all_numbered, renamed_instr, renamed_code, renamed}
 use Rattle.split_rules.specs.Split.{IsNaming}
 

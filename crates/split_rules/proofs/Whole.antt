@@ -15,8 +15,8 @@ use Rattle.mach_ir.specs.declared.reg.Reg.{Reg}
 use Rattle.mach_ir.specs.declared.mach.Instr.{Instr}
 use Rattle.mach_ir.specs.declared.mach.Mach.{Mach}
 use Rattle.mach_laws.proofs.Places.{contains_of}
-use Rattle.places_rules.proofs.Open.{machine_open}
-use Rattle.places_rules.proofs.Lists.{was}
+use Rattle.colouring_rules.proofs.Open.{machine_open}
+use Rattle.colouring_rules.proofs.Lists.{was}
 use Rattle.split_rules.specs.Renamed.{Naming, register_renumbered, all_numbered, renamed_code, renamed}
 use Rattle.split_rules.specs.Split.{IsNaming, IsDense, IsSplit, IsSplitKept}
 use Rattle.split_rules.proofs.Formed.{was_instr, renamed_formed}

@@ -10,7 +10,7 @@ use Rattle.file_compile.proofs.Promised.{made_correct, made_in_need, made_bounde
 use Rattle.file_compile.specs.Listed.{AreFunctionTexts, IsImageText, image_text, IsStageText}
 use Rattle.image_form.specs.Image.{AreTables}
 use Rattle.image_form.specs.Tables.{Tables}
-use Rattle.layout_rules.specs.TooLarge.{first_too_large}
+use Rattle.rv_layout_rules.specs.TooLarge.{first_too_large}
 use Rattle.made_functions.specs.Files.{AreTablesMadeFor}
 use Rattle.choices.specs.Defaults.{defaults}
 use Rattle.stages.specs.declared.stage.Stage.{Stage}

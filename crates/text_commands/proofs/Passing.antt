@@ -7,7 +7,7 @@ use Rattle.cmm_tree.specs.Tree.{FileTree}
 use Rattle.correctness.specs.Bounds.{IsRoomy}
 use Rattle.file_compile.proofs.Promised.{roomy_fits}
 use Rattle.image_form.specs.Tables.{Tables}
-use Rattle.layout_rules.specs.TooLarge.{first_too_large}
+use Rattle.rv_layout_rules.specs.TooLarge.{first_too_large}
 use Rattle.made_functions.specs.Files.{AreTablesMadeFor}
 use Rattle.choices.specs.Defaults.{defaults}
 use Rattle.file_promise.proofs.Once.{made_for_once}

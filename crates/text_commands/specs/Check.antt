@@ -9,7 +9,7 @@ use Rattle.command_line.specs.Command.{CheckTree}
 use Rattle.correctness.specs.Bounds.{IsRoomy}
 use Rattle.correctness.specs.Setting.{layout_of}
 use Rattle.image_form.specs.Tables.{Tables}
-use Rattle.layout_rules.specs.TooLarge.{first_too_large}
+use Rattle.rv_layout_rules.specs.TooLarge.{first_too_large}
 use Rattle.text_commands.specs.Arguments.{NamesNone, IsCall, HasUnfit}
 use Rattle.text_commands.specs.Compile.{IsOnlyMadeFor}
 use Rattle.text_commands.specs.Lines.{check_text}

@@ -9,11 +9,11 @@ use Rattle.cmm_tree.specs.View.{file_view}
 use Rattle.cmm_tree.specs.declared.file.File.{File}
 use Rattle.image_form.specs.Image.{AreTables}
 use Rattle.image_form.specs.Tables.{Tables}
-use Rattle.image_rules.proofs.Whole.{is_image}
-use Rattle.layout_rules.specs.Conditions.{CanBeLaid}
-use Rattle.layout_rules.specs.Laid.{laid_out}
-use Rattle.layout_rules.specs.TooLarge.{first_too_large}
-use Rattle.layout_rules.proofs.Functions.{all_reach}
+use Rattle.assemble_rules.proofs.Whole.{is_image}
+use Rattle.rv_layout_rules.specs.Conditions.{CanBeLaid}
+use Rattle.rv_layout_rules.specs.Laid.{laid_out}
+use Rattle.rv_layout_rules.specs.TooLarge.{first_too_large}
+use Rattle.rv_layout_rules.proofs.Functions.{all_reach}
 use Rattle.assemble.proofs.image.assemble.Goals as goal
 
 same_large : {T : Type 0} (a b : Large) → ◌≡◌ {A = Result T BuildError} (Err (error.TooLarge a)) (Err (error.TooLarge b)) → a ≡ b

@@ -1,5 +1,5 @@
 use Rattle.std.proofs.Common.{rules, ◌≡◌, ◌∷◌, ◌++◌, [], ◌+◌, length, ap, ◌∙◌}
-use Rattle.repeat_rules.specs.Repeated.{from_earlier}
+use Rattle.cse_repeat_rules.specs.Repeated.{from_earlier}
 use Rattle.cse_deadcode.specs.Times.{time_in}
 use Rattle.cse_deadcode.specs.Repeats.{repeated, without_repeat}
 use Rattle.cse_deadcode.proofs.Noted.{remaking_more}

@@ -1,5 +1,5 @@
 use Rattle.std.proofs.Common.{◌≡◌, ◌++◌, length}
-use Rattle.image_rules.specs.Held.{comps_among}
+use Rattle.assemble_rules.specs.Held.{comps_among}
 use Rattle.external_rows.proofs.walk.comps_of_arguments.Given as goal
 
 abbrev pub invariant-loop-rest : goal.invariant-loop-rest

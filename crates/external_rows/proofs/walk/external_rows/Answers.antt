@@ -1,9 +1,9 @@
 use Rattle.std.proofs.Common.{[], ◌∷◌, refl, ap, ◌∙◌}
 use Rattle.bs_words.specs.Contents.{contents}
 use Rattle.cmm_tree.specs.declared.file.Item.{Item}
-use Rattle.image_rules.specs.Held.{calls_among_items}
-use Rattle.image_rules.proofs.Held.{items_same}
-use Rattle.layout_rules.specs.Externals.{firsts_behind}
+use Rattle.assemble_rules.specs.Held.{calls_among_items}
+use Rattle.assemble_rules.proofs.Held.{items_same}
+use Rattle.rv_layout_rules.specs.Externals.{firsts_behind}
 use Rattle.external_rows.proofs.Walks.{one_more, no_more, item_step}
 use Rattle.external_rows.proofs.walk.external_rows.Goals as goal
 

@@ -1,7 +1,7 @@
 use Rattle.std.proofs.Common.{◌≡◌, [], drop}
 use Rattle.bs_words.specs.Contents.{contents}
-use Rattle.image_rules.specs.Held.{calls_among_items}
-use Rattle.layout_rules.specs.Externals.{firsts_behind}
+use Rattle.assemble_rules.specs.Held.{calls_among_items}
+use Rattle.rv_layout_rules.specs.Externals.{firsts_behind}
 use Rattle.external_rows.proofs.walk.external_rows.Given as goal
 
 abbrev pub invariant-loop-item : goal.invariant-loop-item

@@ -7,7 +7,7 @@ use Rattle.cmm_tree.specs.Tree.{functions}
 use Rattle.cmm_front.specs.FileOf.{HasPlace}
 use Rattle.cmm_front.proofs.Readings.{is_placed}
 use Rattle.file_promise.proofs.Made.{can_be_laid, few_functions}
-use Rattle.layout_rules.specs.Conditions.{CanBeLaid}
+use Rattle.rv_layout_rules.specs.Conditions.{CanBeLaid}
 use Rattle.file_compile.proofs.Making.{all_accepted, all_listed, all_made, few_listed}
 use Rattle.file_compile.proofs.files.compile_by.Goals as goal
 

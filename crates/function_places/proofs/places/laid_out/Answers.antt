@@ -2,8 +2,8 @@ use Rattle.std.proofs.Common.{length, ap, ap₂, ◌∙◌, subst, arith}
 use Rattle.std.specs.Prelude.{sum_by}
 use Rattle.function_places.specs.Sizes.{piece_size}
 use Rattle.function_places.proofs.Bounds.{length_most, code_most}
-use Rattle.layout_rules.specs.Forms.{total_words, label_word_offset, none_far, AreForms}
-use Rattle.layout_rules.proofs.Functions.{forms_length}
+use Rattle.rv_layout_rules.specs.Forms.{total_words, label_word_offset, none_far, AreForms}
+use Rattle.rv_layout_rules.proofs.Functions.{forms_length}
 use Rattle.function_places.proofs.places.laid_out.Goals as goal
 
 pub forms_of-requires : goal.forms_of-requires

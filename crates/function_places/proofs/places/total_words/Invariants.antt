@@ -1,5 +1,5 @@
 use Rattle.std.proofs.Common.{◌≡◌, ◌+◌, ◌*◌, ◌≤◌, drop}
-use Rattle.layout_rules.specs.Forms.{total_words}
+use Rattle.rv_layout_rules.specs.Forms.{total_words}
 use Rattle.function_places.proofs.places.total_words.Given as goal
 
 abbrev pub invariant-loop-index : goal.invariant-loop-index

@@ -1,5 +1,5 @@
 use Rattle.std.proofs.Common.{◌≡◌}
-use Rattle.linear_rules.specs.Lowered.{pops}
+use Rattle.linearise_rules.specs.Lowered.{pops}
 use Rattle.linearise.proofs.lines.push_pops.Given as goal
 
 abbrev pub invariant-loop-pop : goal.invariant-loop-pop

@@ -1,5 +1,5 @@
 use Rattle.std.proofs.Common.{ap, ◌∙◌, subst}
-use Rattle.linear_rules.specs.Lowered.{limit_above, spots, lowered_code}
+use Rattle.linearise_rules.specs.Lowered.{limit_above, spots, lowered_code}
 use Rattle.linearise.specs.Numbers.{IsTable, number_of_slot}
 use Rattle.linearise.proofs.Numbering.{made_is}
 use Rattle.linearise.proofs.lowering.lower.Goals as goal

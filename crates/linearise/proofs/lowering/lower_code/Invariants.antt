@@ -1,5 +1,5 @@
 use Rattle.std.proofs.Common.{◌≡◌, ◌≤◌, drop, length}
-use Rattle.linear_rules.specs.Lowered.{lowered_code}
+use Rattle.linearise_rules.specs.Lowered.{lowered_code}
 use Rattle.linearise.specs.Numbers.{number_of_slot}
 use Rattle.linearise.proofs.lowering.lower_code.Given as goal
 

@@ -1,5 +1,5 @@
 use Rattle.std.proofs.Common.{◌≡◌, ℕ, ◌||◌, false, drop, length, slice_index_or}
-use Rattle.linear_rules.specs.Lowered.{is_among_numbers}
+use Rattle.linearise_rules.specs.Lowered.{is_among_numbers}
 use Rattle.linearise.proofs.slots.flags.Given as goal
 
 abbrev pub invariant-loop-slot : goal.invariant-loop-slot

@@ -1,5 +1,5 @@
 use Rattle.std.proofs.Common.{◌≡◌, ◌++◌, drop}
-use Rattle.linear_rules.specs.Lowered.{slots_of_code, slots_of_function}
+use Rattle.linearise_rules.specs.Lowered.{slots_of_code, slots_of_function}
 use Rattle.linearise.proofs.slots.gather.Given as goal
 
 abbrev pub invariant-loop-instr : goal.invariant-loop-instr

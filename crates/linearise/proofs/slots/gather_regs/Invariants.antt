@@ -1,5 +1,5 @@
 use Rattle.std.proofs.Common.{◌≡◌, ◌++◌, [], drop}
-use Rattle.linear_rules.specs.Lowered.{slots_of_regs}
+use Rattle.linearise_rules.specs.Lowered.{slots_of_regs}
 use Rattle.linearise.proofs.slots.gather_regs.Given as goal
 
 abbrev pub invariant-loop-reg : goal.invariant-loop-reg

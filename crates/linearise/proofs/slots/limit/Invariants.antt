@@ -1,5 +1,5 @@
 use Rattle.std.proofs.Common.{◌≡◌, drop, max}
-use Rattle.linear_rules.specs.Lowered.{limit_above}
+use Rattle.linearise_rules.specs.Lowered.{limit_above}
 use Rattle.linearise.proofs.slots.limit.Given as goal
 
 abbrev pub invariant-loop-slot : goal.invariant-loop-slot

@@ -1,5 +1,5 @@
 use Rattle.std.proofs.Common.{◌≡◌, ◌++◌, drop}
-use Rattle.linear_rules.specs.Lowered.{spots}
+use Rattle.linearise_rules.specs.Lowered.{spots}
 use Rattle.linearise.specs.Numbers.{number_of_slot}
 use Rattle.linearise.proofs.spots.spots.Given as goal
 

@@ -1,8 +1,8 @@
 use Rattle.std.proofs.Common.{refl, sym, subst}
 use Rattle.std.proofs.lemmas.Result.{IfOk-weaker}
-use Rattle.mach_passes.proofs.Room.{cut_countable, sunk_room}
-use Rattle.mach_passes.proofs.Whole.{propagate_cut, repeat_cut, hoist_cut, combined_cut, repeated_cut, dropped_cut, cut_own}
-use Rattle.mach_passes.specs.Stages.{IsPassedTo, selects, combines, commons, drops}
+use Rattle.prepare_rules.proofs.Room.{cut_countable, sunk_room}
+use Rattle.prepare_rules.proofs.Whole.{propagate_cut, repeat_cut, hoist_cut, combined_cut, repeated_cut, dropped_cut, cut_own}
+use Rattle.prepare_rules.specs.Stages.{IsPassedTo, selects, combines, commons, drops}
 use Rattle.stages.specs.declared.stage.Stage.{Stage}
 use Rattle.prepare.proofs.Stages.{is_last, spill_passed, split_passed, split_room}
 use Rattle.prepare.proofs.passes.+passed_to.Goals as goal

@@ -1,7 +1,7 @@
 use Rattle.std.proofs.Common.{◌*◌, true, sym, ap, ◌∙◌, subst}
-use Rattle.rounds_rules.specs.Rounds.{none_yet, most_rounds, IsAllocatedIn}
-use Rattle.rounds_rules.proofs.Kept.{still_formed, still_placed, still_room}
-use Rattle.places_rules.specs.Places.{rest_in_slots}
+use Rattle.reg_rounds_rules.specs.Rounds.{none_yet, most_rounds, IsAllocatedIn}
+use Rattle.reg_rounds_rules.proofs.Kept.{still_formed, still_placed, still_room}
+use Rattle.colouring_rules.specs.Places.{rest_in_slots}
 use Rattle.reload_rules.proofs.Room.{room_counts}
 use Rattle.reg_rounds.proofs.Turns.{next_asked, no_other, given_up}
 use Rattle.reg_rounds.proofs.allocation.rounds.Goals as goal

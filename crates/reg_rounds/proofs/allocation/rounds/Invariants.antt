@@ -1,4 +1,4 @@
-use Rattle.rounds_rules.specs.Rounds.{RoundsAsked}
+use Rattle.reg_rounds_rules.specs.Rounds.{RoundsAsked}
 use Rattle.reg_rounds.proofs.allocation.rounds.Given as goal
 
 abbrev pub invariant-loop-rounds : goal.invariant-loop-rounds

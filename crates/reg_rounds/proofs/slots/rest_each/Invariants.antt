@@ -1,5 +1,5 @@
 use Rattle.std.proofs.Common.{◌≡◌, ◌++◌, take, drop}
-use Rattle.places_rules.specs.Places.{all_placed, last_resort}
+use Rattle.colouring_rules.specs.Places.{all_placed, last_resort}
 use Rattle.reg_rounds.proofs.slots.rest_each.Given as goal
 
 abbrev pub invariant-loop-reg : goal.invariant-loop-reg

@@ -1,6 +1,6 @@
 use Rattle.std.proofs.Common.{◌≡◌}
 use Rattle.mach_ir.specs.Graph.{coloured_location}
-use Rattle.places_rules.specs.Places.{placed_code}
+use Rattle.colouring_rules.specs.Places.{placed_code}
 use Rattle.reload.specs.Putting.{placing}
 use Rattle.reload.proofs.places.put_code.Given as goal
 

@@ -1,6 +1,6 @@
 use Rattle.std.proofs.Common.{◌≡◌, ◌++◌, take, drop}
 use Rattle.mach_ir.specs.Graph.{coloured_location}
-use Rattle.places_rules.specs.Places.{all_placed}
+use Rattle.colouring_rules.specs.Places.{all_placed}
 use Rattle.reload.specs.Putting.{placing}
 use Rattle.reload.proofs.places.put_each.Given as goal
 

@@ -7,7 +7,7 @@ use Rattle.cmm_tree.specs.Tree.{functions_among}
 use Rattle.cmm_tree.specs.View.{file_view, item_view}
 use Rattle.cmm_tree.specs.declared.file.File.{File}
 use Rattle.cmm_tree.specs.declared.file.Item.{Item}
-use Rattle.layout_rules.specs.Conditions.{weight_of}
+use Rattle.rv_layout_rules.specs.Conditions.{weight_of}
 use Rattle.rv_pieces.specs.declared.piece.Pieces.{Pieces}
 use Rattle.rows_code.proofs.large.told.Goals as goal
 

@@ -1,7 +1,7 @@
 use Rattle.std.proofs.Common.{◌≡◌, ◌+◌, ◌++◌, map, drop}
 use Rattle.image_form.specs.Tables.{desc}
-use Rattle.layout_rules.specs.Forms.{total_words}
-use Rattle.layout_rules.specs.Laid.{descs_in}
+use Rattle.rv_layout_rules.specs.Forms.{total_words}
+use Rattle.rv_layout_rules.specs.Laid.{descs_in}
 use Rattle.rv_layout.proofs.descs.put_descs.Given as goal
 
 abbrev pub invariant-loop-index : goal.invariant-loop-index

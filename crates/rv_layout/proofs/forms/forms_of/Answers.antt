@@ -1,8 +1,8 @@
 use Rattle.std.proofs.Common.{length, sym, ap, ◌∙◌, subst, arith}
 use Rattle.std.proofs.lemmas.List.{length-replicate}
-use Rattle.layout_rules.specs.declared.form.Form.TheVariants.{Near}
-use Rattle.layout_rules.specs.Forms.{label_word_offset, place_or_entry, none_far, grown_from, ranks, AllNear, NoLonger}
-use Rattle.layout_rules.proofs.Relaxing.{near_least, round_least, grown_length, are_forms, ranks_most}
+use Rattle.rv_layout_rules.specs.declared.form.Form.TheVariants.{Near}
+use Rattle.rv_layout_rules.specs.Forms.{label_word_offset, place_or_entry, none_far, grown_from, ranks, AllNear, NoLonger}
+use Rattle.rv_layout_rules.proofs.Relaxing.{near_least, round_least, grown_length, are_forms, ranks_most}
 use Rattle.rv_layout.specs.Tables.{words_of_labels, IsLabelTable}
 use Rattle.rv_layout.proofs.Steps.{all_near, ranks_near, grown_same}
 use Rattle.rv_layout.proofs.forms.forms_of.Goals as goal

@@ -1,6 +1,6 @@
 use Rattle.std.proofs.Common.{◌≡◌, ◌*◌, ◌-◌, List, length}
-use Rattle.layout_rules.specs.declared.form.Form.{Form}
-use Rattle.layout_rules.specs.Forms.{ranks, none_far, Suffice, NoLonger}
+use Rattle.rv_layout_rules.specs.declared.form.Form.{Form}
+use Rattle.rv_layout_rules.specs.Forms.{ranks, none_far, Suffice, NoLonger}
 use Rattle.rv_layout.proofs.forms.forms_of.Given as goal
 
 abbrev pub invariant-loop-forms : goal.invariant-loop-forms

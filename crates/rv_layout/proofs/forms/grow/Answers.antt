@@ -1,7 +1,7 @@
 use Rattle.std.proofs.Common.{[], ◌∷◌, ap, ◌∙◌, arith}
-use Rattle.layout_rules.specs.declared.form.Form.TheVariants.{Near}
-use Rattle.layout_rules.specs.Forms.{ranks, none_far, grown_from}
-use Rattle.layout_rules.proofs.Relaxing.{ranks_append}
+use Rattle.rv_layout_rules.specs.declared.form.Form.TheVariants.{Near}
+use Rattle.rv_layout_rules.specs.Forms.{ranks, none_far, grown_from}
+use Rattle.rv_layout_rules.proofs.Relaxing.{ranks_append}
 use Rattle.rv_layout.specs.Tables.{words_of_labels}
 use Rattle.rv_layout.proofs.Steps.{grown_step}
 use Rattle.rv_layout.proofs.forms.grow.Goals as goal

@@ -1,5 +1,5 @@
 use Rattle.std.proofs.Common.{◌≡◌, ◌*◌, ◌≤◌, ◌++◌, drop}
-use Rattle.layout_rules.specs.Forms.{ranks, none_far, grown_from}
+use Rattle.rv_layout_rules.specs.Forms.{ranks, none_far, grown_from}
 use Rattle.rv_layout.specs.Tables.{words_of_labels}
 use Rattle.rv_layout.proofs.forms.grow.Given as goal
 

@@ -1,9 +1,9 @@
 use Rattle.std.proofs.Common.{◌≡◌, ◌+◌, ◌*◌, ◌%◌, ◌++◌, drop}
 use Rattle.std.specs.List.{AllByRecursion}
-use Rattle.layout_rules.specs.Conditions.{AllLead}
+use Rattle.rv_layout_rules.specs.Conditions.{AllLead}
 use Rattle.rv_pieces.specs.Named.{PieceFits}
-use Rattle.layout_rules.specs.Forms.{total_words}
-use Rattle.layout_rules.specs.Words.{words_to}
+use Rattle.rv_layout_rules.specs.Forms.{total_words}
+use Rattle.rv_layout_rules.specs.Words.{words_to}
 use Rattle.rv_layout.proofs.words.put_words.Given as goal
 
 abbrev pub invariant-loop-index : goal.invariant-loop-index

@@ -2,7 +2,7 @@ use Rattle.std.proofs.Common.{ap, ◌∙◌, arith}
 use Rattle.assemble.specs.Source.{tree_of, source_entries}
 use Rattle.assemble.proofs.Bounds.{symbol_below}
 use Rattle.cmm_data.specs.Placement.{value_of_symbol}
-use Rattle.layout_rules.specs.Laid.{address_of_value}
+use Rattle.rv_layout_rules.specs.Laid.{address_of_value}
 use Rattle.assemble.proofs.source.Source.address_of_symbol.Goals as goal
 
 pub overflow_cast-result : goal.overflow_cast-result

@@ -2,7 +2,7 @@ use Rattle.std.proofs.Common.{◌≡◌, flat_map, take}
 use Rattle.assemble.specs.Source.{source_entries}
 use Rattle.bs_words.specs.Contents.{contents}
 use Rattle.cmm_data.specs.declared.data_map.DataCells.{DataCells}
-use Rattle.layout_rules.specs.Laid.{cell_bytes}
+use Rattle.rv_layout_rules.specs.Laid.{cell_bytes}
 use Rattle.assemble.proofs.source.Source.bytes.Given as goal
 
 abbrev pub invariant-loop-list : goal.invariant-loop-list

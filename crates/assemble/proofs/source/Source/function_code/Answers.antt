@@ -4,8 +4,8 @@ use Rattle.assemble.specs.Source.{tree_of, source_entries}
 use Rattle.assemble.proofs.Steps.{read_at, same_at, form_at}
 use Rattle.assemble.proofs.Walks.{forms_long, entries_long, function_there}
 use Rattle.image_form.specs.Tables.{desc}
-use Rattle.layout_rules.specs.Forms.{total_words}
-use Rattle.layout_rules.specs.Laid.{function_words, descs_in}
+use Rattle.rv_layout_rules.specs.Forms.{total_words}
+use Rattle.rv_layout_rules.specs.Laid.{function_words, descs_in}
 use Rattle.rv_pieces.specs.declared.piece.Pieces.{Pieces}
 use Rattle.assemble.proofs.source.Source.function_code.Goals as goal
 

@@ -1,7 +1,7 @@
 use Rattle.std.proofs.Common.{ap, ◌∙◌, arith}
 use Rattle.assemble.specs.Source.{tree_of}
 use Rattle.assemble.proofs.Bounds.{number_below}
-use Rattle.layout_rules.specs.Externals.{externals, external_number}
+use Rattle.rv_layout_rules.specs.Externals.{externals, external_number}
 use Rattle.mach_ir.specs.Acts.{external_row}
 use Rattle.assemble.proofs.source.Source.number_of_call.Goals as goal
 

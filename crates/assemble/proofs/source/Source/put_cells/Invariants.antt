@@ -1,6 +1,6 @@
 use Rattle.std.proofs.Common.{◌≡◌, ◌++◌, flat_map, take}
 use Rattle.assemble.specs.Source.{source_entries}
-use Rattle.layout_rules.specs.Laid.{cell_bytes}
+use Rattle.rv_layout_rules.specs.Laid.{cell_bytes}
 use Rattle.assemble.proofs.source.Source.put_cells.Given as goal
 
 abbrev pub invariant-loop-cell : goal.invariant-loop-cell

@@ -2,8 +2,8 @@ use Rattle.std.proofs.Common.{◌≡◌, ◌++◌, length, sym, ap, ◌∙◌, s
 use Rattle.assemble.proofs.Bounds.{place_within, end_most, end_short}
 use Rattle.function_places.proofs.Bounds.{length_most}
 use Rattle.assemble.proofs.Walks.{words_placed, all_lead}
-use Rattle.layout_rules.specs.Conditions.{AllLead}
-use Rattle.layout_rules.specs.Forms.{total_words, place_or_entry}
+use Rattle.rv_layout_rules.specs.Conditions.{AllLead}
+use Rattle.rv_layout_rules.specs.Forms.{total_words, place_or_entry}
 use Rattle.rv_layout.specs.Tables.{words_of_labels}
 use Rattle.assemble.proofs.source.Source.put_function.Goals as goal
 

@@ -3,7 +3,7 @@ use Rattle.bs_words.specs.Contents.{contents}
 use Rattle.cmm_data.specs.Map.{symbol_view}
 use Rattle.cmm_data.specs.declared.data_map.DataSymbol.{DataSymbol}
 use Rattle.image_form.specs.Tables.{sym}
-use Rattle.layout_rules.specs.Laid.{sym_of}
+use Rattle.rv_layout_rules.specs.Laid.{sym_of}
 use Rattle.assemble.proofs.source.Source.syms.Given as goal
 
 abbrev pub invariant-loop-symbol : goal.invariant-loop-symbol

@@ -1,6 +1,6 @@
 use Rattle.std.proofs.Common.{◌≡◌, map, take}
 use Rattle.assemble.specs.Source.{addresses_named_by}
-use Rattle.layout_rules.specs.Words.{target_of}
+use Rattle.rv_layout_rules.specs.Words.{target_of}
 use Rattle.rv_layout.specs.Tables.{words_of_labels}
 use Rattle.assemble.proofs.source.Source.targets_of.Given as goal
 

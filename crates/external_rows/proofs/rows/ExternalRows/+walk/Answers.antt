@@ -3,8 +3,8 @@ use Rattle.cmm_tree.specs.declared.expr.Binding.{Binding}
 use Rattle.cmm_tree.specs.declared.expr.Case.{Case}
 use Rattle.cmm_tree.specs.declared.expr.Expr.{Expr}
 use Rattle.cmm_tree.specs.declared.expr.Handler.{Handler}
-use Rattle.image_rules.specs.Held.{calls_held, comps_among, calls_among, calls_among_bindings, calls_among_cases, calls_among_handlers}
-use Rattle.image_rules.proofs.Held.{calls_of_float, calls_of_alloc, calls_of_seq, calls_of_exit, calls_of_app, calls_of_extcall, calls_of_let, calls_of_switch, calls_of_catch}
+use Rattle.assemble_rules.specs.Held.{calls_held, comps_among, calls_among, calls_among_bindings, calls_among_cases, calls_among_handlers}
+use Rattle.assemble_rules.proofs.Held.{calls_of_float, calls_of_alloc, calls_of_seq, calls_of_exit, calls_of_app, calls_of_extcall, calls_of_let, calls_of_switch, calls_of_catch}
 use Rattle.external_rows.proofs.Lookups.{row}
 use Rattle.external_rows.proofs.Walks.{one_more, no_more, one, two, both, calls}
 use Rattle.external_rows.proofs.rows.ExternalRows.+walk.Goals as goal

@@ -1,6 +1,6 @@
 use Rattle.std.proofs.Common.{◌≡◌, drop}
-use Rattle.image_rules.specs.Held.{calls_among, calls_among_bindings, calls_among_cases, calls_among_handlers}
-use Rattle.layout_rules.specs.Externals.{firsts_behind}
+use Rattle.assemble_rules.specs.Held.{calls_among, calls_among_bindings, calls_among_cases, calls_among_handlers}
+use Rattle.rv_layout_rules.specs.Externals.{firsts_behind}
 use Rattle.external_rows.proofs.rows.ExternalRows.+walk.Given as goal
 
 abbrev pub invariant-walk_bindings-loop-binding : goal.invariant-walk_bindings-loop-binding

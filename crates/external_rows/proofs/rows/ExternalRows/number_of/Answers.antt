@@ -1,6 +1,6 @@
 use Rattle.std.proofs.Common.{ap, sym, unwrap_or, ◌∙◌}
 use Rattle.std.proofs.lemmas.List.{length-map}
-use Rattle.layout_rules.specs.Externals.{external_number}
+use Rattle.rv_layout_rules.specs.Externals.{external_number}
 use Rattle.mach_ir.specs.Acts.{external_row}
 use Rattle.external_rows.proofs.Lookups.{number_found, row_parts}
 use Rattle.external_rows.specs.Entries.{external_key}

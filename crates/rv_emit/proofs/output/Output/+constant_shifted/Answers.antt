@@ -1,8 +1,8 @@
 -- Each branch is one step of the definition.
 use Rattle.std.proofs.Common.{◌≡◌, ℕ, suc, ◌+◌, ◌-◌, true, false, List, ◌∷◌, ◌++◌, IfOk, sym, ap, ◌∙◌, subst, arith}
 use Rattle.rv_pieces.specs.declared.piece.Piece.{Piece}
-use Rattle.emit_rules.specs.Instructions.{addi}
-use Rattle.emit_rules.specs.Constants.{is_word_32, constant_32, higher, shifted, constant_shifted}
+use Rattle.rv_emit_rules.specs.Instructions.{addi}
+use Rattle.rv_emit_rules.specs.Constants.{is_word_32, constant_32, higher, shifted, constant_shifted}
 use Rattle.rv_emit.proofs.Shifting.{ends_at_word, passes_zeros, adds_bits, three}
 use Rattle.rv_emit.proofs.output.Output.+constant_shifted.Goals as goal
 

@@ -1,5 +1,5 @@
 use Rattle.std.proofs.Common.{◌≡◌, ℕ, ◌++◌, length, slice_index}
-use Rattle.emit_rules.specs.Emitted.{parts}
+use Rattle.rv_emit_rules.specs.Emitted.{parts}
 use Rattle.rv_emit.specs.Frames.{form_of}
 use Rattle.rv_emit.proofs.output.Output.parts.Given as goal
 

@@ -1,5 +1,5 @@
 use Rattle.std.proofs.Common.{◌≡◌, ℕ, ◌*◌, ◌≤◌, length, drop}
-use Rattle.layout_rules.specs.Forms.{label_from}
+use Rattle.rv_layout_rules.specs.Forms.{label_from}
 use Rattle.rv_layout.specs.Tables.{word_of_label, first_of_two, LabelsBelow}
 use Rattle.rv_layout.proofs.labels.Labels.of.Given as goal
 

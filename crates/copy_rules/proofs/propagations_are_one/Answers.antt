@@ -1,5 +1,0 @@
-use Rattle.copy_rules.proofs.One.{one_propagated}
-use Rattle.copy_rules.proofs.propagations_are_one.Goals as goal
-
-pub returns : goal.returns
-returns c = one_propagated

@@ -1,5 +1,0 @@
-use Rattle.linear_tidy.proofs.Leading.{TargetsSoFar}
-use Rattle.linear_tidy.proofs.redirecting.Targets.of_function.Given as goal
-
-abbrev pub invariant-loop-line : goal.invariant-loop-line
-invariant-loop-line l = TargetsSoFar l.lin l.targets l.line-index

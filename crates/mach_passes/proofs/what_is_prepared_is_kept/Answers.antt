@@ -1,5 +1,0 @@
-use Rattle.mach_passes.proofs.Whole.{prepared_kept}
-use Rattle.mach_passes.proofs.what_is_prepared_is_kept.Goals as goal
-
-pub returns : goal.returns
-returns c = prepared_kept

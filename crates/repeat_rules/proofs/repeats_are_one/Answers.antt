@@ -1,5 +1,0 @@
-use Rattle.repeat_rules.proofs.One.{one_repeated}
-use Rattle.repeat_rules.proofs.repeats_are_one.Goals as goal
-
-pub returns : goal.returns
-returns c = one_repeated

@@ -1,9 +1,0 @@
-use Rattle.std.proofs.Common.{◌∙◌, ap}
-use Rattle.tidy_rules.specs.Leaving.{with_code}
-use Rattle.unused_lines.proofs.Flagged.{kept_without}
-use Rattle.unused_lines.proofs.leaving.leave_out.Goals as goal
-
-pub returns : goal.returns
-returns c =
-    ap (with_code c.args.lin)
-    (c.in_ok-code.ensures ∙ kept_without c.args.flags.now c.args.lin.code c.requires)

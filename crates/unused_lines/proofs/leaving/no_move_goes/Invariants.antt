@@ -1,5 +1,0 @@
-use Rattle.unused_lines.proofs.Flagged.{NoMoveSoFar}
-use Rattle.unused_lines.proofs.leaving.no_move_goes.Given as goal
-
-abbrev pub invariant-loop-place : goal.invariant-loop-place
-invariant-loop-place l = NoMoveSoFar l.flags l.code l.place

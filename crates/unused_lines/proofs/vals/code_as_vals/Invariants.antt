@@ -1,6 +1,0 @@
-use Rattle.std.proofs.Common.{◌≡◌, ◌++◌, map, drop}
-use Rattle.tidy_rules.specs.Vals.{line_as_vals}
-use Rattle.unused_lines.proofs.vals.code_as_vals.Given as goal
-
-abbrev pub invariant-loop-line : goal.invariant-loop-line
-invariant-loop-line l = l.made.items ++ map line_as_vals (drop l.line-index l.code) ≡ map line_as_vals l.code
