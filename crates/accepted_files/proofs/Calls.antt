@@ -27,7 +27,7 @@ use Rattle.image_form.specs.Image.{IsArgument, IsExtResult, IsExt}
 use Rattle.rv_layout_rules.specs.Externals.{calls_in, calls_in_row, calls_in_bindings, calls_in_cases, calls_in_handlers}
 use Rattle.rv_layout_rules.proofs.Rules.{all_append}
 use Rattle.selection_laws.specs.Fits.{Fits, RowFits, BindingsFit, CasesFit, HandlersFit}
-use Rattle.selection_places.specs.Names.{ASymbol, ACall, Names, RowNames, BoundNames, CasesName, HandlersName}
+use Rattle.selection_accepted.specs.Known.{ASymbol, ACall, Names, RowNames, BoundNames, CasesName, HandlersName}
 use Rattle.selection_laws.proofs.Accepting.{left, right}
 use Rattle.accepted_files.specs.Named.{CallsSymbols, RowCallsSymbols, BoundCallsSymbols, CasesCallSymbols, HandlersCallSymbols}
 

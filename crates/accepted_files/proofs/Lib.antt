@@ -5,3 +5,4 @@ pub mod Calls
 pub mod Few
 pub mod Files
 pub mod Defined
+pub mod Known

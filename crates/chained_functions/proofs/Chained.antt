@@ -36,12 +36,12 @@ use Rattle.lin_tidy_rules.specs.Redirecting.{Tidies}
 use Rattle.lin_tidy_rules.proofs.Following.{tidied_tidies}
 use Rattle.lin_tidy_rules.specs.Regular.{IsRegular}
 use Rattle.lin_tidy_rules.proofs.Lowered.{lowered_regular}
-use Rattle.lin_pass.specs.Linear.{IsLinearOf}
+use Rattle.made_functions.specs.Known.{IsLinearOf}
 use Rattle.line_stands.specs.Lines as line
 use Rattle.rv_pieces.specs.declared.piece.Pieces.{Pieces}
 use Rattle.selection_rules.specs.Select.{selected}
-use Rattle.selection_promise.specs.Selects.{IsAccepted}
-use Rattle.selection_promise.proofs.Promised.{few_tokens}
+use Rattle.placed_functions.specs.Known.{IsAccepted}
+use Rattle.placed_functions.proofs.Known.{few_tokens}
 use Rattle.placed_functions.specs.Placed.{IsPlacedFor}
 use Rattle.placed_functions.proofs.Exits.{selected_exits}
 use Rattle.placed_functions.proofs.Placed.{placed_for}

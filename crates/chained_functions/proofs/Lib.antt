@@ -1,3 +1,4 @@
 pub mod Carried
 pub mod Chained
 pub mod Rooms
+pub mod Known

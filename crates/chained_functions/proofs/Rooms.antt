@@ -17,8 +17,8 @@ use Rattle.mach_ir.specs.declared.mach.Mark.TheVariants as mark
 use Rattle.mach_ir.specs.declared.mach.MachOp.TheVariants as mach
 use Rattle.mach_ir.specs.declared.reg.Reg.{Reg}
 use Rattle.pass_rules.specs.Measures.{exit_count}
-use Rattle.selection_promise.specs.Selects.{IsAccepted}
-use Rattle.selection_promise.proofs.Promised.{promised, few_tokens}
+use Rattle.placed_functions.specs.Known.{IsAccepted}
+use Rattle.placed_functions.proofs.Known.{promised, few_tokens}
 use Rattle.placed_functions.specs.Placed.{IsPlacedFor}
 use Rattle.placed_functions.proofs.Exits.{selected_exits}
 use Rattle.placed_functions.proofs.Tries.{few_nest}

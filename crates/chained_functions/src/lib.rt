@@ -16,7 +16,7 @@ ghost use Rattle.lin_ir.specs.declared.lin.Line.{Line};
 ghost use Rattle.made_functions.specs.Chained.{IsChained};
 ghost use Rattle.made_functions.specs.Made.{IsMadeOf};
 ghost use Rattle.rv_pieces.specs.declared.piece.Pieces.{Pieces};
-ghost use Rattle.selection_promise.specs.Selects.{IsAccepted};
+ghost use Rattle.placed_functions.specs.Known.{IsAccepted};
 
 /// Law: no more traps are pushed at a place of a compiled function than tries are round one of its text.
 pub fn traps_are_few()

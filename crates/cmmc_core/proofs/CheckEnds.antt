@@ -5,9 +5,8 @@ use Rattle.bs_fault.specs.declared.large.Large.{Large}
 use Rattle.cmm_front.specs.FileOf.{IsFileOf, HasFault}
 use Rattle.cmm_tree.specs.Tree.{FileTree}
 use Rattle.command_line.specs.Command.{CheckTree}
-use Rattle.text_commands.proofs.Called.{named_none, call_unfit}
-use Rattle.text_commands.specs.Arguments.{NamesNone, HasUnfit}
-use Rattle.text_commands.specs.Check.{IsCheckOf, HasNoEntry, IsUnfitFor, IsTooLargeToCheck}
+use Rattle.commands.proofs.Known.{named_none, call_unfit}
+use Rattle.commands.specs.Known.{NamesNone, HasUnfit, IsCheckOf, HasNoEntry, IsUnfitFor, IsTooLargeToCheck}
 use Rattle.commands.specs.Compile.{ReadsText}
 use Rattle.cmmc_core.specs.Complete.{Is, AsksForCall, CheckComplete}
 use Rattle.commands.specs.Effects.{Side}

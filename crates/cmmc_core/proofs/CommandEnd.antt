@@ -9,9 +9,7 @@ use Rattle.command_line.specs.Command.{IsCommand, CommandTree, CompileCommand, R
 use Rattle.command_line.specs.Words.{AreCommandWords}
 use Rattle.image_form.specs.Tables.{Tables}
 use Rattle.stages.specs.declared.stage.Stage.{Stage}
-use Rattle.text_commands.specs.Check.{IsCheckOf}
-use Rattle.text_commands.specs.Compile.{IsImageOf, IsTooLarge}
-use Rattle.text_commands.specs.Listing.{IsListingOf}
+use Rattle.commands.specs.Known.{IsCheckOf, IsImageOf, IsTooLarge, IsListingOf}
 use Rattle.commands.specs.Compile.{ReadsText}
 use Rattle.cmmc_core.specs.Complete.{HasNotRisen, Is, HasOutput}
 use Rattle.commands.specs.Effects.{Effects, Side, Rose}

@@ -5,7 +5,7 @@ use Rattle.bs_fault.specs.declared.large.Large.{Large}
 use Rattle.cmm_front.specs.FileOf.{IsFileOf, HasFault}
 use Rattle.cmm_tree.specs.Tree.{FileTree}
 use Rattle.image_form.specs.Tables.{Tables}
-use Rattle.text_commands.specs.Compile.{IsImageOf, IsTooLarge}
+use Rattle.commands.specs.Known.{IsImageOf, IsTooLarge}
 use Rattle.cmmc_core.specs.Complete.{Is, Every, CompileComplete}
 use Rattle.commands.specs.Effects.{Side}
 use Rattle.cmmc_core.proofs.CommandEnd.{CompileEnd, made, faulty, passing, OrNoMemory}

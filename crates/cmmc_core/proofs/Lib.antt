@@ -7,3 +7,4 @@ mod ListEnds
 mod RunEnds
 mod SoakEnds
 mod TextKnown
+pub mod Known

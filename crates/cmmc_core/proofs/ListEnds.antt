@@ -6,7 +6,7 @@ use Rattle.cmm_tree.specs.Tree.{FileTree}
 use Rattle.stages.specs.Image.{IsOfImage}
 use Rattle.stages.specs.declared.stage.Stage.{Stage}
 use Rattle.stages.specs.declared.stage.Stage.TheVariants.{Select, CombAlloc, Cse, Dead, Spill, Split, Alloc, Linear, Frames, Code}
-use Rattle.text_commands.specs.Listing.{IsListingOf}
+use Rattle.commands.specs.Known.{IsListingOf}
 use Rattle.cmmc_core.specs.Complete.{Is, Every, ListComplete}
 use Rattle.commands.specs.Effects.{Side}
 use Rattle.commands.specs.Ends.{fault, too_large}

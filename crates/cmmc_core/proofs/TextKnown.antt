@@ -12,9 +12,8 @@ use Rattle.correctness.specs.Bounds.{IsRoomy}
 use Rattle.image_form.specs.Tables.{Tables}
 use Rattle.rv_layout_rules.specs.TooLarge.{first_too_large}
 use Rattle.choices.specs.Defaults.{defaults}
-use Rattle.made_functions.specs.Files.{AreTablesMadeFor}
-use Rattle.file_promise.proofs.Bytes.{bytes_of}
-use Rattle.file_promise.proofs.Once.{made_for_once}
+use Rattle.commands.specs.Known.{AreTablesMadeFor}
+use Rattle.commands.proofs.Known.{bytes_of, made_for_once}
 use Rattle.commands.specs.Compile.{ReadsText}
 use Rattle.commands.specs.Effects.{Side, IsRead}
 use Rattle.commands.proofs.Reading.{all, too_long, IsRead-known}

@@ -12,8 +12,7 @@ use Rattle.stages.specs.Image.{IsOfImage}
 use Rattle.image_form.specs.Tables.{Tables, Func}
 use Rattle.rv_layout_rules.specs.TooLarge.{first_too_large}
 use Rattle.choices.specs.Defaults.{defaults}
-use Rattle.made_functions.specs.Files.{AreTablesMadeFor}
-use Rattle.text_commands.specs.Arguments.{NamesNone, HasUnfit, IsCall}
+use Rattle.commands.specs.Known.{AreTablesMadeFor, NamesNone, HasUnfit, IsCall}
 use Rattle.rv_machine.specs.Loading.{func_named, words_of_args}
 use Rattle.stages.specs.declared.stage.Stage.{Stage}
 use Rattle.commands.specs.Effects.{Effects, Side, Rose}

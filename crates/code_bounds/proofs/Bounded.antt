@@ -11,27 +11,21 @@ use Rattle.correctness.specs.Measures.{tries}
 use Rattle.lin_ir.specs.Descriptors.{frame_bytes}
 use Rattle.lin_ir.specs.declared.descr.Descr.{Descr}
 use Rattle.lin_ir.specs.declared.lin.Lin.{Lin}
-use Rattle.lin_pass.specs.Linear.{IsLinearOf, NamesHomes}
-use Rattle.selection_promise.specs.Selects.{IsAccepted, Selects}
+use Rattle.chained_functions.specs.Known.{IsLinearOf, NamesHomes, IsMadeOf, IsBoundedBy, IsPlacedFor}
+use Rattle.selection_accepted.specs.Known.{IsAccepted, Selects}
 use Rattle.mach_ir.specs.declared.mach.Mach.{Mach}
 use Rattle.rv_pieces.specs.declared.piece.Pieces.{Pieces}
 use Rattle.selection_rules.specs.Select.{selected}
-use Rattle.selection_promise.proofs.Promised.{promised, few_tokens}
+use Rattle.selection_accepted.proofs.Known.{promised, few_tokens}
 use Rattle.selection_accepted.proofs.Promised.{function_accepted}
 use Rattle.selection_accepted.proofs.Selecting.{definitions}
 use Rattle.selection_sizes.proofs.Selected.{selected_words, selected_points}
 use Rattle.text_sizes.proofs.Nesting.{text_nests}
 use Rattle.lin_tidy_rules.proofs.Lowered.{lowered_regular}
-use Rattle.made_functions.specs.Made.{IsMadeOf}
-use Rattle.made_functions.proofs.Ordered.{linear_of}
-use Rattle.made_functions.specs.Bounded.{IsBoundedBy}
+use Rattle.chained_functions.proofs.Known.{linear_of, selected_exits, placed_for, few_nest}
 use Rattle.code_bounds.proofs.Lines.{function_short}
 use Rattle.code_bounds.proofs.Slots.{few_slots, frame_few}
 use Rattle.code_bounds.proofs.Tidying.{linear_words, linear_points}
-use Rattle.placed_functions.specs.Placed.{IsPlacedFor}
-use Rattle.placed_functions.proofs.Exits.{selected_exits}
-use Rattle.placed_functions.proofs.Placed.{placed_for}
-use Rattle.placed_functions.proofs.Tries.{few_nest}
 
 module _ {defined : List ℕ → Option DefinedSymbol} {tree : FunctionTree} (accepted : IsAccepted defined tree) {q : Mach} (is : IsPlacedFor tree q) {m : Lin}
     (linear : IsLinearOf q m) where

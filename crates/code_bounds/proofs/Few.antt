@@ -16,7 +16,7 @@ use Rattle.rv_pieces.specs.declared.piece.Piece.{Piece}
 use Rattle.rv_pieces.specs.declared.piece.Piece.TheVariants as piece
 use Rattle.rv_pieces.specs.declared.piece.Pieces.{Pieces}
 use Rattle.selection_laws.proofs.Accepting.{right}
-use Rattle.selection_promise.proofs.Promised.{few_tokens}
+use Rattle.selection_accepted.proofs.Known.{few_tokens}
 use Rattle.selection_accepted.proofs.Promised.{function_accepted}
 use Rattle.text_sizes.proofs.Whole.{text_held, tokens_of}
 use Rattle.code_bounds.specs.Kept.{KeepsTo}

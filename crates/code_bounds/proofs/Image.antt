@@ -17,7 +17,7 @@ use Rattle.rv_layout_rules.specs.Forms.{call_words, branch_words, jump_words, pi
 use Rattle.rv_layout_rules.specs.Laid.{row_at, rows_from, descs_in, descs_from, laid_out, AllReach, IsLaid}
 use Rattle.rv_layout_rules.proofs.Functions.{filled}
 use Rattle.rv_layout_rules.proofs.Rules.{all_append}
-use Rattle.made_functions.specs.Bounded.{IsBoundedBy}
+use Rattle.chained_functions.specs.Known.{IsBoundedBy}
 use Rattle.rv_pieces.specs.Named.{marks_in}
 use Rattle.rv_pieces.specs.declared.piece.Piece.{Piece}
 use Rattle.rv_pieces.specs.declared.piece.Piece.TheVariants.{Label, Branch, Jump, Call, TailCall, Descriptor}

@@ -20,16 +20,14 @@ use Rattle.lin_ir.specs.declared.descr.Descr.{Descr}
 use Rattle.lin_ir.specs.declared.lin.Lin.{Lin}
 use Rattle.mach_ir.specs.Formed.{labels_in, WellFormed}
 use Rattle.mach_ir.specs.declared.mach.Mach.{Mach}
-use Rattle.placed_functions.proofs.Placed.{placed_for}
+use Rattle.chained_functions.proofs.Known.{placed_for, linear_of}
 use Rattle.rv_pieces.specs.Named.{marks_in, places_in}
 use Rattle.rv_pieces.specs.declared.piece.Pieces.{Pieces}
-use Rattle.selection_promise.specs.Selects.{IsAccepted}
+use Rattle.selection_accepted.specs.Known.{IsAccepted}
 use Rattle.selection_accepted.proofs.Promised.{function_accepted}
 use Rattle.selection_accepted.proofs.Selecting.{definitions}
 use Rattle.text_sizes.proofs.Nesting.{text_nests}
-use Rattle.made_functions.specs.Files.{IsFunctionMade}
-use Rattle.made_functions.specs.Made.{IsMadeOf}
-use Rattle.made_functions.proofs.Ordered.{linear_of}
+use Rattle.chained_functions.specs.Known.{IsFunctionMade, IsMadeOf}
 use Rattle.code_bounds.specs.Kept.{KeepsTo}
 use Rattle.code_bounds.proofs.Bounded.{bounded}
 

@@ -11,7 +11,7 @@ use Rattle.mach_ir.specs.declared.mach.Mach.{Mach}
 use Rattle.colouring_rules.specs.Places.{IsSlot, SlotsGrow}
 use Rattle.lin_ir.specs.Descriptors.{has_frame_point, frame_bytes}
 use Rattle.lin_ir.specs.declared.lin.Lin.{Lin}
-use Rattle.lin_pass.specs.Linear.{IsSlotOf, OneForEach}
+use Rattle.chained_functions.specs.Known.{IsSlotOf, OneForEach}
 use Rattle.bs_words.proofs.Lists.{mapped}
 
 is_slot : (p : Mach) (k : ℕ) → IsSlotOf p k → IsSlot p k

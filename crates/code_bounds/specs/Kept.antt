@@ -2,7 +2,7 @@
 use Rattle.std.specs.Prelude.{◌≡◌, ◌*◌, ◌≤◌, List, length}
 use Rattle.cmm_tree.specs.Tree.{FunctionTree}
 use Rattle.lin_ir.specs.declared.descr.Descr.{Descr}
-use Rattle.made_functions.specs.Bounded.{IsBoundedBy}
+use Rattle.chained_functions.specs.Known.{IsBoundedBy}
 use Rattle.rv_pieces.specs.Named.{marks_in, places_in}
 use Rattle.rv_pieces.specs.declared.piece.Pieces.{Pieces}
 

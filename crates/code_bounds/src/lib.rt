@@ -18,10 +18,9 @@ ghost use Rattle.rv_layout_rules.specs.TooLarge.{first_too_large};
 ghost use Rattle.lin_ir.specs.Descriptors.{frame_bytes};
 ghost use Rattle.lin_ir.specs.declared.descr.Descr.{Descr};
 ghost use Rattle.lin_ir.specs.declared.lin.Lin.{Lin};
-ghost use Rattle.made_functions.specs.Bounded.{IsBoundedBy};
-ghost use Rattle.made_functions.specs.Made.{IsMadeOf};
+ghost use Rattle.chained_functions.specs.Known.{IsBoundedBy, IsMadeOf};
 ghost use Rattle.rv_pieces.specs.declared.piece.Pieces.{Pieces};
-ghost use Rattle.selection_promise.specs.Selects.{IsAccepted};
+ghost use Rattle.selection_accepted.specs.Known.{IsAccepted};
 ghost use Rattle.code_bounds.specs.Kept.{KeepsTo};
 
 /// Law: what is made of a function of an accepted text is as small as the text asks, and its frame fits

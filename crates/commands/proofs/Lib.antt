@@ -9,3 +9,4 @@ mod Refused
 mod Running
 mod Soaking
 pub mod Spelled
+pub mod Known

@@ -5,3 +5,4 @@ pub mod Run
 pub mod Soak
 pub mod Ends
 pub mod Refusal
+pub mod Known

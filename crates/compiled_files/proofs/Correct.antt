@@ -29,7 +29,7 @@ use Rattle.lin_ir.specs.declared.lin.Lin.{Lin}
 use Rattle.lin_ir.specs.declared.lin.Line.{Line}
 use Rattle.lin_ir.specs.declared.lin.Spot.{Spot}
 use Rattle.linearise_rules.proofs.Walked.{Tail, reached_tail, tail_stands}
-use Rattle.made_functions.specs.Chained.{IsChained}
+use Rattle.function_stands.specs.Known.{IsChained, frame_in, IsReadyFor, before_service}
 use Rattle.mach_ir.specs.Acts.{Around}
 use Rattle.mach_ir.specs.Runs.{ActivationSetting}
 use Rattle.moving_laws.specs.Values.{HasFunctions}
@@ -37,9 +37,7 @@ use Rattle.rv_pieces.specs.declared.piece.Pieces.{Pieces}
 use Rattle.selection_rules.specs.Select.{selected}
 use Rattle.line_stands.specs.Lines.{Nowhere}
 use Rattle.line_stands.specs.Parts.{PartStands}
-use Rattle.line_calls.proofs.Every.{every_branch, every_entry, every_line}
-use Rattle.line_calls.specs.Laws.{frame_in}
-use Rattle.line_calls.specs.Points.{IsReadyFor, before_service}
+use Rattle.function_stands.proofs.Known.{every_branch, every_entry, every_line, has_functions}
 use Rattle.rv_emit_rules.specs.Entry.{entry_pieces, frame_of}
 use Rattle.rv_emit_rules.specs.Units.{is_branch, is_free_exit, owed_before}
 use Rattle.lin_machine.specs.Arrival.{ArrivesIn}
@@ -53,14 +51,13 @@ use Rattle.linking_machine.specs.Compiled.{IsCompiled}
 use Rattle.linking_machine.specs.Emitted.{BeginsFree, FollowsLine, IsImageEmitted}
 use Rattle.linking_machine.specs.Standing.{fixed_of}
 use Rattle.linking_machine.proofs.Compiled.{bases_hold, compiled_correct, compiled_in_need}
-use Rattle.linking_stages.specs.Stages.{linear_program}
+use Rattle.linking_machine.specs.Known.{linear_program}
 use Rattle.function_stands.specs.Compiled.{IsImageOfPieces}
 use Rattle.function_stands.specs.Functions.{FunctionStands, entry_place}
 use Rattle.function_stands.proofs.Acting.{some_word}
 use Rattle.function_stands.proofs.Entries.{entry_offset}
 use Rattle.function_stands.proofs.Whole.{function_stands}
-use Rattle.accepted_files.proofs.Defined.{given_data}
-use Rattle.laid_files.proofs.Has.{has_functions}
+use Rattle.first_statics.proofs.Known.{given_data}
 use Rattle.first_statics.proofs.First.{data_ends, first_lies, first_stands}
 use Rattle.frame_tables_rules.specs.Names.{locations_named_by}
 use Rattle.frame_tables_rules.proofs.Names.{exact_names}

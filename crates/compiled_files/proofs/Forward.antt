@@ -22,8 +22,8 @@ use Rattle.lin_tidy_rules.proofs.Ends.{tail_length}
 use Rattle.lin_tidy_rules.proofs.Turns.{Turns, goes_in, exits_in, jumps_in, unwinds_in, pushes_in, asks_in, replaces_in, ends_in, raising_in, stuck_in, turns}
 use Rattle.lin_machine.specs.Relation.{Laid}
 use Rattle.linking.specs.Pace.{ProgramGoesForward, StepForward, left_behind}
-use Rattle.linking_stages.specs.Stages.{linear_program}
-use Rattle.linking_stages.proofs.Walking.{reached_walks}
+use Rattle.linking_machine.specs.Known.{linear_program}
+use Rattle.linking_machine.proofs.Known.{reached_walks}
 use Rattle.linking_machine.proofs.Linked.{owed_once}
 use Rattle.compiled_files.specs.Forward.{LiesForward, first_part, line_rank, words_upto, laid_words}
 

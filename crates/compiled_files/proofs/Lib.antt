@@ -6,3 +6,4 @@ pub mod Ready
 pub mod Bytes
 pub mod Serving
 pub mod Correct
+pub mod Known

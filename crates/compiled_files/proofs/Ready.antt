@@ -24,11 +24,11 @@ use Rattle.lin_ir.specs.declared.lin.LinOp.TheVariants as lin
 use Rattle.linearise_rules.proofs.Homes.{is_first}
 use Rattle.mach_laws.proofs.Turns as ops
 use Rattle.lin_tidy_rules.proofs.Turns.{Turns, goes_in, exits_in, jumps_in, unwinds_in, pushes_in, asks_in, replaces_in, ends_in, raising_in, stuck_in, turns}
-use Rattle.line_calls.specs.Points.{IsReadyFor}
+use Rattle.function_stands.specs.Known.{IsReadyFor}
 use Rattle.function_stands.proofs.Handlers.{pushed, pushed_enters}
 use Rattle.linking.specs.Pace.{IsReached, StepLeadsTo, at_start, behind, by_step, continues, deepens, pays}
-use Rattle.linking_stages.specs.Stages.{linear_program}
-use Rattle.linking_stages.proofs.Walking.{reached_walks}
+use Rattle.linking_machine.specs.Known.{linear_program}
+use Rattle.linking_machine.proofs.Known.{reached_walks}
 
 -- ---- what is raised
 

@@ -22,8 +22,8 @@ use Rattle.mach_ir.specs.declared.op.Callee.{Callee}
 use Rattle.mach_ir.specs.declared.op.Callee.TheVariants as callee
 use Rattle.mach_ir.specs.declared.op.Calling.TheVariants as calling
 use Rattle.mach_ir.specs.declared.op.Op.TheVariants as op
-use Rattle.line_calls.specs.Points.{before_service}
-use Rattle.line_calls.proofs.NoWaits.{Comes, NoWait, step_no}
+use Rattle.function_stands.specs.Known.{before_service}
+use Rattle.function_stands.proofs.Known.{Comes, NoWait, step_no}
 use Rattle.linking_machine.specs.Emitted.{service_in, service_of}
 
 -- ---- how many words are served

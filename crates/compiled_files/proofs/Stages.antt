@@ -25,15 +25,11 @@ use Rattle.selection_rules.specs.Bounded.{BoundedDoings}
 use Rattle.selection_rules.specs.Select.{selected}
 use Rattle.selection_rules.proofs.Plays.{Meets, returned, threw, running, asking, improper, left_by_exit}
 use Rattle.selection_laws.proofs.Proper.{selected_bounded}
-use Rattle.selection_walks.proofs.Keeps.{accepted_keeps, accepted_proper}
-use Rattle.selection_accepted.proofs.Promised.{front_setting}
-use Rattle.selection_accepted.proofs.Beginning.{front_memory}
-use Rattle.selection_accepted.proofs.Selecting.{definitions, front_accepts, selectable, selectable_at}
-use Rattle.selection_accepted.proofs.Symbols.{front_symbols}
+use Rattle.first_statics.proofs.Known.{accepted_keeps, accepted_proper, front_setting, front_memory, definitions, front_accepts, selectable, selectable_at, front_symbols}
 use Rattle.walk_tables.specs.AddrLive.{IsLiveIn}
 use Rattle.linking.specs.Keeps.{alone_in}
 use Rattle.linking.specs.Program.{activation_in, setting_in}
-use Rattle.linking_stages.specs.Chain.{AreLowered, HoldsWords, IsGivenWords, IsSelected, SelectedSo}
+use Rattle.linking_machine.specs.Known.{AreLowered, HoldsWords, IsGivenWords, IsSelected, SelectedSo}
 use Rattle.compiled_files.specs.Stages.{most_nodes, selected_in, selected_of}
 
 -- ---- nodes

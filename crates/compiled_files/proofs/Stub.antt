@@ -62,7 +62,7 @@ use Rattle.lin_machine.proofs.Sequences.{set_changes, sets_as}
 use Rattle.lin_machine.proofs.Serving.{hart_is, with_memory}
 use Rattle.lin_machine.proofs.Standing.{own_past}
 use Rattle.lin_machine.proofs.Steps.{one_step, ready, ready_stands, other_number}
-use Rattle.line_calls.proofs.Shown.{each_at, val_shown, in_table}
+use Rattle.function_stands.proofs.Known.{each_at, val_shown, in_table}
 use Rattle.linking.specs.Assembled.{IsStub, Setup}
 use Rattle.linking.specs.Carries.{EventuallyHolds, Near, Outer}
 use Rattle.linking_machine.specs.Standing.{Back, Shows, fixed_of}

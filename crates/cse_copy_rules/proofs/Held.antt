@@ -7,7 +7,7 @@ use Rattle.std.proofs.lemmas.Option.{none-some, same_Some}
 use Rattle.bs_words.specs.declared.types.Comp.TheVariants as comp
 use Rattle.bs_words.specs.declared.values.Value.{Value}
 use Rattle.bs_words.proofs.Lists.{first_in, later_in}
-use Rattle.comballoc_rules.proofs.Files.{frame_loses}
+use Rattle.cse_repeat_rules.proofs.Known.{frame_loses}
 use Rattle.cse_copy_rules.specs.Propagated.{move, ReadFor, instr_with_sources, IsPropagatedBefore}
 use Rattle.mach_ir.specs.Acts.{Around, On, Goes}
 use Rattle.mach_ir.specs.Formed.{WellFormed}

@@ -8,3 +8,4 @@ pub mod Held
 pub mod Kept
 pub mod One
 pub mod Whole
+pub mod Known

@@ -14,7 +14,7 @@ use Rattle.cmm_tree.specs.declared.file.Item.{Item}
 use Rattle.cmm_types.proofs.Containing.{contains_head, contains_tail}
 use Rattle.rv_pieces.specs.declared.piece.Pieces.{Pieces}
 use Rattle.file_compile.specs.Accepted.{IsAcceptedFile, IsAcceptedFunction}
-use Rattle.made_functions.specs.Files.{IsFunctionMade}
+use Rattle.file_promise.specs.Known.{IsFunctionMade}
 
 -- of the functions, as of their trees
 pub made_trees : (choices : Choices) (fs : List (Bor Function)) (ps : List Pieces) → AllZip (λ (f : Bor Function) p. IsFunctionMade choices (function_view f.now) p) fs ps →

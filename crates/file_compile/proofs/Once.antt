@@ -9,14 +9,13 @@ use Rattle.lin_ir.specs.declared.lin.Lin.{Lin}
 use Rattle.lin_pass.specs.Linear.{IsLinearOf}
 use Rattle.lin_pass.proofs.Once.{linear_once}
 use Rattle.mach_ir.specs.declared.mach.Mach.{Mach}
-use Rattle.prepare_rules.proofs.Whole.{one_passed, one_prepared, repeated_passed, dropped_passed, spilled_passed, passed}
-use Rattle.prepare_rules.specs.Stages.{selects, combines}
+use Rattle.prepare.proofs.Known.{one_passed, one_prepared, repeated_passed, dropped_passed, spilled_passed, passed}
+use Rattle.prepare.specs.Known.{selects, combines}
 use Rattle.comballoc_rules.specs.Combined.{combined}
-use Rattle.made_functions.specs.Files.{IsFunctionMade}
-use Rattle.made_functions.specs.Made.{in_order}
+use Rattle.file_promise.specs.Known.{IsFunctionMade, in_order}
 use Rattle.choices.specs.declared.choices.Choices.{Choices}
-use Rattle.reg_rounds_rules.specs.Rounds.{IsRegisterAllocated}
-use Rattle.reg_rounds_rules.proofs.Once.{allocated_once}
+use Rattle.reg_rounds.specs.Known.{IsRegisterAllocated}
+use Rattle.reg_rounds.proofs.Known.{allocated_once}
 use Rattle.rv_pieces.specs.declared.piece.Pieces.{Pieces}
 use Rattle.selection_rules.specs.Select.{selected}
 use Rattle.stages.specs.declared.stage.Stage.{Stage}

@@ -1,9 +1,7 @@
 -- What the passes ask of a function of an accepted file, and what they make of it.
 use Rattle.std.proofs.Common.{◌≡◌, ℕ, List, length, refl, subst, sym}
-use Rattle.made_functions.proofs.Ordered.{linear_in_order}
-use Rattle.chained_functions.proofs.Chained.{within}
+use Rattle.file_promise.proofs.Known.{linear_in_order, within, frame_fits, line_room, selected_preparable, selected_room, ready, prepared_room, carried, placed_for, function_accepted, selection_room, definitions}
 use Rattle.cmm_tree.specs.Tree.{FunctionTree, FileTree, functions}
-use Rattle.code_bounds.proofs.Bounded.{frame_fits}
 use Rattle.rv_emit_rules.specs.Emitted.{IsEmitted}
 use Rattle.lin_ir.specs.Descriptors.{AreExact, FitsDescriptors, frame_point_count}
 use Rattle.lin_ir.specs.declared.descr.Descr.{Descr}
@@ -13,27 +11,19 @@ use Rattle.mach_ir.specs.Placed.{WellPlaced}
 use Rattle.mach_ir.specs.Sizes.{HasRoom}
 use Rattle.mach_ir.specs.Text.{mach_text}
 use Rattle.mach_ir.specs.declared.mach.Mach.{Mach}
-use Rattle.prepare_rules.specs.Prepared.{IsPreparable, IsPreparedMach, prepared_size}
-use Rattle.prepare_rules.specs.Stages.{IsOverMach, IsPassedTo}
-use Rattle.prepare_rules.proofs.Whole.{prepared as prepared_by}
+use Rattle.prepare.specs.Known.{IsPreparable, IsPreparedMach, prepared_size, IsOverMach, IsPassedTo}
+use Rattle.prepare.proofs.Known.{prepared as prepared_by}
 use Rattle.stages.specs.declared.stage.Stage.{Stage}
 use Rattle.stages.specs.declared.stage.Stage.TheVariants.{Split, Alloc, Linear, Frames, Code}
-use Rattle.made_functions.specs.Files.{IsFunctionMade}
-use Rattle.placed_functions.specs.Placed.{IsPlacedFor}
+use Rattle.file_promise.specs.Known.{IsFunctionMade, IsPlacedFor, IsAccepted}
 use Rattle.linearise_rules.specs.Sizes.{HasLineRoom}
-use Rattle.placed_functions.proofs.Placed.{selected_preparable, selected_room, ready, prepared_room, carried, placed_for}
-use Rattle.chained_functions.proofs.Rooms.{line_room}
 use Rattle.colouring_rules.specs.Places.{ColoursLow}
 use Rattle.choices.specs.declared.choices.Choices.{Choices}
-use Rattle.reg_rounds_rules.specs.Rounds.{allocated_size}
+use Rattle.reg_rounds.specs.Known.{allocated_size}
 use Rattle.rv_pieces.specs.declared.piece.Pieces.{Pieces}
 use Rattle.selection_rules.specs.Select.{selected}
 use Rattle.selection_places.proofs.Placed.{selected_low}
-use Rattle.selection_promise.specs.Selects.{IsAccepted}
-use Rattle.selection_accepted.proofs.Promised.{function_accepted}
 use Rattle.selection_scope.specs.Room.{IsSelectable}
-use Rattle.selection_accepted.proofs.Room.{selection_room}
-use Rattle.selection_accepted.proofs.Selecting.{definitions}
 use Rattle.file_compile.specs.Accepted.{IsAcceptedFunction}
 use Rattle.file_compile.specs.Listed.{IsAllocatedFor, IsLinearFor, IsTextOf, IsPassText, AreFunctionTexts, IsStageText}
 

@@ -12,8 +12,7 @@ use Rattle.file_promise.proofs.Promise as promise
 use Rattle.image_form.specs.Image.{AreTables}
 use Rattle.image_form.specs.Tables.{Tables}
 use Rattle.rv_layout_rules.specs.TooLarge.{first_too_large}
-use Rattle.made_functions.specs.Exact.{IsExact}
-use Rattle.made_functions.specs.Files.{AreTablesMadeFor}
+use Rattle.file_promise.specs.Known.{IsExact, AreTablesMadeFor}
 use Rattle.stages.specs.declared.stage.Stage.{Stage}
 
 pub stage_text_once : (choices : Choices) (file : FileTree) (stage : Stage) (a b : List ℕ) → IsStageText choices file stage a → IsStageText choices file stage b → a ≡ b

@@ -12,12 +12,10 @@ use Rattle.lin_ir.specs.declared.lin.Lin.{Lin}
 use Rattle.lin_pass.specs.Linear.{IsLinearOf}
 use Rattle.mach_ir.specs.Text.{mach_text}
 use Rattle.mach_ir.specs.declared.mach.Mach.{Mach}
-use Rattle.prepare_rules.specs.Prepared.{IsPreparedMach}
-use Rattle.prepare_rules.specs.Stages.{IsPassedTo}
-use Rattle.made_functions.specs.Files.{IsFunctionMade, AreTablesMadeFor}
-use Rattle.made_functions.specs.Made.{in_order}
+use Rattle.prepare.specs.Known.{IsPreparedMach, IsPassedTo}
+use Rattle.file_promise.specs.Known.{IsFunctionMade, AreTablesMadeFor, in_order}
 use Rattle.choices.specs.declared.choices.Choices.{Choices}
-use Rattle.reg_rounds_rules.specs.Rounds.{IsRegisterAllocated}
+use Rattle.reg_rounds.specs.Known.{IsRegisterAllocated}
 use Rattle.rv_pieces.specs.declared.piece.Pieces.{Pieces}
 use Rattle.selection_rules.specs.Select.{selected}
 use Rattle.stages.specs.declared.stage.Stage.{Stage}

@@ -4,7 +4,7 @@ use Rattle.std.specs.Borrow.{Bor}
 use Rattle.choices.specs.declared.choices.Choices.{Choices}
 use Rattle.cmm_tree.specs.View.{function_view}
 use Rattle.cmm_tree.specs.declared.file.Function.{Function}
-use Rattle.made_functions.specs.Files.{IsFunctionMade}
+use Rattle.file_promise.specs.Known.{IsFunctionMade}
 use Rattle.rv_pieces.specs.declared.piece.Pieces.{Pieces}
 
 -- these are the pieces of the function at that place

@@ -10,7 +10,7 @@ ghost use Rattle.cmm_types.specs.Typing.{AreItemsAnnotated, IsFunctionAnnotated}
 ghost use Rattle.image_form.specs.Image.{IsImage};
 ghost use Rattle.image_form.specs.Tables.{Tables, tables};
 ghost use Rattle.rv_layout_rules.specs.TooLarge.{first_too_large};
-ghost use Rattle.made_functions.specs.Files.{IsFunctionMade, AreTablesMadeFor};
+ghost use Rattle.file_promise.specs.Known.{IsFunctionMade, AreTablesMadeFor};
 ghost use Rattle.file_compile.specs.Accepted.{IsAcceptedFile, IsAcceptedFunction};
 ghost use Rattle.stages.specs.Image.{IsOfImage};
 ghost use Rattle.file_compile.specs.Listed.{AreFunctionTexts, IsStageText};

@@ -7,7 +7,7 @@ ghost use Rattle.file_compile.specs.Accepted.{IsAcceptedFunction};
 ghost use Rattle.stages.specs.declared.stage.Stage.{Stage};
 ghost use Rattle.file_compile.specs.Listed.{IsTextOf, IsPassText, IsFunctionText};
 ghost use Rattle.mach_ir.specs.Text.{mach_text};
-ghost use Rattle.prepare_rules.specs.Stages.{IsOverMach, IsPassedTo};
+ghost use Rattle.prepare.specs.Known.{IsOverMach, IsPassedTo};
 ghost use Rattle.selection_rules.specs.Select.{selected};
 
 use crate::passes::{allocated, lines};

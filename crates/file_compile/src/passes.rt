@@ -2,15 +2,14 @@
 ghost use Rattle.std.specs.Prelude.{◌≡◌, IfOk};
 ghost use Rattle.cmm_tree.specs.View.{function_view};
 ghost use Rattle.cmm_types.specs.Typing.{IsFunctionAnnotated};
-ghost use Rattle.made_functions.specs.Files.{IsFunctionMade};
-ghost use Rattle.made_functions.specs.Made.{in_order};
+ghost use Rattle.file_promise.specs.Known.{IsFunctionMade, in_order};
 ghost use Rattle.file_compile.specs.Accepted.{IsAcceptedFunction};
 ghost use Rattle.file_compile.specs.Listed.{IsAllocatedFor, IsLinearFor};
 ghost use Rattle.mach_ir.specs.Formed.{WellFormed};
 ghost use Rattle.mach_ir.specs.Placed.{WellPlaced};
 ghost use Rattle.mach_ir.specs.Sizes.{HasRoom};
 ghost use Rattle.colouring_rules.specs.Places.{ColoursLow};
-ghost use Rattle.reg_rounds_rules.specs.Rounds.{IsAllocatedIn, allocated_size};
+ghost use Rattle.reg_rounds.specs.Known.{IsAllocatedIn, allocated_size};
 
 use choices::{Alloc, Choices, Order};
 use cmm_tree::Function;

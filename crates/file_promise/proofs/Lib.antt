@@ -2,3 +2,4 @@ pub mod Bytes
 pub mod Once
 pub mod Made
 pub mod Promise
+pub mod Known

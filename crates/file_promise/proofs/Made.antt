@@ -3,28 +3,23 @@ use Rattle.std.proofs.Common.{◌≡◌, ℕ, zero, suc, List, [], ◌∷◌, So
 use Rattle.std.specs.Prelude.{Contains, slice_get, ◌<◌, ◌^◌}
 use Rattle.std.specs.List.{AllByRecursion, AllZip}
 use Rattle.std.proofs.lemmas.Option.{none-some, same_Some}
-use Rattle.accepted_files.proofs.Files.{file_can}
-use Rattle.selection_accepted.proofs.Promised.{function_accepted}
-use Rattle.chained_functions.proofs.Chained.{chained}
+use Rattle.compiled_files.proofs.Known.{file_can, function_can}
+use Rattle.code_bounds.proofs.Known.{function_accepted, chained, placed_for}
 use Rattle.choices.specs.declared.choices.Choices.{Choices}
 use Rattle.cmm_front.specs.FileOf.{IsFileOf}
 use Rattle.cmm_tree.specs.Tree.{FunctionTree, FileTree, functions}
 use Rattle.cmm_types.proofs.Containing.{contains_head, contains_tail}
-use Rattle.made_functions.proofs.Ordered.{linear_of}
-use Rattle.placed_functions.proofs.Placed.{placed_for}
+use Rattle.made_once.proofs.Known.{linear_of}
 use Rattle.code_bounds.proofs.Bounded.{frame_fits}
 use Rattle.code_bounds.specs.Kept.{KeepsTo}
 use Rattle.code_bounds.proofs.Few.{few}
 use Rattle.code_bounds.proofs.Keeping.{each_keeps}
 use Rattle.compiled_files.specs.Stages.{AreChained, HasChain}
-use Rattle.made_functions.specs.Exact.{IsFunctionExact}
+use Rattle.made_once.specs.Known.{IsFunctionExact, IsChained, IsFunctionMade}
 use Rattle.frame_tables_rules.specs.Names.{locations_named_by}
 use Rattle.frame_tables_rules.proofs.Names.{exact_names}
-use Rattle.laid_files.proofs.Laid.{function_can}
 use Rattle.laid_parts.proofs.Whole.{laid_out}
 use Rattle.rv_layout_rules.specs.Conditions.{CanBeLaid, IsFunctionLaid}
-use Rattle.made_functions.specs.Chained.{IsChained}
-use Rattle.made_functions.specs.Files.{IsFunctionMade}
 use Rattle.rv_pieces.specs.declared.piece.Pieces.{Pieces}
 
 module _ (choices : Choices) (text : List ℕ) (file : FileTree) (is : IsFileOf text file) where

@@ -8,7 +8,7 @@ use Rattle.rv_layout_rules.specs.declared.form.Form.{Form}
 use Rattle.rv_layout_rules.specs.Forms.{none_far}
 use Rattle.rv_layout_rules.specs.Laid.{AreAllForms, laid_out}
 use Rattle.rv_layout_rules.proofs.Relaxing.{forms_once}
-use Rattle.made_functions.specs.Files.{IsFunctionMade, AreTablesMadeFor}
+use Rattle.made_once.specs.Known.{IsFunctionMade, AreTablesMadeFor}
 use Rattle.made_once.proofs.Made.{made_once}
 use Rattle.rv_pieces.specs.declared.piece.Pieces.{Pieces}
 

@@ -15,8 +15,7 @@ use Rattle.image_form.specs.Tables.{Tables}
 use Rattle.rv_layout_rules.specs.Laid.{IsLaid}
 use Rattle.rv_layout_rules.specs.TooLarge.{first_too_large}
 use Rattle.rv_layout_rules.proofs.Functions.{laid}
-use Rattle.made_functions.specs.Files.{AreTablesMadeFor}
-use Rattle.made_functions.specs.Exact.{IsExact}
+use Rattle.made_once.specs.Known.{AreTablesMadeFor, IsExact}
 use Rattle.file_promise.proofs.Bytes.{bytes_of}
 use Rattle.file_promise.proofs.Made.{are_chained, are_exact, can_be_laid, keep}
 

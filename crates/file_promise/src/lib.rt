@@ -11,11 +11,10 @@ ghost use Rattle.cmm_tree.specs.Tree.{FileTree};
 ghost use Rattle.correctness.specs.Bounds.{IsBounded, IsRoomy};
 ghost use Rattle.correctness.specs.Correct.{IsCorrect};
 ghost use Rattle.correctness.specs.InNeed.{AsksInNeed};
-ghost use Rattle.made_functions.specs.Exact.{IsExact};
+ghost use Rattle.made_once.specs.Known.{IsExact, AreTablesMadeFor};
 ghost use Rattle.image_form.specs.Image.{AreTables};
 ghost use Rattle.image_form.specs.Tables.{Tables};
 ghost use Rattle.rv_layout_rules.specs.TooLarge.{first_too_large};
-ghost use Rattle.made_functions.specs.Files.{AreTablesMadeFor};
 
 /// Law: one image is made for a file, whatever is chosen.
 pub fn files_are_made_once()

@@ -4,3 +4,4 @@ pub mod Symbols
 pub mod Lists
 pub mod Found
 pub mod First
+pub mod Known

@@ -8,7 +8,7 @@ use Rattle.rv_layout_rules.specs.Words.{NameAddresses}
 use Rattle.lin_ir.specs.declared.descr.Descr.{Descr}
 use Rattle.lin_ir.specs.declared.lin.Lin.{Lin}
 use Rattle.lin_ir.specs.declared.lin.Line.{Line}
-use Rattle.line_stands.specs.Lines.{LineStands}
+use Rattle.line_calls.specs.Known.{LineStands}
 use Rattle.lin_machine.specs.Relation.{Laid}
 use Rattle.lin_machine.specs.View.{Fixed}
 use Rattle.function_stands.proofs.Splitting.{least}

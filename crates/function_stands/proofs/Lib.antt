@@ -16,3 +16,4 @@ pub mod Entries
 pub mod Rows
 pub mod Points
 pub mod Whole
+pub mod Known

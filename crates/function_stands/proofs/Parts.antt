@@ -17,7 +17,7 @@ use Rattle.rv_pieces.specs.declared.piece.Piece.{Piece}
 use Rattle.rv_pieces.specs.declared.piece.Piece.TheVariants.{Descriptor}
 use Rattle.image_form.specs.Tables.{Tables}
 use Rattle.lin_machine.specs.View.{Fixed}
-use Rattle.line_stands.specs.Parts.{PartStands, label_place}
+use Rattle.line_calls.specs.Known.{PartStands, label_place}
 use Rattle.lin_tidy_rules.proofs.TurningShape.{not_same}
 use Rattle.function_stands.proofs.Splitting.{has_first, has_second, reach_first, reach_second, words_both, words_first}
 

@@ -10,7 +10,7 @@ use Rattle.lin_ir.specs.Walks.{LiveAt, StandsAsLine}
 use Rattle.lin_ir.specs.declared.lin.Line.{Line}
 use Rattle.lin_ir.specs.declared.lin.Lin.{Lin}
 use Rattle.lin_ir.specs.declared.lin.Spot.{Spot}
-use Rattle.line_stands.specs.Lines.{Nowhere, SparePasses}
+use Rattle.line_calls.specs.Known.{Nowhere, SparePasses}
 use Rattle.linearise_rules.proofs.Homes.{IsIn, contains_of, in_of, is_one_of}
 use Rattle.linearise_rules.proofs.Marks.{all_in}
 use Rattle.linearise_rules.proofs.Walked.{not_spare}

@@ -33,9 +33,7 @@ use Rattle.lin_ir.specs.declared.lin.Lin.{Lin}
 use Rattle.lin_ir.specs.declared.lin.Line.{Line}
 use Rattle.line_calls.specs.Points.{AreMarked, EntriesStand, IsTurn, PointStands}
 use Rattle.line_calls.proofs.Shown.{each_at}
-use Rattle.line_stands.specs.Lines.{FreeStands, LineStands, Nowhere, OffsetFits}
-use Rattle.line_stands.specs.Names.{IsRowAt, NamesStand}
-use Rattle.line_stands.specs.Parts.{PartStands, label_place}
+use Rattle.line_calls.specs.Known.{FreeStands, LineStands, Nowhere, OffsetFits, IsRowAt, NamesStand, PartStands, label_place}
 use Rattle.lin_machine.specs.Relation.{Laid, StandsFor}
 use Rattle.lin_machine.specs.View.{Fixed}
 use Rattle.linearise_rules.proofs.Homes.{IsIn, in_of}
@@ -45,7 +43,7 @@ use Rattle.rv_emit_rules.proofs.Units.{free_is_exit, part_unless_free, falls_tes
 use Rattle.linearise_rules.proofs.Walked.{Tail, stands_tail, tail_next}
 use Rattle.mach_ir.specs.Acts.{On, external_row}
 use Rattle.mach_ir.specs.declared.op.External.{External}
-use Rattle.made_functions.specs.Chained.{IsChained}
+use Rattle.laid_files.specs.Known.{IsChained}
 use Rattle.laid_files.proofs.Functions.{point_among}
 use Rattle.moving_laws.specs.Values.{HasFunctions, IsKnown, function_at, value_word}
 use Rattle.rv_pieces.specs.declared.piece.Piece.{Piece}

@@ -13,8 +13,7 @@ use Rattle.lin_ir.specs.declared.descr.Descr.{Descr}
 use Rattle.lin_ir.specs.declared.lin.Lin.{Lin}
 use Rattle.lin_ir.specs.declared.lin.Line.{Line}
 use Rattle.line_calls.specs.Points.{IsTurn, PointStands}
-use Rattle.line_stands.specs.Lines.{FreeStands, LineStands, Nowhere}
-use Rattle.line_stands.specs.Parts.{PartStands}
+use Rattle.line_calls.specs.Known.{FreeStands, LineStands, Nowhere, PartStands}
 use Rattle.lin_machine.specs.Relation.{Laid}
 use Rattle.lin_machine.specs.View.{Fixed}
 use Rattle.moving_laws.specs.Values.{function_at}

@@ -16,7 +16,7 @@ ghost use Rattle.lin_ir.specs.Descriptors.{NamesLives};
 ghost use Rattle.lin_ir.specs.Meaning.{NamedAt};
 ghost use Rattle.lin_ir.specs.declared.descr.Descr.{Descr};
 ghost use Rattle.lin_ir.specs.declared.lin.Lin.{Lin};
-ghost use Rattle.made_functions.specs.Chained.{IsChained};
+ghost use Rattle.laid_files.specs.Known.{IsChained};
 ghost use Rattle.moving_laws.specs.Values.{HasFunctions};
 ghost use Rattle.rv_pieces.specs.declared.piece.Pieces.{Pieces};
 

@@ -5,3 +5,4 @@ pub mod Kept
 pub mod Whole
 pub mod Carried
 pub mod Chosen
+pub mod Known

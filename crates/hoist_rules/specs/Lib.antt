@@ -1,2 +1,3 @@
 pub mod Hoisted
 pub mod Chosen
+pub mod Known

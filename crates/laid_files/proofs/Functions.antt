@@ -24,7 +24,7 @@ use Rattle.lin_ir.specs.declared.lin.Lin.{Lin}
 use Rattle.lin_ir.specs.declared.lin.Line.{Line}
 use Rattle.lin_ir.specs.declared.lin.LinOp.{LinOp}
 use Rattle.lin_ir.specs.declared.lin.LinOp.TheVariants as lin
-use Rattle.lin_pass.specs.Linear.{NamesHomes}
+use Rattle.made_functions.specs.Known.{NamesHomes}
 use Rattle.lin_tidy_rules.proofs.Living.{live_home}
 use Rattle.mach_ir.specs.Acts.{On}
 use Rattle.mach_ir.specs.Placed.{colour_numbers}

@@ -42,8 +42,7 @@ use Rattle.rv_pieces.specs.Named.{labels_of_piece, places_in}
 use Rattle.rv_pieces.specs.declared.piece.Piece.{Piece}
 use Rattle.rv_pieces.specs.declared.piece.Piece.TheVariants as piece
 use Rattle.rv_pieces.specs.declared.piece.Pieces.{Pieces}
-use Rattle.selection_accepted.proofs.Promised.{front_selects}
-use Rattle.selection_accepted.proofs.Selecting.{definitions, front_accepts}
+use Rattle.accepted_files.proofs.Known.{front_selects, definitions, front_accepts}
 use Rattle.selection_rules.specs.Select.{selected}
 use Rattle.selection_laws.proofs.Accepting.{left, right}
 use Rattle.laid_files.proofs.Functions.{descriptors_are, some_words}

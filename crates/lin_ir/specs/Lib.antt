@@ -4,3 +4,4 @@ pub mod Descriptors
 pub mod Formed
 pub mod Keeps
 pub mod Text
+pub mod Known

@@ -6,7 +6,7 @@ use Rattle.std.proofs.lemmas.Option.{slice_get-map, get_or_from_slice_get}
 use Rattle.std.specs.List.{Contains}
 use Rattle.std.specs.Option.{option_map}
 use Rattle.std.specs.Prelude.{slice_get, slice_index_or}
-use Rattle.mach_ir.specs.Acts.{Target, On, At}
+use Rattle.lin_ir.specs.Known.{Target, On, At}
 use Rattle.lin_ir.specs.Meaning.{code_at, after_label, has_label}
 use Rattle.lin_ir.specs.declared.lin.Line.{Line}
 use Rattle.lin_ir.specs.declared.lin.Lin.{Lin}

@@ -9,8 +9,7 @@ use Rattle.bs_words.proofs.Lists.{none_in, first_in, later_in, in_cons, got}
 use Rattle.dataflow.specs.Flow.{Graph, graph, ReadsIn, LiveBefore}
 use Rattle.dataflow.specs.declared.flow.Flow as flow
 use Rattle.dataflow.specs.declared.flow.Place as place
-use Rattle.mach_ir.specs.Acts.{Target}
-use Rattle.mach_ir.specs.Walks.{OneOf, this, other}
+use Rattle.lin_ir.specs.Known.{Target, OneOf, this, other}
 use Rattle.lin_ir.specs.Meaning.{after_label}
 use Rattle.lin_ir.specs.Walks.{targets, may_raise, tries_after, goes, raises, Writes, Live, read, on, aside, LiveAcross, across_step, across_raise, LiveAt, Traps}
 use Rattle.lin_ir.specs.declared.lin.Line.{Line}

@@ -11,7 +11,7 @@ use Rattle.bs_words.specs.declared.types.Loc.{Loc}
 use Rattle.bs_words.specs.declared.types.Loc.TheVariants as loc
 use Rattle.dataflow.specs.declared.flow.Flow as flow
 use Rattle.dataflow.specs.declared.flow.Place as place
-use Rattle.mach_ir.specs.Acts.{Target, On, At}
+use Rattle.lin_ir.specs.Known.{Target, On, At}
 use Rattle.lin_ir.specs.Meaning.{after_label}
 use Rattle.lin_ir.specs.Walks.{targets, may_raise, tries_after, ReadsLocationAs, Writes, Reached, Traps}
 use Rattle.lin_ir.specs.declared.lin.Spot.{Spot}

@@ -4,7 +4,7 @@ use Rattle.bs_words.specs.declared.types.Comp.{Comp}
 use Rattle.bs_words.specs.declared.types.Comp.TheVariants as comp
 use Rattle.bs_words.specs.declared.types.Loc.{Loc}
 use Rattle.bs_words.specs.declared.types.Loc.TheVariants as loc
-use Rattle.mach_ir.specs.Meaning.{Destroyed, Nothing, Temporaries, Everything}
+use Rattle.lin_ir.specs.Known.{Destroyed, Nothing, Temporaries, Everything}
 use Rattle.lin_ir.specs.Meaning.{destroyed_by}
 use Rattle.lin_ir.specs.declared.lin.Spot.{Spot}
 use Rattle.lin_ir.specs.declared.lin.Line.{Line}

@@ -18,8 +18,8 @@ use Rattle.lin_ir.specs.declared.lin.Lin.{Lin}
 use Rattle.linearise_rules.proofs.Homes.{IsIn, is_first, is_later, in_of, contains_of}
 use Rattle.linearise_rules.proofs.Marks.{all_in}
 use Rattle.linearise_rules.proofs.Walked.{not_spare}
-use Rattle.lin_tidy_rules.specs.Regular.{AtHomes}
-use Rattle.lin_tidy_rules.proofs.Living.{live_home}
+use Rattle.lin_tidy.specs.Known.{AtHomes}
+use Rattle.lin_tidy.proofs.Known.{live_home}
 use Rattle.lin_laws.proofs.Forms.{not_before}
 use Rattle.lin_pass.specs.Linear.{NamesHomes}
 

@@ -15,15 +15,8 @@ use Rattle.linearise_rules.specs.Keeps.{KeepsReached}
 use Rattle.linearise_rules.specs.Lowered.{is_among_numbers, slots_of_function, slot_number, slot_count, lowered}
 use Rattle.linearise_rules.proofs.Lowering.{lowered_keeps_reached, lowered_well_formed, lowered_slots, lowered_lines, lowered_labels}
 use Rattle.linearise_rules.proofs.Slots.{slot_occurs_in_code, slot_occurs_in_params, slot_stands, numbers_apart, numbers_below, numbers_onto}
-use Rattle.lin_tidy_rules.specs.Redirecting.{Tidies}
-use Rattle.lin_tidy_rules.specs.Regular.{IsRegular}
-use Rattle.lin_tidy_rules.specs.Tidied.{IsTidied}
-use Rattle.lin_tidy_rules.proofs.Following.{tidied_tidies}
-use Rattle.lin_tidy_rules.proofs.Keeping.{keeps_tidied}
-use Rattle.lin_tidy_rules.proofs.Lowered.{lowered_regular}
-use Rattle.lin_tidy_rules.proofs.Sizes.{KeepsShape, tidied_shape, ways_few}
-use Rattle.lin_tidy_rules.proofs.Tidied.{tidied_regular}
-use Rattle.lin_tidy_rules.proofs.Whole.{tidy_tight, tidied_keeps, tidied_no_addr}
+use Rattle.lin_tidy.specs.Known.{Tidies, IsRegular, IsTidied}
+use Rattle.lin_tidy.proofs.Known.{tidied_tidies, keeps_tidied, lowered_regular, KeepsShape, tidied_shape, ways_few, tidied_regular, tidy_tight, tidied_keeps, tidied_no_addr}
 use Rattle.lin_pass.specs.Linear.{IsSlotOf, OneForEach, IsLinearOf}
 use Rattle.lin_pass.proofs.Named.{no_spare, all_homes}
 

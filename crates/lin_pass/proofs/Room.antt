@@ -11,8 +11,7 @@ use Rattle.linearise_rules.specs.Lowered.{slots_of_function, limit_above, slot_n
 use Rattle.linearise_rules.specs.Sizes.{HasLineRoom}
 use Rattle.linearise_rules.proofs.Lowering.{lowered_lines, lowered_labels}
 use Rattle.linearise_rules.proofs.Slots.{count_within}
-use Rattle.lin_tidy_rules.proofs.Lowered.{lowered_regular}
-use Rattle.lin_tidy_rules.proofs.Sizes.{turned_shape, ways_few}
+use Rattle.lin_tidy.proofs.Known.{lowered_regular, turned_shape, ways_few}
 use Rattle.lin_tidy.specs.Sizes.{HasTidyRoom}
 
 -- the first free number is above no more than all labels are below

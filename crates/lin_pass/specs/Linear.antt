@@ -20,8 +20,7 @@ use Rattle.lin_ir.specs.declared.lin.Lin.{Lin}
 use Rattle.linearise_rules.specs.Keeps.{KeepsReached}
 use Rattle.linearise_rules.specs.Lowered.{lowered}
 use Rattle.linearise_rules.specs.Sizes.{tries_ended}
-use Rattle.lin_tidy_rules.specs.Regular.{IsRegular, IsTidy}
-use Rattle.lin_tidy_rules.specs.Tidied.{IsTidied}
+use Rattle.lin_tidy.specs.Known.{IsRegular, IsTidy, IsTidied}
 
 -- ---- slots
 

@@ -3,3 +3,4 @@ pub mod Loops
 pub mod Sizes
 pub mod Leading
 pub mod Rounds
+pub mod Known

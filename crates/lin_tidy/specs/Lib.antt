@@ -1,3 +1,4 @@
 pub mod Sizes
 pub mod Targets
 pub mod Loops
+pub mod Known

@@ -8,10 +8,10 @@ ghost use Rattle.lin_tidy.specs.Targets.{first_line, target_in, exit_in, AreTarg
 
 use lin_flow::Labels;
 use lin_ir::{Flow, Lin, LinOp, Line};
+use lin_unused::forms::{exit_of, is_label, jump_of};
 use mach_ir::{Label, Seq};
 use std::alloc::{AllocError, Global};
 use std::collections::BTreeMap;
-use lin_unused::forms::{exit_of, is_label, jump_of};
 
 /// The first line from the place on that is no label.
 fn first_line(code: &[Line], place: usize) -> Option<&Line>

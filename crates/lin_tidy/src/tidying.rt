@@ -7,8 +7,8 @@ ghost use Rattle.lin_tidy.specs.Sizes.{HasTidyRoom};
 use crate::redirecting::redirect_jumps;
 use crate::turning::turn_loops;
 use lin_ir::Lin;
-use std::alloc::{AllocError, Global};
 use lin_unused::{leave_out, no_move_goes, none_set, useless_lines, useless_lines_left};
+use std::alloc::{AllocError, Global};
 
 /// The function made tidy: its jumps go at once where others lead, a branch is repeated right after
 /// each exit that leads to it, each line that is left is reached by some walk, each move of a location

@@ -12,11 +12,11 @@ ghost use Rattle.lin_tidy.specs.Loops.{head_view, turn_view, turns_in, is_opened
 
 use lin_flow::Labels;
 use lin_ir::{Flow, Lin, LinOp, Line, Spot};
+use lin_unused::forms::{exit_of, goes_away, own_label};
 use linearise::{bare, opposite_test};
 use mach_ir::{Label, Seq, Test};
 use std::alloc::{AllocError, Global};
 use std::collections::BTreeSet;
-use lin_unused::forms::{exit_of, goes_away, own_label};
 
 /// What is free above these labels and that of one more line.
 fn free_above(free: usize, op: &LinOp) -> usize

@@ -34,7 +34,7 @@ use Rattle.linearise_rules.specs.Keeps.{NamesReached, NoAddrReached}
 use Rattle.linearise_rules.proofs.Homes.{IsIn, is_first, is_later, in_of, contains_of, all_vals, named_of}
 use Rattle.linearise_rules.proofs.Marks.{all_in}
 use Rattle.linearise_rules.proofs.Walked.{Tail, reached_tail, reached_stands, tail_in, stands_tail, live_read}
-use Rattle.lin_laws.proofs.Forms.{no_spots}
+use Rattle.linearise_rules.proofs.Known.{no_spots}
 use Rattle.lin_tidy_rules.specs.Keeps.{SameRound}
 use Rattle.lin_tidy_rules.proofs.Turns.{is_bare, turns}
 use Rattle.lin_tidy_rules.proofs.Simulate.{Arrives, Answers, stuck, steps, Closed, Leads, acts, simulates}

@@ -28,7 +28,7 @@ use Rattle.linearise_rules.proofs.Walked.{Tail, tail_next, tail_stands, reached_
 use Rattle.mach_ir.specs.declared.mach.MachOp.{MachOp}
 use Rattle.mach_ir.specs.declared.op.Op.TheVariants as op
 use Rattle.mach_ir.specs.declared.op.Pure.TheVariants as pure
-use Rattle.lin_laws.proofs.Forms.{same_loc_is}
+use Rattle.linearise_rules.proofs.Known.{same_loc_is}
 use Rattle.lin_tidy_rules.specs.Keeps.{SameRound, TidyBegins, KeepsLin}
 use Rattle.lin_tidy_rules.specs.Leaving.{LabelsBetween, none_between, label_between, IsUseless, unreached, unread, skipped, LeavesOut}
 use Rattle.lin_tidy_rules.proofs.Turns.{turns}

@@ -3,3 +3,4 @@ pub mod Reaches
 pub mod Leading
 pub mod Calls
 pub mod Laws
+pub mod Known

@@ -2,9 +2,7 @@
 use Rattle.std.specs.Prelude.{◌≡◌, ◌⊎◌, ℕ, suc, ◌^◌, ◌<◌, true, List, ◌∷◌, length, Option, Contains, ⊤}
 use Rattle.bs_words.specs.declared.types.Comp.{Comp}
 use Rattle.cmm_meaning.specs.Setting.{Setting}
-use Rattle.rv_emit_rules.specs.Emitted.{part_of_line}
-use Rattle.rv_emit_rules.specs.Entry.{FrameLayout}
-use Rattle.rv_emit_rules.specs.Units.{tests_first}
+use Rattle.rv_layout_rules.specs.Known.{part_of_line, FrameLayout, tests_first}
 use Rattle.rv_layout_rules.specs.Words.{NameAddresses}
 use Rattle.lin_ir.specs.Formed.{IsFormedLine, IsQuiet, Locates, NamesLabel, SetsLocation, labels_in, lin_operand_seats, lin_result_seats, places_of, spare}
 use Rattle.lin_ir.specs.Meaning.{after_label, code_at}

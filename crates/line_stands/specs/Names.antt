@@ -3,7 +3,7 @@ use Rattle.std.specs.Prelude.{◌≡◌, ℕ, ◌^◌, ◌<◌, ◌≤◌, List,
 use Rattle.bs_words.specs.External.{External}
 use Rattle.bs_words.specs.declared.values.Value.{Value}
 use Rattle.cmm_meaning.specs.Setting.{Setting}
-use Rattle.rv_emit_rules.specs.Named.{IsExternalOf}
+use Rattle.rv_layout_rules.specs.Known.{IsExternalOf}
 use Rattle.rv_layout_rules.specs.Laid.{address_of_place}
 use Rattle.rv_layout_rules.specs.Words.{NameAddresses}
 use Rattle.lin_ir.specs.Formed.{labels_in}

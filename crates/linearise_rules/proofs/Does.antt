@@ -11,8 +11,7 @@ use Rattle.bs_words.specs.declared.types.Loc.{Loc}
 use Rattle.bs_words.specs.declared.types.Loc.TheVariants as loc
 use Rattle.bs_words.specs.declared.values.Value.{Value}
 use Rattle.bs_words.proofs.Lists.{none_in, pairs_here, pairs_later, head_same, tail_same}
-use Rattle.cmm_meaning.specs.Setting.{Setting}
-use Rattle.cmm_meaning.specs.State.{Doing, Callee}
+use Rattle.lin_ir.specs.Known.{Setting, Doing, Callee}
 use Rattle.mach_ir.specs.Acts.{Around, Target, On, At, AtLabel, AtHandler, Act, Goes, Pushes, Jumps, Unwinds, Asks, Replaces, Ends, EndsRaising, Stuck, drop_tries, truth_of, goes_by_test}
 use Rattle.mach_ir.specs.Runs.{ActivationSetting, Step, Continues, Pays, entry_around, first_tally}
 use Rattle.mach_ir.specs.Meaning.{State, File, Held, put_all, put_if, with_held, clear_registers, killed, registers_written, values, past_frame, passes_frame, is_destroyed, is_at_one_of, destroyed_by, after_label, from_handler, at_handler, code_at, landing_code, tries_at, mach_act, wrote, on_act, on_values, step, begin_mach, mach_start}

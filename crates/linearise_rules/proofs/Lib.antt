@@ -11,3 +11,4 @@ pub mod Lines
 pub mod Walked
 pub mod Moves
 pub mod Lowering
+pub mod Known

@@ -1,6 +1,6 @@
 -- A relation between states of a Mach function and of a Linear one that each step of the first keeps.
 use Rattle.std.proofs.Common.{◌≡◌, ℕ, zero, suc, ◌<◌, List, [], ◌∷◌, refl, subst, arith}
-use Rattle.cmm_meaning.specs.State.{Doing, Asked}
+use Rattle.lin_ir.specs.Known.{Doing, Asked}
 use Rattle.bs_words.specs.declared.types.Ret.{Ret}
 use Rattle.mach_ir.specs.Acts.{Around}
 use Rattle.mach_ir.specs.Runs.{ActivationSetting, Step, Continues, Pays, Deepens, Waits, FinishesBy, Finishes, FinishesRaising, IsStuck, Tally, RunProgress, Running, Ended, Wrong, paid, came_back, kept_of, handed, run_onward}

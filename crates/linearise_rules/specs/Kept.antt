@@ -7,7 +7,7 @@ use Rattle.bs_words.specs.Memory.{Memory}
 use Rattle.bs_words.specs.declared.types.Comp.TheVariants as comp
 use Rattle.bs_words.specs.declared.types.Loc.{Loc}
 use Rattle.bs_words.specs.declared.values.Value.{Value}
-use Rattle.cmm_meaning.specs.State.{Doing}
+use Rattle.lin_ir.specs.Known.{Doing}
 use Rattle.mach_ir.specs.Acts.{Around}
 use Rattle.mach_ir.specs.Runs.{ActivationSetting, Step, IsStuck, Tally, RunProgress, Running, Wrong, runs, first_tally}
 use Rattle.mach_ir.specs.Meaning as mach

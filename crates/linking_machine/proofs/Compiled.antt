@@ -18,7 +18,7 @@ use Rattle.linking.specs.Pace.{Words}
 use Rattle.linking_stages.specs.Chain.{IsGivenWords}
 use Rattle.linking_stages.proofs.Chain.{lowered_keep}
 use Rattle.linking_stages.proofs.Selected.{selected_selects, words_passed}
-use Rattle.line_stands.specs.Lines.{Nowhere}
+use Rattle.line_calls.specs.Known.{Nowhere}
 use Rattle.linking_machine.specs.Compiled.{IsCompiled}
 use Rattle.linking_machine.proofs.Linked.{emitted_correct, emitted_in_need}
 

@@ -4,3 +4,4 @@ pub mod Starting
 pub mod Linked
 pub mod Compiled
 mod Example
+pub mod Known

@@ -43,7 +43,7 @@ use Rattle.linking_stages.specs.Stages.{linear_program}
 use Rattle.linking_stages.proofs.Regular.{linear_regular}
 use Rattle.linking_stages.proofs.Walking.{reached_walks}
 use Rattle.line_calls.specs.Calls.{IsCalled, CallsSo}
-use Rattle.line_values.specs.Followed.{FollowsBranch}
+use Rattle.line_calls.specs.Known.{FollowsBranch}
 use Rattle.linking_machine.specs.Emitted.{BeginsFree, FollowsLine, IsImageEmitted, service_in, service_of}
 use Rattle.linking_machine.specs.Standing.{Shows, At, Entry, Back}
 use Rattle.linking_machine.proofs.Answering.{outside_carried}

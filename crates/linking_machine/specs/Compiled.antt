@@ -10,7 +10,7 @@ use Rattle.moving_laws.specs.Values.{HasFunctions}
 use Rattle.rv_machine.specs.Loading.{IsRoom}
 use Rattle.rv_machine.specs.Places.{stack_bottom}
 use Rattle.rv_machine.specs.Sound.{IsStackBase}
-use Rattle.line_stands.specs.Lines.{Nowhere}
+use Rattle.line_calls.specs.Known.{Nowhere}
 use Rattle.lin_machine.specs.Relation.{Laid}
 use Rattle.linking.specs.Pace.{Words, ProgramGoesForward}
 use Rattle.linking_stages.specs.Chain.{IsSelected, AreLowered, HoldsWords}

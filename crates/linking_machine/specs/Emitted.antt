@@ -28,8 +28,7 @@ use Rattle.rv_machine.specs.Sound.{IsStackBase}
 use Rattle.lin_machine.specs.Arrival.{ArrivesIn}
 use Rattle.lin_machine.specs.Contents.{statics_of}
 use Rattle.line_calls.specs.Calls.{FollowsSo}
-use Rattle.line_stands.specs.Lines.{FreeStands}
-use Rattle.line_values.specs.Followed.{FollowsBranch}
+use Rattle.line_calls.specs.Known.{FreeStands, FollowsBranch}
 use Rattle.lin_machine.specs.Follows.{IsAt, IsEntered, used, needs_of}
 use Rattle.lin_machine.specs.Relation.{Below, Laid}
 use Rattle.lin_machine.specs.Statics.{StaticsLie}

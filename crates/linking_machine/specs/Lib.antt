@@ -1,3 +1,4 @@
 pub mod Standing
 pub mod Emitted
 pub mod Compiled
+pub mod Known

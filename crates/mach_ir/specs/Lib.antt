@@ -15,3 +15,4 @@ pub mod Keeps
 pub mod Words
 pub mod Pages
 pub mod Text
+pub mod Known

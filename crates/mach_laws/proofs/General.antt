@@ -3,7 +3,7 @@ use Rattle.std.proofs.Common.{◌≡◌, ℕ, ◌+◌, ◌*◌, Bool, true, fals
 use Rattle.bs_words.specs.Memory.{Memory}
 use Rattle.bs_words.specs.declared.types.Ret.{Ret}
 use Rattle.bs_words.specs.declared.values.Value.{Value}
-use Rattle.cmm_meaning.specs.State.{Doing, Callee, Inside, Outside, Asked}
+use Rattle.mach_ir.specs.Known.{Doing, Callee, Inside, Outside, Asked}
 use Rattle.mach_ir.specs.Acts.{Around, Target, On, At, Landing, AtLabel, AtHandler, Act, Goes, Pushes, Jumps, Unwinds, Asks, Replaces as TakesPlace, Ends, EndsRaising, Stuck}
 use Rattle.mach_ir.specs.Runs.{ActivationSetting, stack_in_use, asked_call, Step, Continues, Deepens, Waits, FinishesBy, Tally}
 use Rattle.mach_ir.specs.Meaning.{State, File, put_all, clear_registers, killed, registers_written, past_frame, passes_frame, values, mach_act, after_label, from_handler, at_handler, code_at, tries_at, landing_code, wrote, on_act, on_values, step, run_of_mach}

@@ -3,8 +3,7 @@
 use Rattle.std.proofs.Common.{◌≡◌, ℕ, true, List, Option}
 use Rattle.bs_words.specs.declared.types.Ret.{Ret}
 use Rattle.bs_words.specs.declared.values.Value.{Value}
-use Rattle.cmm_meaning.specs.State.{Doing, Callee}
-use Rattle.cmm_meaning.specs.Setting.{Setting}
+use Rattle.mach_ir.specs.Known.{Doing, Callee, Setting}
 use Rattle.mach_ir.specs.Acts.{Around, Target, On, At, Landing, AtLabel, AtHandler, Act, Goes, Pushes, Jumps, Unwinds, Asks, Replaces, Ends, EndsRaising, Stuck}
 use Rattle.mach_ir.specs.Meaning.{mach_act}
 use Rattle.mach_ir.specs.Walks.{OneOf, this, targets, may_raise}

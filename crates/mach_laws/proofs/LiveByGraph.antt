@@ -1,9 +1,7 @@
 -- What is live by the flow graph of a function is what is live by its walks.
 use Rattle.std.proofs.Common.{◌≡◌, ◌↔◌, ℕ, zero, suc, inl, inr, ⊎_elim, List, [], ◌∷◌, drop, refl, sym, ◌∙◌, subst}
 use Rattle.std.specs.List.{Contains}
-use Rattle.dataflow.specs.Flow.{Graph, graph, ReadsIn, LiveBefore}
-use Rattle.dataflow.specs.Live.{IsLiveness}
-use Rattle.dataflow.specs.declared.flow.Flow.{Flow}
+use Rattle.mach_ir.specs.Known.{Graph, graph, ReadsIn, LiveBefore, IsLiveness, Flow}
 use Rattle.mach_ir.specs.Graph.{IsLiveMap}
 use Rattle.mach_ir.specs.Meaning.{code_at, from_handler, tries_at, registers_written}
 use Rattle.mach_ir.specs.Walks.{targets, may_raise, goes, raises, Live, read, on, aside}

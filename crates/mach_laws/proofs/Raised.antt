@@ -8,8 +8,7 @@ use Rattle.bs_words.specs.declared.types.Ret.TheVariants as ret
 use Rattle.bs_words.specs.declared.values.Value.{Value}
 use Rattle.bs_words.specs.declared.values.Value.TheVariants as value
 use Rattle.bs_words.specs.Memory.{Memory}
-use Rattle.cmm_meaning.specs.Setting.{Setting}
-use Rattle.cmm_meaning.specs.State.{Doing, Gave, Threw, Callee, Inside}
+use Rattle.mach_ir.specs.Known.{Setting, Doing, Gave, Threw, Callee, Inside}
 use Rattle.mach_ir.specs.Acts as acts
 use Rattle.mach_ir.specs.Acts.{Around, Target, At, Landing, Act, Goes, Pushes, Jumps, Unwinds, Asks, Replaces, Ends, EndsRaising, Stuck, stuck_unless}
 use Rattle.mach_ir.specs.Forms.{HasForm, checks, raises, returns}

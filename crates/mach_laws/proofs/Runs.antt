@@ -2,7 +2,7 @@
 use Rattle.std.proofs.Common.{ℕ, ◌<◌, arith, ◌≡◌}
 use Rattle.mach_ir.specs.Runs.{Tally, Running, RunProgress, Asking, Wrong, Ended}
 use Rattle.mach_ir.specs.Keeps.{RunsAlike, both_running, both_asking, both_ended}
-use Rattle.cmm_meaning.specs.State.{Asked, Doing}
+use Rattle.mach_ir.specs.Known.{Asked, Doing}
 
 pub none_below : {A : Type 0} (k : ℕ) → k < 0 → A
 none_below k le = absurd (omega (arith, le))

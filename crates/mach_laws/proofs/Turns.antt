@@ -11,9 +11,7 @@ use Rattle.bs_words.specs.declared.types.Ret.TheVariants as ret
 use Rattle.bs_words.specs.declared.values.Kind.{Kind}
 use Rattle.bs_words.specs.declared.values.Value.{Value}
 use Rattle.bs_words.specs.declared.values.Value.TheVariants as value
-use Rattle.cmm_meaning.specs.Evaluation.{bound_error}
-use Rattle.cmm_meaning.specs.State.{Doing, Gave, Threw, Callee, Inside}
-use Rattle.cmm_meaning.specs.Setting.{Setting}
+use Rattle.mach_ir.specs.Known.{bound_error, Doing, Gave, Threw, Callee, Inside, Setting}
 use Rattle.mach_ir.specs.Acts as acts
 use Rattle.mach_ir.specs.Acts.{drop_tries, Around, Target, On, At, AtLabel, AtHandler, Act, Goes, Pushes, Jumps, Unwinds, Asks, Replaces, Ends, EndsRaising, Stuck, stuck_unless}
 use Rattle.mach_ir.specs.Meaning.{mark_act, mach_act}

@@ -1,8 +1,7 @@
 -- The flow graph of a Mach function, in the shape in which liveness is solved.
 use Rattle.std.specs.Prelude.{◌≡◌, ℕ, suc, ◌-◌, Bool, true, false, List, [], ◌∷◌, drop, length, map}
 use Rattle.bs_words.specs.Contents.{contents}
-use Rattle.dataflow.specs.Flow.{Graph, graph}
-use Rattle.dataflow.specs.declared.flow.Flow.{Flow}
+use Rattle.mach_ir.specs.Known.{Graph, graph, Flow}
 use Rattle.mach_ir.specs.Meaning.{code_at, from_handler, tries_at, registers_written}
 use Rattle.mach_ir.specs.Walks.{targets, may_raise}
 use Rattle.mach_ir.specs.declared.reg.Reg.{Reg}

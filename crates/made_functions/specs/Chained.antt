@@ -12,7 +12,7 @@ use Rattle.lin_ir.specs.Walks.{LiveAt, Reached, StandsAsLine}
 use Rattle.lin_ir.specs.declared.descr.Descr.{Descr}
 use Rattle.lin_ir.specs.declared.lin.Lin.{Lin}
 use Rattle.lin_ir.specs.declared.lin.Line.{Line}
-use Rattle.lin_tidy_rules.specs.Regular.{IsRegular, IsTidy}
+use Rattle.lin_pass.specs.Known.{IsRegular, IsTidy}
 use Rattle.lin_pass.specs.Linear.{NamesHomes}
 use Rattle.line_stands.specs.Lines.{OffsetFits}
 use Rattle.rv_emit_rules.specs.Emitted.{IsEmitted}

@@ -5,7 +5,7 @@ use Rattle.choices.specs.declared.choices.Choices.{Choices}
 use Rattle.cmm_tree.specs.Tree.{FunctionTree, FileTree, functions}
 use Rattle.image_form.specs.Tables.{Tables}
 use Rattle.laid_parts.specs.Laid.{IsLaidOutAs}
-use Rattle.rv_layout_rules.specs.Laid.{IsLaid}
+use Rattle.line_stands.specs.Known.{IsLaid}
 use Rattle.lin_ir.specs.declared.descr.Descr.{Descr}
 use Rattle.lin_ir.specs.declared.lin.Lin.{Lin}
 use Rattle.made_functions.specs.Chained.{IsChained}

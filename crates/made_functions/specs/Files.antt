@@ -4,7 +4,7 @@ use Rattle.std.specs.List.{AllZip}
 use Rattle.choices.specs.declared.choices.Choices.{Choices}
 use Rattle.cmm_tree.specs.Tree.{FunctionTree, FileTree, functions}
 use Rattle.image_form.specs.Tables.{Tables}
-use Rattle.rv_layout_rules.specs.Laid.{IsLaidOut}
+use Rattle.line_stands.specs.Known.{IsLaidOut}
 use Rattle.lin_ir.specs.declared.descr.Descr.{Descr}
 use Rattle.lin_ir.specs.declared.lin.Lin.{Lin}
 use Rattle.rv_pieces.specs.declared.piece.Pieces.{Pieces}

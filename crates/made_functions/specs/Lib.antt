@@ -3,3 +3,4 @@ pub mod Chained
 pub mod Bounded
 pub mod Files
 pub mod Exact
+pub mod Known

@@ -1,2 +1,3 @@
 pub mod Measures
 pub mod Carried
+pub mod Known

@@ -3,3 +3,4 @@ pub mod Ends
 pub mod Tries
 pub mod Exits
 pub mod Placed
+pub mod Known

@@ -7,7 +7,7 @@ use Rattle.mach_ir.specs.Placed.{WellPlaced}
 use Rattle.mach_ir.specs.Sizes.{HasRoom}
 use Rattle.mach_ir.specs.declared.mach.Mach.{Mach}
 use Rattle.prepare_rules.specs.Prepared.{IsPreparable, prepared_size}
-use Rattle.hoist_rules.specs.Chosen.{HasConstantsFirst}
+use Rattle.prepare_rules.specs.Known.{HasConstantsFirst}
 use Rattle.sink_rules.specs.Chosen.{IsSunk}
 use Rattle.prepare_rules.specs.Stages.{IsOverMach, IsPassedTo, spills, splits}
 use Rattle.prepare_rules.proofs.Room.{spilled_room}

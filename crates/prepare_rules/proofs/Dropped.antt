@@ -3,12 +3,10 @@ use Rattle.std.proofs.Common.{ℕ, suc, ◌≤◌, Bool, true, false, cond, List
 use Rattle.std.specs.List.{Contains}
 use Rattle.std.specs.Prelude.{slice_index_or}
 use Rattle.std.proofs.lemmas.List.Elements.{Contains-get_or, All-contains}
-use Rattle.deadcode_rules.specs.Dropped.{unless_dropped, dropped, AreDead, IsDropped}
+use Rattle.hoist_rules.specs.Known.{unless_dropped, dropped, AreDead, IsDropped}
 use Rattle.pass_rules.specs.Carried.{OffsetFits, IsCarried}
 use Rattle.pass_rules.specs.Measures.{code_words, code_points, exit_count, other_operands}
-use Rattle.deadcode_rules.proofs.Left.{was_main, still_ends, tries_here, contains_back}
-use Rattle.deadcode_rules.proofs.Live.{was_register}
-use Rattle.deadcode_rules.proofs.Text.{Fate, falls, remains, fate}
+use Rattle.hoist_rules.proofs.Known.{was_main, still_ends, tries_here, contains_back, was_register, Fate, falls, remains, fate}
 use Rattle.pass_rules.proofs.Words.{exits_both}
 use Rattle.mach_ir.specs.Formed.{is_exit, WellFormed}
 use Rattle.mach_ir.specs.declared.mach.Instr.{Instr}

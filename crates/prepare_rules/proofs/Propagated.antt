@@ -5,7 +5,7 @@ use Rattle.std.specs.List.{Contains}
 use Rattle.cse_copy_rules.proofs.Form.{Fits, fits, same_ops}
 use Rattle.cse_copy_rules.specs.Kept.{IsCopyKept}
 use Rattle.cse_copy_rules.specs.Propagated.{instr_with_sources, IsPropagated}
-use Rattle.linearise_rules.specs.Lowered.{same_spot}
+use Rattle.pass_rules.specs.Known.{same_spot}
 use Rattle.pass_rules.specs.Carried.{IsCarried}
 use Rattle.pass_rules.specs.Measures.{copy_words, words_for_instr, operands_with}
 use Rattle.mach_ir.specs.Walks.{IsRegister}

@@ -1,6 +1,6 @@
 -- Turning repeats into moves carries: a move has no more words than an operator, and neither is a frame point, an exit or a mark.
 use Rattle.std.proofs.Common.{◌≡◌, ℕ, ◌≤◌, true, false, List, [], ◌∷◌, length, Option, Some, refl, sym, subst, arith}
-use Rattle.linearise_rules.specs.Lowered.{same_spot}
+use Rattle.pass_rules.specs.Known.{same_spot}
 use Rattle.pass_rules.specs.Carried.{IsCarried}
 use Rattle.pass_rules.specs.Measures.{copy_words, words_for_instr}
 use Rattle.mach_ir.specs.Formed.{is_exit}

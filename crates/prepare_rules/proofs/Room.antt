@@ -5,7 +5,7 @@ use Rattle.mach_ir.specs.declared.mach.Mach.{Mach}
 use Rattle.prepare_rules.specs.Prepared.{IsPreparable, prepared_size}
 use Rattle.pass_rules.proofs.Room.{small_within, room_within}
 use Rattle.sink_rules.specs.Chosen.{IsSunk}
-use Rattle.spill_rules.specs.Chosen.{IsSpilled, spilled_size}
+use Rattle.sink_rules.specs.Known.{IsSpilled, spilled_size}
 use Rattle.split_rules.specs.Split.{split_size}
 use Rattle.prepare_rules.proofs.Whole.{IsStage, sunk_size, IsCut, sunk_stage, slots_stage}
 

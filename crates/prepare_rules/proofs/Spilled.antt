@@ -4,7 +4,7 @@ use Rattle.std.specs.List.{All, Contains}
 use Rattle.std.specs.Prelude.{slice_index_or}
 use Rattle.std.proofs.lemmas.List.Elements.{Contains-get_or, All-contains}
 use Rattle.std.proofs.Math.Nat.{le_of_eq, zero-add}
-use Rattle.linearise_rules.specs.Lowered.{same_spot}
+use Rattle.pass_rules.specs.Known.{same_spot}
 use Rattle.pass_rules.specs.Carried.{OffsetFits, EndsInReturn, at_return, further, IsCarried}
 use Rattle.pass_rules.specs.Measures.{copy_words, instr_words, code_words, one_if_true, code_points, exit_count, operands_with, other_operands}
 use Rattle.mach_ir.specs.Formed.{is_exit, IsFormedInstruction, WellFormed}
@@ -26,10 +26,8 @@ use Rattle.pass_rules.proofs.Words.{at_most_copy}
 use Rattle.pass_rules.proofs.Carried.{ends_second}
 use Rattle.colouring_rules.proofs.Open.{slot_open}
 use Rattle.colouring_rules.specs.Places.{ColoursLow}
-use Rattle.spill_rules.specs.Chosen.{IsSpilled, IsNeededSlot, IsChosenKept}
-use Rattle.spill_rules.specs.Spilled.{SpillPlan, in_slot, copy_instruction, reload, spill, reloads_of, spills_of, operand_registers, written_results, spilled_instr, spilled}
-use Rattle.spill_rules.proofs.Formed.{IsCopy, is_reload, is_spill, IsMain, was_main}
-use Rattle.spill_rules.proofs.Text.{keeps_marks}
+use Rattle.sink_rules.specs.Known.{IsSpilled, IsNeededSlot, IsChosenKept, SpillPlan, in_slot, copy_instruction, reload, spill, reloads_of, spills_of, operand_registers, written_results, spilled_instr, spilled}
+use Rattle.sink_rules.proofs.Known.{IsCopy, is_reload, is_spill, IsMain, was_main, keeps_marks}
 
 -- ---- copies alone
 

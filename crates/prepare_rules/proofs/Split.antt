@@ -5,7 +5,7 @@ use Rattle.std.specs.List.{Contains}
 use Rattle.std.specs.Prelude.{nat_lt}
 use Rattle.std.proofs.lemmas.List.{length-map}
 use Rattle.bs_words.specs.declared.types.Loc.TheVariants as loc
-use Rattle.linearise_rules.specs.Lowered.{same_spot}
+use Rattle.pass_rules.specs.Known.{same_spot}
 use Rattle.pass_rules.specs.Carried.{IsCarried}
 use Rattle.pass_rules.specs.Measures.{copy_words, mark_words, words_for_instr, operands_with}
 use Rattle.mach_ir.specs.Formed.{WellFormed}

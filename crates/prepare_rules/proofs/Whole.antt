@@ -10,8 +10,8 @@ use Rattle.comballoc_rules.specs.Combined.{combined}
 use Rattle.cse_copy_rules.proofs.One.{one_propagated}
 use Rattle.cse_copy_rules.proofs.Whole.{propagated_kept}
 use Rattle.cse_copy_rules.specs.Propagated.{IsPropagated}
-use Rattle.deadcode_rules.proofs.Whole.{dropped_kept, one_dropped}
-use Rattle.deadcode_rules.specs.Dropped.{IsDropped}
+use Rattle.hoist_rules.proofs.Known.{dropped_kept, one_dropped}
+use Rattle.hoist_rules.specs.Known.{IsDropped}
 use Rattle.pass_rules.specs.Carried.{IsCarried}
 use Rattle.pass_rules.specs.Measures.{copy_words, code_words}
 use Rattle.hoist_rules.proofs.Chosen.{constants_first_kept, one_constants_first}
@@ -30,8 +30,8 @@ use Rattle.sink_rules.proofs.Chosen as sinking
 use Rattle.sink_rules.proofs.Chosen.{one_sunk}
 use Rattle.sink_rules.specs.Chosen.{IsSunk}
 use Rattle.sink_rules.specs.Sunk as sinks
-use Rattle.spill_rules.proofs.Chosen.{spilled_kept, one_spilled, seated_params}
-use Rattle.spill_rules.specs.Chosen.{ParamsPlaced, IsSpilled, IsChosenKept, spilled_size}
+use Rattle.sink_rules.proofs.Known.{spilled_kept, one_spilled, seated_params}
+use Rattle.sink_rules.specs.Known.{ParamsPlaced, IsSpilled, IsChosenKept, spilled_size}
 use Rattle.split_rules.proofs.One.{one_split}
 use Rattle.split_rules.proofs.Whole.{split_kept}
 use Rattle.split_rules.specs.Split.{IsSplit, split_size}

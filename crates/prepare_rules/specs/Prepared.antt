@@ -5,7 +5,7 @@ use Rattle.comballoc_rules.specs.Combined.{combined}
 use Rattle.comballoc_rules.specs.Kept.{IsCombinable}
 use Rattle.cse_copy_rules.specs.Propagated.{IsPropagated}
 use Rattle.hoist_rules.specs.Chosen.{HasConstantsFirst}
-use Rattle.deadcode_rules.specs.Dropped.{IsDropped}
+use Rattle.hoist_rules.specs.Known.{IsDropped}
 use Rattle.mach_ir.specs.Formed.{WellFormed}
 use Rattle.mach_ir.specs.Keeps.{Keeps}
 use Rattle.mach_ir.specs.Placed.{WellPlaced}
@@ -18,7 +18,7 @@ use Rattle.pass_rules.specs.Measures.{copy_words}
 use Rattle.colouring_rules.specs.Places.{ColoursLow}
 use Rattle.cse_repeat_rules.specs.Repeated.{IsRepeated}
 use Rattle.sink_rules.specs.Chosen.{IsSunk}
-use Rattle.spill_rules.specs.Chosen.{IsSpilled}
+use Rattle.sink_rules.specs.Known.{IsSpilled}
 use Rattle.split_rules.specs.Split.{IsSplit}
 
 -- Each pass in its order, with what it makes.

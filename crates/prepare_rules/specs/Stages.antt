@@ -2,12 +2,12 @@
 use Rattle.std.specs.Prelude.{◌≡◌, ⊤}
 use Rattle.comballoc_rules.specs.Combined.{combined}
 use Rattle.cse_copy_rules.specs.Propagated.{IsPropagated}
-use Rattle.deadcode_rules.specs.Dropped.{IsDropped}
+use Rattle.hoist_rules.specs.Known.{IsDropped}
 use Rattle.hoist_rules.specs.Chosen.{HasConstantsFirst}
 use Rattle.mach_ir.specs.declared.mach.Mach.{Mach}
 use Rattle.cse_repeat_rules.specs.Repeated.{IsRepeated}
 use Rattle.sink_rules.specs.Chosen.{IsSunk}
-use Rattle.spill_rules.specs.Chosen.{IsSpilled}
+use Rattle.sink_rules.specs.Known.{IsSpilled}
 use Rattle.split_rules.specs.Split.{IsSplit}
 use Rattle.stages.specs.declared.stage.Stage.{Stage}
 use Rattle.stages.specs.declared.stage.Stage.TheVariants.{Select, CombAlloc, Cse, Dead, Spill, Split, Alloc, Linear, Frames, Code}

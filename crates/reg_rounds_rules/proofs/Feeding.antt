@@ -11,9 +11,8 @@ use Rattle.mach_ir.specs.declared.op.CopyKind.{CopyKind}
 use Rattle.mach_ir.specs.declared.op.CopyKind.TheVariants as copy
 use Rattle.mach_ir.specs.declared.reg.Reg.{Reg}
 use Rattle.mach_ir.specs.declared.mach.Instr.{Instr}
-use Rattle.pass_rules.specs.Measures.{code_words, instr_words, copy_words}
-use Rattle.spill_rules.specs.Spilled.{copy_instruction}
-use Rattle.pass_rules.proofs.Words.{at_most_copy, words_append}
+use Rattle.reload_rules.specs.Known.{code_words, instr_words, copy_words, copy_instruction}
+use Rattle.reload_rules.proofs.Known.{at_most_copy, words_append}
 use Rattle.colouring_rules.specs.Places.{LocationAssignment, located_register, all_placed, placed_instr, placed_code}
 use Rattle.colouring_rules.proofs.Open.{machine_open, slot_open, machine_slot}
 use Rattle.reload_rules.specs.Reloaded.{is_in_slot, is_renewed, fresh_stand_in, renewed, reloads, spills}

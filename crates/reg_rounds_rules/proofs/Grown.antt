@@ -15,10 +15,8 @@ use Rattle.linearise_rules.specs.Lowered.{same_spot}
 use Rattle.mach_ir.specs.Formed.{is_exit}
 use Rattle.mach_ir.specs.Meaning.{passes_frame, tries_at, tries_past}
 use Rattle.mach_ir.specs.declared.op.Leaving.TheVariants as leaving
-use Rattle.pass_rules.specs.Carried.{OffsetFits, EndsInReturn, at_return, further}
-use Rattle.pass_rules.specs.Measures.{one_if_true, words_for_instr, code_words, code_points, exit_count, instr_words, copy_words, operands_with, other_operands}
-use Rattle.pass_rules.proofs.Words.{words_append}
-use Rattle.pass_rules.proofs.Carried.{ends_second, returns_alone}
+use Rattle.reload_rules.specs.Known.{OffsetFits, EndsInReturn, at_return, further, one_if_true, words_for_instr, code_words, code_points, exit_count, instr_words, copy_words, operands_with, other_operands}
+use Rattle.reload_rules.proofs.Known.{words_append, ends_second, returns_alone}
 use Rattle.colouring_rules.specs.Places.{LocationAssignment, located_register, all_placed, placed_instr, placed_code}
 use Rattle.reload_rules.specs.Reloaded.{is_copy, reads_registers, writes_registers, renewed, reloads, spills, number_past, results_from, past_instr, renewed_instr, reloaded_instr, reloaded_code}
 use Rattle.reload_rules.proofs.Text.{no_reloads, no_spills, none_renewed}

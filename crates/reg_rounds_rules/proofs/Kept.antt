@@ -22,9 +22,8 @@ use Rattle.mach_ir.specs.declared.mach.Mach.{Mach}
 use Rattle.mach_ir.proofs.Keeping.{keeps_itself, keeps_then}
 use Rattle.mach_laws.proofs.Colouring.{colouring_of}
 use Rattle.mach_laws.proofs.Instructions.{return_results}
-use Rattle.pass_rules.specs.Carried.{IsCarried, OffsetFits}
-use Rattle.pass_rules.specs.Measures.{code_words, copy_words, other_operands}
-use Rattle.pass_rules.proofs.Operands.{others_few}
+use Rattle.reload_rules.specs.Known.{IsCarried, OffsetFits, code_words, copy_words, other_operands}
+use Rattle.reload_rules.proofs.Known.{others_few}
 use Rattle.colouring_rules.specs.Places.{LocationAssignment, all_placed, placed_code, with_colouring, rest_in_slots, last_resort, or_slot, ColoursLow}
 use Rattle.colouring_rules.proofs.Open.{machine_open, slot_open, machine_slot, not_open}
 use Rattle.colouring_rules.proofs.Rest.{rest_keeps, rest_placed, rest_formed, rest_seated}

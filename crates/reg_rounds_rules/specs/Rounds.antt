@@ -13,8 +13,7 @@ use Rattle.mach_ir.specs.Sizes.{Size}
 use Rattle.mach_ir.specs.declared.graph.Colours.{Colours}
 use Rattle.mach_ir.specs.declared.graph.Graph.{Graph}
 use Rattle.mach_ir.specs.declared.mach.Mach.{Mach}
-use Rattle.pass_rules.specs.Carried.{IsCarried}
-use Rattle.pass_rules.specs.Measures.{copy_words, other_operands}
+use Rattle.reload_rules.specs.Known.{IsCarried, copy_words, other_operands}
 use Rattle.colouring_rules.specs.Places.{rest_in_slots}
 use Rattle.reload_rules.specs.Kept.{with_copies}
 use Rattle.reload_rules.specs.Reloaded.{IsFree, IsReloadedBy}

@@ -11,7 +11,7 @@ ghost use Rattle.mach_ir.specs.Formed.{WellFormed};
 ghost use Rattle.mach_ir.specs.Placed.{WellPlaced};
 ghost use Rattle.mach_ir.specs.Sizes.{Size, HasSize, HasRoom};
 ghost use Rattle.mach_ir.specs.declared.mach.Mach.{Mach};
-ghost use Rattle.pass_rules.specs.Measures.{other_operands};
+ghost use Rattle.reload_rules.specs.Known.{other_operands};
 ghost use Rattle.colouring_rules.specs.Places.{ColoursLow};
 ghost use Rattle.reload_rules.specs.Kept.{with_copies};
 ghost use Rattle.reg_rounds_rules.specs.Rounds.{RoundsAsked, most_rounds, allocated_size, IsRegisterAllocated, IsAllocationKept};

@@ -15,3 +15,4 @@ pub mod Placed
 pub mod Numbering
 pub mod Slotted
 pub mod Together
+pub mod Known

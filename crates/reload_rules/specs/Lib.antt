@@ -1,2 +1,3 @@
 pub mod Reloaded
 pub mod Kept
+pub mod Known

@@ -6,10 +6,10 @@ ghost use Rattle.rv_pieces.specs.Named.{PieceFits};
 
 use anyhow::{Result, bail, ensure};
 use bs_words::Name;
-use rv_layout_rules::Form;
 use mach_ir::Label;
 use rv_isa::Instr;
 use rv_layout::{forms_of, put_piece, words_of};
+use rv_layout_rules::Form;
 use rv_pieces::Piece;
 use std::alloc::Global;
 use std::io::Write;

@@ -13,3 +13,4 @@ pub mod Traversal
 pub mod Named
 pub mod Sizes
 pub mod Values
+pub mod Known

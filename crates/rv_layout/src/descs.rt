@@ -8,8 +8,8 @@ ghost use Rattle.rv_layout.specs.Descs.{desc_in};
 use crate::forms::words_of;
 use bs_words::List;
 use image_form::DescRow;
-use rv_layout_rules::Form;
 use lin_ir::Descr;
+use rv_layout_rules::Form;
 use rv_pieces::Piece;
 use std::alloc::{AllocError, Global};
 

@@ -8,8 +8,8 @@ ghost use Rattle.rv_layout_rules.specs.Words.{number_into, address_into, branch_
 ghost use Rattle.rv_isa.specs.Encoding.{encoded, InstrFits};
 ghost use Rattle.rv_isa.specs.Registers.{register_number};
 
-use rv_layout_rules::Form;
 use rv_isa::{AluImmOp, Condition, Instr, Register, encode};
+use rv_layout_rules::Form;
 use rv_pieces::Piece;
 use std::alloc::AllocError;
 

@@ -3,8 +3,8 @@ ghost use Rattle.std.specs.Prelude.{◌≡◌, ℕ, ◌<◌, ◌≤◌, ◌^◌,
 ghost use Rattle.rv_layout.specs.Tables.{label_noted, words_of_labels, IsLabelTable, LabelBelow, LabelsBelow};
 
 use crate::forms::words_of;
-use rv_layout_rules::Form;
 use mach_ir::Label;
+use rv_layout_rules::Form;
 use rv_pieces::Piece;
 use std::alloc::{AllocError, Global};
 

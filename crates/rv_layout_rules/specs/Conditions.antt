@@ -10,7 +10,7 @@ use Rattle.cmm_types.specs.Types.{body_type, result_of}
 use Rattle.image_form.specs.Image.{EachNext, IsEntry, IsNextEntry, IsParam, IsResult, IsExt}
 use Rattle.rv_layout_rules.specs.Externals.{externals}
 use Rattle.rv_layout_rules.specs.Forms.{is_label_piece}
-use Rattle.lin_ir.specs.declared.descr.Descr.{Descr}
+use Rattle.rv_emit_rules.specs.Known.{Descr}
 use Rattle.mach_ir.specs.Acts.{external_row}
 use Rattle.mach_ir.specs.declared.op.External as declared
 use Rattle.rv_pieces.specs.Named.{PieceFits, label_named, symbol_named, external_named, has_words}

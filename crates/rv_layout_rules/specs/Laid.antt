@@ -16,7 +16,7 @@ use Rattle.rv_layout_rules.specs.declared.form.Form.{Form}
 use Rattle.rv_layout_rules.specs.Externals.{externals, external_number}
 use Rattle.rv_layout_rules.specs.Forms.{piece_words, total_words, label_word_offset, none_far, AreForms, Reach}
 use Rattle.rv_layout_rules.specs.Words.{NameAddresses, words_from}
-use Rattle.lin_ir.specs.declared.descr.Descr.{Descr}
+use Rattle.rv_emit_rules.specs.Known.{Descr}
 use Rattle.rv_machine.specs.Memory.{code_start}
 use Rattle.rv_pieces.specs.declared.piece.Piece.{Piece}
 use Rattle.rv_pieces.specs.declared.piece.Piece.TheVariants.{Descriptor}

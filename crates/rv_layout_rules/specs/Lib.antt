@@ -5,3 +5,4 @@ pub mod Laid
 pub mod TooLarge
 pub mod Conditions
 pub mod Stands
+pub mod Known

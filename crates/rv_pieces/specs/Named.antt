@@ -1,6 +1,6 @@
 -- What pieces name, what places and marks they have, and whether their numbers fit.
 use Rattle.std.specs.Prelude.{ℕ, Bool, true, false, List, [], ◌∷◌, ◌++◌, Option, Some, None, ⊤}
-use Rattle.mach_ir.specs.declared.op.External.{External}
+use Rattle.lin_ir.specs.Known.{External}
 use Rattle.lin_ir.specs.declared.descr.Descr.{Descr}
 use Rattle.rv_isa.specs.Encoding.{InstrFits}
 use Rattle.rv_pieces.specs.declared.piece.Piece.{Piece}

@@ -9,7 +9,7 @@ use Rattle.cmm_grammar.specs.Rule.{AnExpression, ABinding, ACase, AHandler}
 use Rattle.cmm_grammar.specs.Spelling.{AreItems}
 use Rattle.cmm_grammar.proofs.Giving.{Facts, PartsHave, tokens_any}
 use Rattle.cmm_grammar.proofs.GivingForms.{IsClosed, items_known, functions_known, any_datum}
-use Rattle.selection_laws.specs.Accepted.{HaveCases, RowHaveCases, BoundHaveCases, CasesHaveCases, HandlersHaveCases}
+use Rattle.selection_promise.specs.Known.{HaveCases, RowHaveCases, BoundHaveCases, CasesHaveCases, HandlersHaveCases}
 
 abbrev case_facts : Facts
 case_facts = record { token = λ t. Unit {0}; expression = λ d e. HaveCases e; name = λ name. Unit {0}; datum = λ d. Unit {0} }

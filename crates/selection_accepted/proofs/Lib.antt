@@ -5,3 +5,4 @@ pub mod DataBytes
 pub mod Beginning
 pub mod Promised
 pub mod Room
+pub mod Known

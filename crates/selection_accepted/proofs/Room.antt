@@ -10,7 +10,7 @@ use Rattle.cmm_limits.specs.Limits as limits
 use Rattle.cmm_tree.specs.Measures.{counts_one, row_total, bindings_total, cases_total, handlers_total, nodes_in}
 use Rattle.cmm_tree.specs.Symbols.{DefinedSymbol}
 use Rattle.cmm_tree.specs.Tree.{FunctionTree, FileTree, functions, Expression, Integer, Pointer, Symbol, Name, Nothing, Float, Let, Assign, Operator, Load, Store, Alloc, App, Extcall, Checkbound, Raise, Seq, If, Switch, Catch, Exit, Try, Expressions, NoMore, More, Bindings, NoBinding, Bind, Cases, NoCase, Choose, Handlers, NoHandler, Handle}
-use Rattle.selection_laws.proofs.Accepting.{left, right, holds_if}
+use Rattle.selection_promise.proofs.Known.{left, right, holds_if}
 use Rattle.selection_promise.specs.Selects.{IsAccepted}
 use Rattle.selection_promise.proofs.Promised.{few_tokens, narrow_body}
 use Rattle.selection_accepted.proofs.Promised.{function_accepted}

@@ -18,9 +18,8 @@ use Rattle.cmm_reader.specs.Text as said
 use Rattle.cmm_reader.specs.Text.{ReadsAs}
 use Rattle.cmm_reader.proofs.Measured.{read_measured}
 use Rattle.cmm_front.specs.FileOf.{IsFileOf}
-use Rattle.selection_laws.specs.Accepted.{Accepted, HaveCases}
-use Rattle.selection_laws.proofs.Accepting.{left, right, accepted_fits}
-use Rattle.selection_laws.proofs.Widths.{few_numbers}
+use Rattle.selection_promise.specs.Known.{Accepted, HaveCases}
+use Rattle.selection_promise.proofs.Known.{left, right, accepted_fits, few_numbers}
 use Rattle.selection_promise.proofs.Promised.{few_tokens}
 use Rattle.selection_accepted.specs.Selectable.{Selectable}
 use Rattle.selection_accepted.proofs.HaveCases.{items_have_cases}

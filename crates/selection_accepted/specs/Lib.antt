@@ -1,1 +1,2 @@
 pub mod Selectable
+pub mod Known

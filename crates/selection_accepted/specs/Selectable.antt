@@ -2,7 +2,7 @@
 use Rattle.std.specs.Prelude.{◌<◌, ◌^◌}
 use Rattle.cmm_tree.specs.Tree.{FunctionTree}
 use Rattle.selection_rules.specs.Select.{width}
-use Rattle.selection_laws.specs.Fits.{FunctionFits}
+use Rattle.selection_promise.specs.Known.{FunctionFits}
 
 pub record Selectable (f : FunctionTree) : Type 0 where
   -- its tree fits

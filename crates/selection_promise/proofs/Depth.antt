@@ -23,7 +23,7 @@ use Rattle.mach_ir.specs.declared.reg.Reg.{Reg}
 use Rattle.selection_rules.specs.Instructions.{bare_mark}
 use Rattle.selection_rules.specs.Instructions as emit
 use Rattle.selection_rules.specs.Select.{Code, OperandShape, InRegisters, ConstantRight, ConstantLeft, PowerRight, operation_shape, shape_op, shape_right, shape_args, power_code, operator_code, NamedRegister, Label, scopes, reg_of, visible_label, move_from, move_to, moves_all, exit_to_handler, from_seat, called_symbol, bound_test_operand, bound_test, comparison, select_test, is_based, select_base, call_of, regs_of, select, select_waiting, select_filled, select_bound, select_seq, select_cases, select_handlers, labels_within_try, cell_stores, return_code, selected, first_after_colours, is_no_value, fresh_register, seats}
-use Rattle.selection_places.proofs.Whole.{value_at, params_of, env_of}
+use Rattle.selection_walks.proofs.Known.{value_at, params_of, env_of}
 use Rattle.pass_rules.specs.Carried.{TriesAtMost}
 use Rattle.selection_rules.proofs.Choices.{kept_when, kept_unless, kept_constant, kept_left, kept_right, kept_tested, kept_if, kept_ordered}
 

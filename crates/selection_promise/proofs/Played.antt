@@ -22,7 +22,7 @@ use Rattle.mach_ir.specs.Meaning.{State}
 use Rattle.mach_ir.specs.Runs.{Tally, RunProgress, Wrong}
 use Rattle.selection_rules.specs.Select.{selected, width}
 use Rattle.selection_rules.proofs.Plays.{Alike, Meets, returned, threw, running, asking, improper, left_by_exit}
-use Rattle.selection_laws.specs.Fits.{FunctionFits}
+use Rattle.selection_walks.specs.Known.{FunctionFits}
 use Rattle.selection_walks.proofs.Keeps.{accepted_keeps, accepted_proper}
 use Rattle.selection_promise.specs.Runs.{Beside, EndsAs, PlaysAs, evaluated}
 use Rattle.selection_promise.specs.Runs as spec

@@ -16,16 +16,7 @@ use Rattle.cmm_types.specs.Gathered.{comp_faults, params_faults}
 use Rattle.mach_ir.specs.Formed.{comps}
 use Rattle.mach_ir.specs.Sizes.{HasSize, IsSmallSize}
 use Rattle.selection_rules.specs.Select.{selected, first_after_colours, comp_of_type, params_from, seats, width}
-use Rattle.selection_laws.proofs.Accepting.{left, right, accepted_fits, holds_if}
-use Rattle.selection_laws.proofs.Proper.{selected_seated}
-use Rattle.selection_laws.proofs.Widths.{few_numbers}
-use Rattle.selection_places.proofs.Formed.{selected_well_formed}
-use Rattle.selection_places.proofs.Fresh.{selected_allocates, selected_starts}
-use Rattle.selection_places.proofs.NamedOnes.{selected_symbols, selected_externals}
-use Rattle.selection_places.proofs.Opens.{selected_open_by_tokens}
-use Rattle.selection_places.proofs.Placed.{selected_placed}
-use Rattle.selection_places.proofs.Small.{selected_small, selected_no_slot}
-use Rattle.selection_places.proofs.Whole.{selected_origin}
+use Rattle.selection_walks.proofs.Known.{left, right, accepted_fits, holds_if, selected_seated, few_numbers, selected_well_formed, selected_allocates, selected_starts, selected_symbols, selected_externals, selected_open_by_tokens, selected_placed, selected_small, selected_no_slot, selected_origin}
 use Rattle.selection_walks.proofs.Keeps.{accepted_no_addr}
 use Rattle.selection_promise.specs.Selects.{IsAccepted, Selects, size_by}
 use Rattle.selection_promise.proofs.Depth.{selected_tries}

@@ -24,8 +24,7 @@ use Rattle.mach_ir.specs.declared.op.Access.TheVariants as access
 use Rattle.mach_ir.specs.declared.op.Op.TheVariants as op
 use Rattle.mach_ir.specs.declared.reg.Reg.{Reg}
 use Rattle.pass_rules.specs.Carried.{TriesAtMost, OffsetFits}
-use Rattle.selection_laws.specs.Accepted.{Accepted}
-use Rattle.selection_places.specs.Names.{FunctionNames, FunctionCalls}
+use Rattle.selection_walks.specs.Known.{Accepted, FunctionNames, FunctionCalls}
 use Rattle.selection_promise.specs.Runs.{PlaysAs}
 
 -- What the front has found of a function that it accepts, where these symbols are defined.

@@ -14,3 +14,4 @@ pub mod Accesses
 pub mod Claims
 pub mod NoAddress
 pub mod Keeps
+pub mod Known

@@ -7,3 +7,4 @@ pub mod Sizes
 pub mod Whole
 pub mod Runs
 pub mod Chosen
+pub mod Known

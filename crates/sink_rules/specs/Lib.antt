@@ -1,3 +1,4 @@
 pub mod Walks
 pub mod Sunk
 pub mod Chosen
+pub mod Known

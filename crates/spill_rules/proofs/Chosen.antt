@@ -26,8 +26,7 @@ use Rattle.mach_laws.specs.Expand.{expand, Ending}
 use Rattle.mach_laws.proofs.Places.{ending_next, ending_short, ending_of, args_in, contains_of}
 use Rattle.mach_laws.proofs.Walking.{drop_ending, only_on}
 use Rattle.mach_laws.proofs.Among.{number_among, among_of}
-use Rattle.colouring_rules.proofs.Open.{machine_open}
-use Rattle.colouring_rules.proofs.Lists.{was}
+use Rattle.split_rules.proofs.Known.{machine_open, was}
 use Rattle.split_rules.proofs.Result.{comes_write}
 use Rattle.split_rules.specs.Writes.{WriteReaches, from_entry, from_write, past, past_raise, IsWrite, by_entry, by_instr}
 use Rattle.spill_rules.specs.Chosen.{LivesOver, Lost, over, still, IsReloaded, IsSpillChoice, IsSpilled, ParamsPlaced, IsNeededSlot, IsChosenKept}

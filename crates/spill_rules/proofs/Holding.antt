@@ -23,7 +23,7 @@ use Rattle.mach_laws.proofs.General.{at}
 use Rattle.mach_laws.proofs.Places.{ending_next, ending_label, ending_from_handler, stands_of, args_in}
 use Rattle.mach_laws.proofs.Among.{number_among, among_or_not}
 use Rattle.mach_laws.proofs.Files.{put_other}
-use Rattle.colouring_rules.proofs.Files.{put_here, put_both}
+use Rattle.split_rules.proofs.Known.{put_here, put_both}
 use Rattle.spill_rules.specs.Spilled.{copy_instruction}
 
 -- what is read holds something

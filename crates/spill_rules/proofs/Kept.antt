@@ -31,7 +31,7 @@ use Rattle.mach_laws.proofs.Among.{left_among, right_among, split_among, number_
 use Rattle.mach_laws.proofs.Files.{put_other}
 use Rattle.mach_laws.proofs.Raised.{IsRaised, IsSilent, label_silent, try_silent, told}
 use Rattle.mach_laws.proofs.Walking.{across_live}
-use Rattle.colouring_rules.proofs.Files.{values_same, past_same, cleared, not_cleared, put_here, PutsBoth, put_both}
+use Rattle.split_rules.proofs.Known.{values_same, past_same, cleared, not_cleared, put_here, PutsBoth, put_both}
 use Rattle.split_rules.specs.Writes.{from_entry, past, past_raise}
 use Rattle.liveness.proofs.Bounds.{killed_is_colour}
 use Rattle.spill_rules.specs.Spilled.{SpillPlan, in_slot, copy_instruction, reload, spill, reloads_of, spills_of, operand_registers, written_results, spilled_instr, spilled, IsSpillPlan}

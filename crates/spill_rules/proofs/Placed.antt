@@ -15,8 +15,7 @@ use Rattle.mach_ir.specs.declared.mach.Instr.{Instr}
 use Rattle.mach_ir.specs.declared.mach.Mach.{Mach}
 use Rattle.mach_laws.specs.Expand.{expand, Ending, all}
 use Rattle.mach_laws.proofs.Places.{label_expand, ending_next, ending_label, ending_of, results_in, contains_of, stands_in}
-use Rattle.colouring_rules.proofs.Open.{machine_slot}
-use Rattle.colouring_rules.proofs.Walked.{colour_place}
+use Rattle.split_rules.proofs.Known.{machine_slot, colour_place}
 use Rattle.spill_rules.specs.Spilled.{SpillPlan, in_slot, written_results, has_results, spilled_instr, spilled, IsSpillPlan}
 use Rattle.spill_rules.proofs.Formed.{IsCopy, is_reload, is_spill, IsMain, was_main}
 use Rattle.spill_rules.proofs.Kept.{Which, own, slotted, WasRegister, was_register}

@@ -5,3 +5,4 @@ pub mod Kept
 pub mod Whole
 pub mod Result
 pub mod One
+pub mod Known

@@ -6,7 +6,7 @@ use Rattle.cmm_tree.specs.Tree.{FileTree}
 use Rattle.command_line.specs.Command.{CheckTree}
 use Rattle.image_form.specs.Tables.{Tables}
 use Rattle.rv_layout_rules.specs.TooLarge.{first_too_large}
-use Rattle.made_functions.specs.Files.{AreTablesMadeFor}
+use Rattle.file_compile.specs.Known.{AreTablesMadeFor}
 use Rattle.choices.specs.Defaults.{defaults}
 use Rattle.text_commands.proofs.Passing.{not_roomy, only_made}
 use Rattle.text_commands.specs.Arguments.{IsCall}

@@ -7,3 +7,4 @@ pub mod Called
 mod Fitting
 mod Compiled
 mod Listed
+pub mod Known

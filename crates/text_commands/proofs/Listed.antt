@@ -11,7 +11,7 @@ use Rattle.file_compile.specs.Listed.{AreFunctionTexts, IsImageText, image_text,
 use Rattle.image_form.specs.Image.{AreTables}
 use Rattle.image_form.specs.Tables.{Tables}
 use Rattle.rv_layout_rules.specs.TooLarge.{first_too_large}
-use Rattle.made_functions.specs.Files.{AreTablesMadeFor}
+use Rattle.file_compile.specs.Known.{AreTablesMadeFor}
 use Rattle.choices.specs.Defaults.{defaults}
 use Rattle.stages.specs.declared.stage.Stage.{Stage}
 use Rattle.text_commands.proofs.Passing.{only_made}

@@ -8,9 +8,9 @@ use Rattle.correctness.specs.Bounds.{IsRoomy}
 use Rattle.file_compile.proofs.Promised.{roomy_fits}
 use Rattle.image_form.specs.Tables.{Tables}
 use Rattle.rv_layout_rules.specs.TooLarge.{first_too_large}
-use Rattle.made_functions.specs.Files.{AreTablesMadeFor}
+use Rattle.file_compile.specs.Known.{AreTablesMadeFor}
 use Rattle.choices.specs.Defaults.{defaults}
-use Rattle.file_promise.proofs.Once.{made_for_once}
+use Rattle.file_compile.proofs.Known.{made_for_once}
 use Rattle.text_commands.specs.Compile.{IsOnlyMadeFor, IsTooLarge}
 
 pub only_made : (file : FileTree) (image : Tables) → AreTablesMadeFor defaults file image → IsOnlyMadeFor file image

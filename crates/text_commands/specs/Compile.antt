@@ -6,11 +6,10 @@ use Rattle.cmm_tree.specs.Tree.{FileTree}
 use Rattle.correctness.specs.Bounds.{IsBounded, IsRoomy}
 use Rattle.correctness.specs.Correct.{IsCorrect}
 use Rattle.correctness.specs.InNeed.{AsksInNeed}
-use Rattle.made_functions.specs.Exact.{IsExact}
+use Rattle.file_compile.specs.Known.{IsExact, AreTablesMadeFor}
 use Rattle.image_form.specs.Image.{AreTables}
 use Rattle.image_form.specs.Tables.{Tables}
 use Rattle.rv_layout_rules.specs.TooLarge.{first_too_large}
-use Rattle.made_functions.specs.Files.{AreTablesMadeFor}
 use Rattle.choices.specs.Defaults.{defaults}
 
 -- This image is made for the file, and no other.

@@ -7,3 +7,4 @@ pub mod CheckRefusal
 pub mod Listing
 pub mod Trial
 pub mod Ready
+pub mod Known

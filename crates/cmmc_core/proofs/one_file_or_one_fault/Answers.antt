@@ -1,5 +1,5 @@
 use Rattle.cmm_front.proofs.OneFile.{one_file, one_fault, file_or_fault}
-use Rattle.file_promise.proofs.Bytes.{bytes_of}
+use Rattle.commands.proofs.Known.{bytes_of}
 use Rattle.cmmc_core.proofs.one_file_or_one_fault.Goals as goal
 
 pub returns : goal.returns

@@ -1,6 +1,5 @@
 use Rattle.code_bounds.proofs.Bounded.{bounded, frame_small, frame_fits}
-use Rattle.made_functions.proofs.Ordered.{linear_of}
-use Rattle.placed_functions.proofs.Placed.{placed_for}
+use Rattle.chained_functions.proofs.Known.{linear_of, placed_for}
 use Rattle.code_bounds.proofs.made_functions_are_small.Goals as goal
 
 pub returns-clause-bounded : goal.returns-clause-bounded

@@ -1,5 +1,5 @@
 use Rattle.std.proofs.Common.{arith}
-use Rattle.file_promise.proofs.Bytes.{all_bytes}
+use Rattle.text_commands.proofs.Known.{all_bytes}
 use Rattle.commands.proofs.list.list_bytes.Goals as goal
 
 pub returns-clause-are_bytes : goal.returns-clause-are_bytes

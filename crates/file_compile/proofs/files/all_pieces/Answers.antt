@@ -4,7 +4,7 @@ use Rattle.cmm_tree.specs.View.{function_view}
 use Rattle.cmm_tree.specs.declared.file.Function.{Function}
 use Rattle.fork_join.specs.Calls.{AreGiven}
 use Rattle.fork_join.proofs.Each.{given_weaker, given_each}
-use Rattle.made_functions.specs.Files.{IsFunctionMade}
+use Rattle.file_promise.specs.Known.{IsFunctionMade}
 use Rattle.file_compile.specs.Pieces.{ArePiecesAt}
 use Rattle.file_compile.proofs.Making.{made_trees}
 use Rattle.file_compile.proofs.files.all_pieces.Goals as goal

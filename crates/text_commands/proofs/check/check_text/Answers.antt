@@ -4,7 +4,7 @@ use Rattle.eval_frames.specs.Views.{layout_view}
 use Rattle.cmm_meaning.specs.Layout.{Layout}
 use Rattle.cmm_tree.specs.Tree.{FileTree, functions}
 use Rattle.cmm_tree.specs.View.{file_view}
-use Rattle.file_promise.proofs.Made.{few_functions}
+use Rattle.file_compile.proofs.Known.{few_functions}
 use Rattle.image_form.specs.Tables.{tables}
 use Rattle.text_commands.proofs.Passing.{only_made}
 use Rattle.text_commands.specs.Check.{report_of_run}

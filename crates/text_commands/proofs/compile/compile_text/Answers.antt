@@ -1,7 +1,7 @@
 use Rattle.std.proofs.Common.{rules, arith}
 use Rattle.cmm_tree.specs.View.{file_view}
 use Rattle.image_form.specs.Tables.{tables}
-use Rattle.file_promise.proofs.Bytes.{all_bytes}
+use Rattle.file_compile.proofs.Known.{all_bytes}
 use Rattle.text_commands.proofs.Listed.{image_of}
 use Rattle.text_commands.proofs.Passing.{too_large}
 use Rattle.text_commands.proofs.compile.compile_text.Goals as goal

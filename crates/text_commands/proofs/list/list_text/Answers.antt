@@ -3,7 +3,7 @@ use Rattle.bs_words.specs.Contents.{contents}
 use Rattle.cmm_tree.specs.View.{file_view}
 use Rattle.file_compile.proofs.Promised.{stage_text_once}
 use Rattle.choices.specs.Defaults.{defaults}
-use Rattle.file_promise.proofs.Bytes.{all_bytes}
+use Rattle.file_compile.proofs.Known.{all_bytes}
 use Rattle.text_commands.proofs.Listed.{lists_image}
 use Rattle.text_commands.proofs.Passing.{too_large}
 use Rattle.text_commands.proofs.list.list_text.Goals as goal

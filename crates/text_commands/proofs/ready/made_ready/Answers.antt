@@ -2,8 +2,7 @@ use Rattle.std.proofs.Common.{◌≡◌, ◌<◌, length, refl, sym, subst, rule
 use Rattle.std.specs.Prelude.{◌^◌}
 use Rattle.cmm_tree.specs.Tree.{FileTree, functions}
 use Rattle.cmm_tree.specs.View.{file_view}
-use Rattle.file_promise.proofs.Bytes.{all_bytes}
-use Rattle.file_promise.proofs.Made.{few_functions}
+use Rattle.file_compile.proofs.Known.{all_bytes, few_functions}
 use Rattle.text_commands.proofs.Compiled.{too_large_to_check}
 use Rattle.text_commands.proofs.ready.made_ready.Goals as goal
 

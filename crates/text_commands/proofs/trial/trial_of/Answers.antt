@@ -8,8 +8,7 @@ use Rattle.cmm_tree.specs.Tree.{FileTree, functions}
 use Rattle.cmm_tree.specs.View.{file_view}
 use Rattle.command_line.specs.View.{check_view}
 use Rattle.image_form.specs.Tables.{tables}
-use Rattle.file_promise.proofs.Bytes.{all_bytes}
-use Rattle.file_promise.proofs.Made.{few_functions}
+use Rattle.file_compile.proofs.Known.{all_bytes, few_functions}
 use Rattle.text_commands.proofs.Listed.{tried}
 use Rattle.text_commands.specs.Lines.{cmm_outcome_text}
 use Rattle.text_commands.proofs.trial.trial_of.Goals as goal

@@ -1,0 +1,2 @@
+-- What crates above use of those below, handed on: a line in crates.txt for each would cost the gate its start.
+pub use Rattle.deadcode_rules.specs.Dropped.{AreDead, IsDropped, dropped, unless_dropped}

@@ -1,0 +1,2 @@
+-- What crates above use of those below, handed on: a line in crates.txt for each would cost the gate its start.
+pub use Rattle.linking_stages.proofs.Walking.{reached_walks}
