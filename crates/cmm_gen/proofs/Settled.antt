@@ -187,7 +187,7 @@ record Stepped (events : List Event) (left : List Task) : Type 0 where
 quiet : (left : List Task) → AreTasks left → Stepped [] left
 quiet left ts = record { plain = none; tasks = ts }
 
-plain_step : (tasks left : List Task) (events : List Event) → Walks.Next tasks events left → AreTasks tasks → Stepped events left
+plain_step : (tasks left : List Task) (events : List Event) → Walks.NextTasks tasks events left → AreTasks tasks → Stepped events left
 plain_step _ _ _ (Walks.does event tasks) (more _ _ (does _ p) ps) = record { plain = more event [] p none; tasks = ps }
 plain_step _ _ _ (Walks.evaluates scope slot e tasks) (more _ _ (evaluates _ _ _ p) ps) =
     quiet _ (joined _ _ (are_tasks scope slot e p) ps)
