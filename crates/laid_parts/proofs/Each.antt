@@ -306,7 +306,7 @@ callee_more first_location more (by_register {t}) = (t, more, refl)
 
 pub tail_more : (result : _) (xs ys : List Comp) → HasForm (op.Calling (calling.TailCall callee.Register result)) xs ys →
     (t : Comp) × (ts : List Comp) × (xs ≡ t ∷ ts)
-tail_more result xs ys (tail_calls {first_location} more is) = callee_more first_location more is
+tail_more result xs ys (tail_calls {first} more is) = callee_more first more is
 
 pub check_inv : (o : Right) (xs ys : List Comp) → HasForm (op.Leaving (leaving.Checkbound o)) xs ys →
     (t : Comp) × (ts : List Comp) × (xs ≡ t ∷ ts) × IsRight (operator.CmpU compare.Lt) o ts × (ys ≡ [])
@@ -317,7 +317,7 @@ raise_inv xs ys raises = refl
 
 pub call_more : (result : _) (xs ys : List Comp) → HasForm (op.Calling (calling.Call callee.Register result)) xs ys →
     (t : Comp) × (ts : List Comp) × (xs ≡ t ∷ ts)
-call_more result xs ys (calls {first_location} more is) = callee_more first_location more is
+call_more result xs ys (calls {first} more is) = callee_more first more is
 
 -- what is after a branch is no matter
 targets_up_to : (n : ℕ) (xs : List Piece) (p : Piece) (ys : List Piece) → is_target n xs ≡ false → is_among_numbers n (piece_targets p) ≡ false →
