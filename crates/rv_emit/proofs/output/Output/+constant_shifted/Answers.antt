@@ -2,7 +2,7 @@
 use Rattle.std.proofs.Common.{◌≡◌, ℕ, suc, ◌+◌, ◌-◌, true, false, List, ◌∷◌, ◌++◌, IfOk, sym, ap, ◌∙◌, subst, arith}
 use Rattle.rv_pieces.specs.declared.piece.Piece.{Piece}
 use Rattle.rv_emit_rules.specs.Instructions.{addi}
-use Rattle.rv_emit_rules.specs.Constants.{is_word_32, constant_32, higher, shifted, constant_shifted}
+use Rattle.rv_emit_rules.specs.Constants.{is_word_32, constant_32, upper_constant, shifted, constant_shifted}
 use Rattle.rv_emit.proofs.Shifting.{ends_at_word, passes_zeros, adds_bits, three}
 use Rattle.rv_emit.proofs.output.Output.+constant_shifted.Goals as goal
 
@@ -18,7 +18,7 @@ pub returns-then-word-eq0 : goal.returns-then-word-eq0
 returns-then-word-eq0 t c =
     let h : is_word_32 c.args.word ≡ false = sym c.if-is_word_32.ensures in
     let n : c.args.steps ≡ suc (c.args.steps - 1) = omega arith in
-    let f : c.higher.result ≡ higher c.args.word = c.higher.ensures in
+    let f : c.higher.result ≡ upper_constant c.args.word = c.higher.ensures in
     let e : constant_shifted (c.args.steps - 1) c.args.to c.higher.result (c.args.amount + 12) ≡ constant_shifted c.args.steps c.args.to c.args.word c.args.amount =
     ap (λ (w : ℕ). constant_shifted (c.args.steps - 1) c.args.to w (c.args.amount + 12)) f
     ∙ sym (passes_zeros c.args.steps (c.args.steps - 1) c.args.to c.args.word c.args.amount n h c.if-word-eq0.true) in
@@ -29,7 +29,7 @@ pub returns : goal.returns
 returns t c =
     let h : is_word_32 c.args.word ≡ false = sym c.if-is_word_32.ensures in
     let n : c.args.steps ≡ suc (c.args.steps - 1) = omega arith in
-    let f : c.higher-2.result ≡ higher c.args.word = c.higher-2.ensures in
+    let f : c.higher-2.result ≡ upper_constant c.args.word = c.higher-2.ensures in
     let e : constant_shifted (c.args.steps - 1) c.args.to c.higher-2.result 12 ++ addi c.args.to c.args.to c.args.word ∷ shifted c.args.to c.args.amount
     ≡ constant_shifted c.args.steps c.args.to c.args.word c.args.amount =
     ap (λ (w : ℕ). constant_shifted (c.args.steps - 1) c.args.to w 12 ++ addi c.args.to c.args.to c.args.word ∷ shifted c.args.to c.args.amount) f
