@@ -4,6 +4,8 @@ use Rattle.file_promise.proofs.Known.{linear_in_order, within, frame_fits, line_
 use Rattle.cmm_tree.specs.Tree.{FunctionTree, FileTree, functions}
 use Rattle.rv_emit_rules.specs.Emitted.{IsEmitted}
 use Rattle.lin_ir.specs.Descriptors.{AreExact, FitsDescriptors, frame_point_count}
+use Rattle.lin_ir.specs.Formed.{AreLocated}
+use Rattle.lin_ir.specs.Walks.{OneDepth}
 use Rattle.lin_ir.specs.declared.descr.Descr.{Descr}
 use Rattle.lin_ir.specs.declared.lin.Lin.{Lin}
 use Rattle.mach_ir.specs.Formed.{WellFormed}
@@ -58,24 +60,32 @@ pub can_be_selected : (tree : FunctionTree) → IsAcceptedFunction tree → IsSe
 can_be_selected tree accepted =
     selection_room (definitions accepted.file) tree (function_accepted accepted.of_file.text accepted.file accepted.of_file.is_file tree accepted.among)
 
-module _ (tree : FunctionTree) (accepted : IsAcceptedFunction tree) {choices : Choices} where
+module _ (tree : FunctionTree) (accepted : IsAcceptedFunction tree) where
   known_here : IsAccepted (definitions accepted.file) tree
   known_here = function_accepted accepted.of_file.text accepted.file accepted.of_file.is_file tree accepted.among
 
-  -- what is allocated for a function is placed for it
-  pub allocated_placed : (m : Mach) → IsAllocatedFor choices tree m → IsPlacedFor tree m
-  allocated_placed m a = placed_for known_here a.is_prepared a.allocated
+  module _ {choices : Choices} where
+    -- what is allocated for a function is placed for it
+    pub allocated_placed : (m : Mach) → IsAllocatedFor choices tree m → IsPlacedFor tree m
+    allocated_placed m a = placed_for known_here a.is_prepared a.allocated
 
-  -- with numbers for its lines
-  pub allocated_line_room : (m : Mach) → IsAllocatedFor choices tree m → HasLineRoom m
-  allocated_line_room m a = line_room known_here (allocated_placed m a)
+    -- with numbers for its lines
+    pub allocated_line_room : (m : Mach) → IsAllocatedFor choices tree m → HasLineRoom m
+    allocated_line_room m a = line_room known_here (allocated_placed m a)
 
-  -- and its lines are what descriptors ask
-  pub lines_within : (l : Lin) → IsLinearFor choices tree l → FitsDescriptors l
-  lines_within l are =
-      let placed = allocated_placed are.mach are.is_allocated in
-      let linear = linear_in_order choices.order are.ordered are.linear in
-      within known_here placed linear (frame_fits known_here placed linear)
+    -- and its lines are what descriptors ask
+    pub lines_within : (l : Lin) → IsLinearFor choices tree l → FitsDescriptors l
+    lines_within l are =
+        let placed = allocated_placed are.mach are.is_allocated in
+        let linear = linear_in_order choices.order are.ordered are.linear in
+        within known_here placed linear (frame_fits known_here placed linear)
+
+-- Lines have locations of the machine, and each of them is reached with one number of pushed traps.
+pub lines_located : {choices : Choices} {tree : FunctionTree} (l : Lin) → IsLinearFor choices tree l → AreLocated l
+lines_located {choices} l are = (linear_in_order choices.order are.ordered are.linear).regular.well.locations
+
+pub lines_depth : {choices : Choices} {tree : FunctionTree} (l : Lin) → IsLinearFor choices tree l → OneDepth l
+lines_depth {choices} l are = (linear_in_order choices.order are.ordered are.linear).regular.well.traps.depth
 
 -- the pieces of its lines are made of it
 pub function_made : {tree : FunctionTree} {choices : Choices} (lin : Lin) → IsLinearFor choices tree lin → (ds : List Descr) (pieces : Pieces) → AreExact lin ds →
