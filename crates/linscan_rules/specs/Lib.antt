@@ -1,0 +1,4 @@
+pub mod Scan
+pub mod Intervals
+pub mod Rows
+pub mod Contract

@@ -1,0 +1,5 @@
+use Rattle.moved_data.proofs.Placed.{unit_begins}
+use Rattle.moved_data.proofs.units_begin_at_multiples.Goals as goal
+
+pub returns : goal.returns
+returns c = unit_begins

@@ -1,0 +1,5 @@
+pub mod Rules
+pub mod Spelling
+pub mod Grammar
+pub mod Lexing
+pub mod Alike

@@ -1,0 +1,4 @@
+pub mod Tries
+pub mod Walked
+pub mod Doing
+pub mod Kept

@@ -1,0 +1,4 @@
+pub mod Straight
+pub mod Orders
+pub mod Keeps
+pub mod Example
