@@ -17,7 +17,7 @@ use Rattle.bs_words.specs.declared.types.Comp.{Comp}
 use Rattle.bs_words.specs.declared.types.Comp.TheVariants as comp
 use Rattle.bs_words.specs.declared.types.Ty.{Ty}
 use Rattle.bs_words.specs.declared.types.Ty.TheVariants as ty
-use Rattle.cmm_data.specs.Contents.{root_at, roots_among}
+use Rattle.cmm_data.specs.Contents.{root_of_item, roots_among}
 use Rattle.cmm_data.specs.Faults.{keeps_rule, first_fault}
 use Rattle.cmm_data.specs.Placement.{PlacedItem, DataSymbolTree, size_at, items_from, start_behind, end_behind, lists_behind, lists_of, items_of_lists, symbols_of}
 use Rattle.cmm_data.proofs.Steps.{end-within}
@@ -212,7 +212,7 @@ all_rows (f ∷ fs) each = (each f (contains_head f fs), all_rows fs (λ g c. ea
 
 -- ---- root cells
 
-root_even : (address : ℕ) (d : DatumTree) → keeps_rule address d ≡ true → IsFine d → AllByRecursion (λ address. address % 8 ≡ 0) (root_at address d)
+root_even : (address : ℕ) (d : DatumTree) → keeps_rule address d ≡ true → IsFine d → AllByRecursion (λ address. address % 8 ≡ 0) (root_of_item address d)
 root_even address (Val (Some w)) keeps fine = (eqb-true (address % 8) 0 (and_parts (address % 8 == 0) (w % 2 == 1) keeps).0, tt)
 root_even address (Val None) keeps fine = absurd (let z : false ≡ true = fine in cc)
 root_even address (Address true name_at name) keeps fine = (eqb-true (address % 8) 0 keeps, tt)
@@ -225,7 +225,7 @@ item_roots address [] within none fine = tt
 item_roots address (i ∷ items) within none fine =
     let sound = sound-first address i items within none in
     let next = address + size_at address i.datum in
-    all_append (λ address. address % 8 ≡ 0) (root_at address i.datum) (roots_among (items_from next items))
+    all_append (λ address. address % 8 ≡ 0) (root_of_item address i.datum) (roots_among (items_from next items))
     (root_even address i.datum sound.rule fine.0) (item_roots next items sound.within sound.behind fine.1)
 
 list_roots : (end : ℕ) (ds : List DataListTree) → end ≤ data_start + data_limit → first_fault (items_of_lists (lists_behind end ds)) ≡ None →
@@ -236,7 +236,7 @@ list_roots end (d ∷ ds) within none fine =
     let start = start-within end within in
     let own = items_from (start_behind end) d.items in
     let later = items_of_lists (lists_behind (end_behind end d) ds) in
-    subst (AllByRecursion (λ address. address % 8 ≡ 0)) (sym (flat_map-append (λ (i : PlacedItem). root_at i.address i.datum) own later))
+    subst (AllByRecursion (λ address. address % 8 ≡ 0)) (sym (flat_map-append (λ (i : PlacedItem). root_of_item i.address i.datum) own later))
     (all_append (λ address. address % 8 ≡ 0) (roots_among own) (roots_among later)
     (item_roots (start_behind end) d.items start sound.0 fine.0)
     (list_roots (end_behind end d) ds (end-within (start_behind end) d.items start sound.0).1 sound.1 fine.1))

@@ -1,7 +1,7 @@
 //! The services of the machine that move every block of the heap.
 //!
-//! They are definitions of `rv_machine` (`specs/Allocation.antt` and `specs/FrameCalls.antt`). `allocate` and
-//! `collect` give exactly those, in time linear in the bytes of the blocks and in the stack. It takes no memory: the machine has what is
+//! They are definitions of `rv_machine` (`specs/Allocation.antt` and `specs/FrameCalls.antt`). `serve_allocation` and
+//! `serve_frame_call` give exactly those, in time linear in the bytes of the blocks and in the stack. It takes no memory: the machine has what is
 //! needed.
 #![tactic(auto)]
 
@@ -20,4 +20,4 @@ mod young;
 
 pub use plan::Plan;
 pub use service_end::ServiceEnd;
-pub use serving::{allocate, collect};
+pub use serving::{serve_allocation, serve_frame_call};

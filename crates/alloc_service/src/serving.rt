@@ -25,7 +25,7 @@ use rv_machine::{Cause, Machine};
 /// A machine that is stopped, or has no heap, is left as it was. A count of the machine stays at the end
 /// of its type.
 #[tactic(auto, unfolding(rv_machine::specs::Allocation::allocation_served))]
-pub fn allocate(machine: &mut Machine<'_>, plan: Plan<'_>) -> ServiceEnd
+pub fn serve_allocation(machine: &mut Machine<'_>, plan: Plan<'_>) -> ServiceEnd
     requires near { machine.old.pc < 2 ^ 32 }
     ensures exact { Serves result
         (with_counts both_counted (allocation_served (plan_of plan.entry) machine.old)) machine.new }
@@ -51,8 +51,8 @@ pub fn allocate(machine: &mut Machine<'_>, plan: Plan<'_>) -> ServiceEnd
 /// Moves the blocks at a frame call, before whose ECALL the machine is. The ECALL does not retire.
 ///
 /// The young blocks lie from s10 up to the young area's top, else `BadRequest`. The other answers are
-/// those of `allocate`.
-pub fn collect(machine: &mut Machine<'_>, plan: Plan<'_>) -> ServiceEnd
+/// those of `serve_allocation`.
+pub fn serve_frame_call(machine: &mut Machine<'_>, plan: Plan<'_>) -> ServiceEnd
     requires near { machine.old.pc < 2 ^ 32 }
     ensures exact { Serves result
         (with_counts services_counted (collected (plan_of plan.entry) machine.old)) machine.new }

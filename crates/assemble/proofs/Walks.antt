@@ -27,7 +27,7 @@ use Rattle.rv_layout_rules.proofs.Rules.{all_words}
 use Rattle.rv_layout_rules.proofs.Standing.{words_by_targets}
 use Rattle.mach_ir.specs.Acts.{external_row}
 use Rattle.rv_layout.specs.Tables.{words_of_labels, IsLabelTable}
-use Rattle.rv_layout.specs.declared.labels.Labels.{Labels}
+use Rattle.rv_layout.specs.declared.labels.LabelOffsets.{LabelOffsets}
 use Rattle.rv_pieces.specs.declared.piece.Piece.{Piece}
 use Rattle.rv_pieces.specs.declared.piece.Piece.TheVariants.{Known, Label, Branch, Jump, Row, LabelAddress, Call, TailCall, SymbolAddress, ExternalNumber, Descriptor}
 use Rattle.rv_pieces.specs.declared.piece.Pieces.{Pieces}
@@ -140,7 +140,7 @@ targets_same : (n m : NameAddresses) → ((p : Piece) → target_of n p ≡ targ
 targets_same n m e [] = refl
 targets_same n m e (p ∷ ps) = ap₂ (λ (t : ℕ) (ts : List ℕ). t ∷ ts) (e p) (targets_same n m e ps)
 
-pub words_placed : (s : Source) (entry at : ℕ) (targets : List ℕ) (labels : Labels) (code' code : List Piece) (fs : List Form) → at ≡ address_of_place entry →
+pub words_placed : (s : Source) (entry at : ℕ) (targets : List ℕ) (labels : LabelOffsets) (code' code : List Piece) (fs : List Form) → at ≡ address_of_place entry →
     targets ≡ map (target_of (addresses_named_by s entry (words_of_labels labels))) code' → code' ≡ code → IsLabelTable code' fs labels →
     words_to at targets code' fs ≡ function_words (tree_of s) (source_entries s) entry code fs
 words_placed s entry at targets labels code' code fs e f g table =

@@ -16,7 +16,7 @@ use crate::source::{Source, place_address};
 use fork_join::map_in_halves;
 use image_form::DescRow;
 use image_form::limits::STUB;
-use rv_layout::{Labels, Placed, label_bound, put_descs, put_words};
+use rv_layout::{LabelOffsets, Placed, label_bound, put_descs, put_words};
 use rv_layout_rules::Form;
 use rv_pieces::Pieces;
 use std::alloc::{AllocError, Global};
@@ -53,7 +53,7 @@ impl<'a, 'b> Source<'a, 'b> {
             (source_entries self.now) entry function.now.code forms.now) }
     {
         let code = function.code.as_slice();
-        let labels = Labels::of(alloc, code, forms, label_bound(code))?;
+        let labels = LabelOffsets::of(alloc, code, forms, label_bound(code))?;
         let targets = self.targets_of(alloc, code, &labels, entry)?;
         let placed = Placed {
             code,

@@ -12,7 +12,7 @@ ghost use Rattle.rv_layout.specs.Tables.{words_of_labels};
 use crate::source::{Source, place_address};
 use bs_words::Name;
 use mach_ir::{External, Label};
-use rv_layout::Labels;
+use rv_layout::LabelOffsets;
 use rv_pieces::Piece;
 use std::alloc::{AllocError, Global};
 
@@ -41,7 +41,7 @@ impl<'a, 'b> Source<'a, 'b> {
     }
 
     /// The address of a label of a function whose entry is this word.
-    fn address_of_label(&self, labels: &Labels, entry: u64, label: Label) -> u32
+    fn address_of_label(&self, labels: &LabelOffsets, entry: u64, label: Label) -> u32
         requires source { IsSource self.now }
         requires fits { first_too_large (laid_of self.now) ≡ None }
         requires low { entry + words_of_labels labels.now label ≤ self.now.places.now.end }
@@ -55,7 +55,7 @@ impl<'a, 'b> Source<'a, 'b> {
         &self,
         alloc: Global,
         piece: &Piece,
-        labels: &Labels,
+        labels: &LabelOffsets,
         entry: u64,
     ) -> Result<u32, AllocError>
         requires source { IsSource self.now }
@@ -91,7 +91,7 @@ impl<'a, 'b> Source<'a, 'b> {
         &self,
         alloc: Global,
         code: &[Piece],
-        labels: &Labels,
+        labels: &LabelOffsets,
         entry: u64,
     ) -> Result<Vec<u32>, AllocError>
         requires source { IsSource self.now }

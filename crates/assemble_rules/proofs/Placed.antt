@@ -9,7 +9,7 @@ use Rattle.bs_words.specs.Fits.{data_start}
 use Rattle.bs_words.specs.Memory.{StaticList}
 use Rattle.bs_words.specs.declared.values.Value.{Value}
 use Rattle.cmm_tree.specs.Tree.{DatumTree, Define, Byte, Half, Int, Val, Address, Skip, Align, Text, Global, AFloat, DataItemTree, DataListTree, FileTree, data_lists}
-use Rattle.cmm_data.specs.Contents.{DataByte, bytes_at, bytes_of_items, cells_of, root_at, roots_among, root_cells, static_list, statics}
+use Rattle.cmm_data.specs.Contents.{DataByte, bytes_at, bytes_of_items, cells_of, root_of_item, roots_among, root_cells, static_list, statics}
 use Rattle.cmm_data.specs.Placement.{DataSymbolTree, PlacedItem, size_at, items_from, end_of_items, start_behind, end_behind, end_of_lists, lists_behind, lists_of, built_in_list, items_of_lists, symbol_at, placed_symbols, symbols_of, value_of_symbol, data_end, data_bytes}
 use Rattle.cmm_data.proofs.Laws.{end_of_items-above}
 use Rattle.cmm_data.proofs.Steps.{length-bytes_at}
@@ -144,7 +144,7 @@ cells_append : (a b c : ℕ) (xs ys : List ℕ) → CellsLie a b xs → CellsLie
 cells_append a b c [] ys h k = cells_less a b c ys h k
 cells_append a b c (x ∷ xs) ys h k = (h.0, cells_append (x + 8) b c xs ys h.1 k)
 
-root_lies : (address : ℕ) (datum : DatumTree) → CellsLie address (address + size_at address datum) (root_at address datum)
+root_lies : (address : ℕ) (datum : DatumTree) → CellsLie address (address + size_at address datum) (root_of_item address datum)
 root_lies address (Define name) = omega arith
 root_lies address (Byte word) = omega arith
 root_lies address (Half word) = omega arith
@@ -162,7 +162,7 @@ item_roots_lie : (address : ℕ) (items : List DataItemTree) → CellsLie addres
 item_roots_lie address [] = omega arith
 item_roots_lie address (i ∷ items) =
     let next = address + size_at address i.datum in
-    cells_append address next (end_of_items next items) (root_at address i.datum) (roots_among (items_from next items)) (root_lies address i.datum) (item_roots_lie next items)
+    cells_append address next (end_of_items next items) (root_of_item address i.datum) (roots_among (items_from next items)) (root_lies address i.datum) (item_roots_lie next items)
 
 list_roots_lie : (end : ℕ) (lists : List DataListTree) → CellsLie end (end_of_lists end lists) (roots_among (items_of_lists (lists_behind end lists)))
 list_roots_lie end [] = omega arith
@@ -174,7 +174,7 @@ list_roots_lie end (d ∷ lists) =
     let high = end_of_lists next lists in
     let both = cells_append start next high (roots_among own) (roots_among rest) (item_roots_lie start d.items) (list_roots_lie next lists) in
     let from = cells_less end start high (roots_among own ++ roots_among rest) (omega arith) both in
-    subst (CellsLie end high) (sym (flat_map-append (λ (i : PlacedItem). root_at i.address i.datum) own rest)) from
+    subst (CellsLie end high) (sym (flat_map-append (λ (i : PlacedItem). root_of_item i.address i.datum) own rest)) from
 
 -- The root cells of a file lie in its data, one after the other.
 pub roots_in_data : (file : FileTree) → CellsLie data_start (data_end file) (root_cells file)

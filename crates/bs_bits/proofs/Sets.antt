@@ -8,7 +8,7 @@ use Rattle.std.proofs.Math.Bool.{and-true, and-false, or-true, or-false}
 use Rattle.std.proofs.lemmas.Nat.Bits.{bit_at-lt, bit_at-zero, bit_at_or, same_from_bits_below}
 use Rattle.bs_bits.specs.Words.{bit, Ors, Changed, HasNoBitFrom, IsNextBit}
 use Rattle.bs_bits.specs.Set.{has, union, Grew, HasNoneFrom, IsNext}
-use Rattle.bs_bits.specs.Bits.{members, IsBits}
+use Rattle.bs_bits.specs.Bits.{set_of_words, IsBits}
 use Rattle.bs_bits.proofs.Members.{has-members, has-members_all, members_is, size_is}
 
 -- ---- unions of sets
@@ -79,17 +79,17 @@ bit_or_is a (suc (suc b)) p q = absurd (omega arith)
 
 -- a call of `union_with`: the sets, their words, and what the words became
 pub record Union (size : ℕ) (words others now : List ℕ) (xs ys : List Bool) : Type 0 where
-  pub view : members size words ≡ xs
-  pub other_view : members size others ≡ ys
+  pub view : set_of_words size words ≡ xs
+  pub other_view : set_of_words size others ≡ ys
   pub bits : IsBits size words
   pub other_bits : IsBits size others
   pub each : Ors words others now
 
 -- two sets of one size, the second with its words lent
-pub lent : (size size' : ℕ) (words words' others : List ℕ) (xs ys : List Bool) → members size words ≡ xs → members size' words' ≡ ys → length xs ≡ length ys → others ≡ words' → (members size others ≡ ys) × (size' ≡ size)
+pub lent : (size size' : ℕ) (words words' others : List ℕ) (xs ys : List Bool) → set_of_words size words ≡ xs → set_of_words size' words' ≡ ys → length xs ≡ length ys → others ≡ words' → (set_of_words size others ≡ ys) × (size' ≡ size)
 lent size size' words words' others xs ys p q len e =
     let same : size' ≡ size = omega (arith, size_is size words xs p, size_is size' words' ys q, len) in
-    (ap (λ (n : ℕ). members n others) (sym same) ∙ (ap (λ (ws : List ℕ). members size' ws) e ∙ q), same)
+    (ap (λ (n : ℕ). set_of_words n others) (sym same) ∙ (ap (λ (ws : List ℕ). set_of_words size' ws) e ∙ q), same)
 
 pub lent_bits : (size size' : ℕ) (words' others : List ℕ) → size' ≡ size → others ≡ words' → IsBits size' words' → IsBits size others
 lent_bits size size' words' others same e bits =
@@ -122,10 +122,10 @@ united_is_bits size words others ors xs ys u = record {
   rest = λ k past. omega (arith, bit-ors size words others ors xs ys u k, u.bits.rest k past, u.other_bits.rest k past);
 }
 
-pub united : (size : ℕ) (words others ors : List ℕ) (xs ys : List Bool) → Union size words others ors xs ys → members size ors ≡ union xs ys
+pub united : (size : ℕ) (words others ors : List ℕ) (xs ys : List Bool) → Union size words others ors xs ys → set_of_words size ors ≡ union xs ys
 united size words others ors xs ys u =
-    let p : members size words ≡ xs = u.view in
-    let q : members size others ≡ ys = u.other_view in
+    let p : set_of_words size words ≡ xs = u.view in
+    let q : set_of_words size others ≡ ys = u.other_view in
     let lx : length xs ≡ size = size_is size words xs p in
     let ly : length ys ≡ size = size_is size others ys q in
     sym
@@ -135,7 +135,7 @@ united size words others ors xs ys u =
     ors
     (length-union xs ys ∙ lx)
     (λ k below.
-    has-union xs ys (lx ∙ sym ly) k ∙ (ap (λ (m : List Bool). has m k || has ys k) (sym p) ∙ (ap (λ (m : List Bool). has (members size words) k || has m k) (sym q) ∙ (ap (λ (b : Bool). b || has (members size others) k) (has-members size words k below) ∙ (ap (λ (b : Bool). (bit words k == 1) || b) (has-members size others k below) ∙ (sym (bit_or_is (bit words k) (bit others k) (bit_at-lt (get_or words (k / 64) 0) (k % 64)) (bit_at-lt (get_or others (k / 64) 0) (k % 64))) ∙ ap (λ (n : ℕ). n == 1) (sym (bit-ors size words others ors xs ys u k)))))))))
+    has-union xs ys (lx ∙ sym ly) k ∙ (ap (λ (m : List Bool). has m k || has ys k) (sym p) ∙ (ap (λ (m : List Bool). has (set_of_words size words) k || has m k) (sym q) ∙ (ap (λ (b : Bool). b || has (set_of_words size others) k) (has-members size words k below) ∙ (ap (λ (b : Bool). (bit words k == 1) || b) (has-members size others k below) ∙ (sym (bit_or_is (bit words k) (bit others k) (bit_at-lt (get_or words (k / 64) 0) (k % 64)) (bit_at-lt (get_or others (k / 64) 0) (k % 64))) ∙ ap (λ (n : ℕ). n == 1) (sym (bit-ors size words others ors xs ys u k)))))))))
 
 -- two lists of words with the same members have the same bits
 same_bit : (a b : ℕ) → a < 2 → b < 2 → (a == 1) ≡ (b == 1) → a ≡ b
@@ -153,7 +153,7 @@ bit_at_place words i j below =
     ap (λ (n : ℕ). bit_at (get_or words n 0) ((i * 64 + j) % 64)) d ∙ ap (λ (n : ℕ). bit_at (get_or words i 0) n) m
 
 -- where a word changed, a member is new
-pub changed_grew : (size : ℕ) (words ors : List ℕ) → IsBits size words → IsBits size ors → members size ors ≡ members size words → Changed words ors → ⊥
+pub changed_grew : (size : ℕ) (words ors : List ℕ) → IsBits size words → IsBits size ors → set_of_words size ors ≡ set_of_words size words → Changed words ors → ⊥
 changed_grew size words ors bits ors_bits e changed =
     changed.differs
     (same_from_bits_below
@@ -170,9 +170,9 @@ pub grew_not : (xs ys : List Bool) → ys ≡ xs → Grew xs ys → ⊥
 grew_not xs ys e g = let h : has xs g.member ≡ true = ap (λ (m : List Bool). has m g.member) (sym e) ∙ g.now in let f : has xs g.member ≡ false = g.before in cc
 
 -- the set grew where a word changed
-pub united_grew : (size : ℕ) (words others ors : List ℕ) (xs ys : List Bool) → Union size words others ors xs ys → Changed words ors → Grew xs (members size ors)
+pub united_grew : (size : ℕ) (words others ors : List ℕ) (xs ys : List Bool) → Union size words others ors xs ys → Changed words ors → Grew xs (set_of_words size ors)
 united_grew size words others ors xs ys u changed =
-    let e : members size ors ≡ union xs ys = united size words others ors xs ys u in
+    let e : set_of_words size ors ≡ union xs ys = united size words others ors xs ys u in
     let P : List Bool → Type 0 = λ m. Grew xs m in
     elim (union_cases xs ys) [
       | inl same ↦ absurd (changed_grew size words ors u.bits (united_is_bits size words others ors xs ys u) (e ∙ (same ∙ sym u.view)) changed)
@@ -180,11 +180,11 @@ united_grew size words others ors xs ys u changed =
     ]
 
 -- and there alone
-pub united_not : (size : ℕ) (words ors : List ℕ) (xs : List Bool) → members size words ≡ xs → ors ≡ words → Grew xs (members size ors) → ⊥
-united_not size words ors xs view e g = grew_not xs (members size ors) (ap (λ (ws : List ℕ). members size ws) e ∙ view) g
+pub united_not : (size : ℕ) (words ors : List ℕ) (xs : List Bool) → set_of_words size words ≡ xs → ors ≡ words → Grew xs (set_of_words size ors) → ⊥
+united_not size words ors xs view e g = grew_not xs (set_of_words size ors) (ap (λ (ws : List ℕ). set_of_words size ws) e ∙ view) g
 
 pub grew_iff : (size : ℕ) (words others ors : List ℕ) (xs ys : List Bool) (result : Bool) → Union size words others ors xs ys → (result ≡ false → ors ≡ words) → (result ≡ true → Changed words ors) →
-    (result ≡ true → Grew xs (members size ors)) × (Grew xs (members size ors) → result ≡ true)
+    (result ≡ true → Grew xs (set_of_words size ors)) × (Grew xs (set_of_words size ors) → result ≡ true)
 grew_iff size words others ors xs ys true u same changed =
     (λ e. united_grew size words others ors xs ys u (changed refl), λ g. refl)
 grew_iff size words others ors xs ys false u same changed =
@@ -192,7 +192,7 @@ grew_iff size words others ors xs ys false u same changed =
 
 -- ---- the next member
 
-pub next_none : (size : ℕ) (words lent_words : List ℕ) (marks : List Bool) (from : ℕ) → members size words ≡ marks → IsBits size words → lent_words ≡ words → HasNoBitFrom lent_words from → HasNoneFrom marks from
+pub next_none : (size : ℕ) (words lent_words : List ℕ) (marks : List Bool) (from : ℕ) → set_of_words size words ≡ marks → IsBits size words → lent_words ≡ words → HasNoBitFrom lent_words from → HasNoneFrom marks from
 next_none size words lent_words marks from view bits e none k past =
     ap (λ (m : List Bool). has m k) (sym view) ∙ (has-members_all size words bits k ∙ (ap (λ (ws : List ℕ). bit ws k == 1) (sym e) ∙ ap (λ (n : ℕ). n == 1) (none k past)))
 
@@ -203,7 +203,7 @@ next_below size words lent_words from k bits e next =
       | inr past ↦ absurd (omega (arith, bits.rest k past, ap (λ (ws : List ℕ). bit ws k) e, next.is_set))
     ]
 
-pub next_some : (size : ℕ) (words lent_words : List ℕ) (marks : List Bool) (from k : ℕ) → members size words ≡ marks → IsBits size words → lent_words ≡ words → IsNextBit lent_words from k → IsNext marks from k
+pub next_some : (size : ℕ) (words lent_words : List ℕ) (marks : List Bool) (from k : ℕ) → set_of_words size words ≡ marks → IsBits size words → lent_words ≡ words → IsNextBit lent_words from k → IsNext marks from k
 next_some size words lent_words marks from k view bits e next =
     let told : (j : ℕ) → has marks j ≡ (bit lent_words j == 1) = λ j.
     ap (λ (m : List Bool). has m j) (sym view) ∙ (has-members_all size words bits j ∙ ap (λ (ws : List ℕ). bit ws j == 1) (sym e)) in

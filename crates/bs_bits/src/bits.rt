@@ -19,9 +19,9 @@ impl Model for Bits {
 
     ghost Value = { List Bool };
 
-    ghost use Rattle.bs_bits.specs.Bits.{members, IsBits};
+    ghost use Rattle.bs_bits.specs.Bits.{set_of_words, IsBits};
 
-    ghost view = { λ bits. members bits.size bits.words.items };
+    ghost view = { λ bits. set_of_words bits.size bits.words.items };
 
     ghost invariant = { λ bits. IsBits bits.size bits.words.items };
 }

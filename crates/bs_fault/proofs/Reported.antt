@@ -3,7 +3,7 @@ use Rattle.std.proofs.Common.{◌≡◌, Bool, true, false, cond, ◌&&◌, ◌=
 use Rattle.std.proofs.lemmas.Bool.{ltb-true, ltb-false, eqb-true, or_cases, or_parts, and_parts, and_cases, eqb-false}
 use Rattle.bs_fault.specs.declared.fault.Fault.{Fault}
 use Rattle.bs_fault.specs.Order.{fault_number, fault_place, Precedes}
-use Rattle.bs_fault.specs.Reported.{Faults, NoFault, One, Both, Among, here, first, second, Faultless, one_of, IsReported, precedes, noted, noted_all}
+use Rattle.bs_fault.specs.Reported.{Faults, NoFault, One, Both, Among, here, first, second, Faultless, faults_of_option, IsReported, precedes, noted, noted_all}
 
 precedes-trans : (a b c : Fault) → Precedes a b → Precedes b c → Precedes a c
 precedes-trans a b c (inl x) (inl y) = inl (omega arith)
@@ -139,6 +139,6 @@ pub noted-is-reported : (faults : Faults) → IsReported faults (noted_all fault
 noted-is-reported faults = reported-by faults (noted_all faults None) (all-best (λ _. ⊥) faults None (λ f x. x))
 
 -- where no fault is among what is found, none is found
-pub no_fault : (o : Option Fault) → Faultless (one_of o) → o ≡ None
+pub no_fault : (o : Option Fault) → Faultless (faults_of_option o) → o ≡ None
 no_fault None none = refl
 no_fault (Some f) none = absurd (none f here)

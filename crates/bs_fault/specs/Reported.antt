@@ -18,9 +18,9 @@ pub data Among (f : Fault) : Faults → Type 0 where
 abbrev pub one_if : Bool → Fault → Faults
 one_if stands f = cond stands (One f) NoFault
 
-abbrev pub one_of : Option Fault → Faults
-one_of None = NoFault
-one_of (Some f) = One f
+abbrev pub faults_of_option : Option Fault → Faults
+faults_of_option None = NoFault
+faults_of_option (Some f) = One f
 
 -- no fault is among these
 abbrev pub Faultless : Faults → Type 0

@@ -1,7 +1,7 @@
 //! The order of the faults of a text, and which of several is reported.
 ghost use Rattle.std.specs.Prelude.{◌≡◌};
 ghost use Rattle.bs_fault.specs.Order.{fault_number, fault_place};
-ghost use Rattle.bs_fault.specs.Reported.{precedes, noted, noted_all, one_if, one_of};
+ghost use Rattle.bs_fault.specs.Reported.{precedes, noted, noted_all, one_if, faults_of_option};
 
 use crate::fault::Fault;
 
@@ -115,7 +115,7 @@ pub fn noted_if(condition: bool, fault: Fault, found: Option<Fault>) -> Option<F
 
 /// The same for a fault, if there is one.
 pub fn noted_optional(fault: Option<Fault>, found: Option<Fault>) -> Option<Fault>
-    ensures { result ≡ noted_all (one_of fault) found }
+    ensures { result ≡ noted_all (faults_of_option fault) found }
 {
     match fault {
         Some(fault) => noted(fault, found),

@@ -115,11 +115,11 @@ offset_in_cell (Word address) = address % 8
 offset_in_cell (Block serial offset) = offset % 8
 offset_in_cell (Function f) = 0
 
-abbrev pub value_in : Memory → Cell → Value
-value_in memory (InHeader serial) = Word ((slice_index_or memory.blocks serial (record { header = 0; cells = [] })).header)
-value_in memory (InBlock serial index) =
+abbrev pub value_in_cell : Memory → Cell → Value
+value_in_cell memory (InHeader serial) = Word ((slice_index_or memory.blocks serial (record { header = 0; cells = [] })).header)
+value_in_cell memory (InBlock serial index) =
     slice_index_or (slice_index_or memory.blocks serial (record { header = 0; cells = [] })).cells index (Word 0)
-value_in memory (InStatic list index) =
+value_in_cell memory (InStatic list index) =
     slice_index_or (slice_index_or memory.statics list (record { start = 0; size = 0; cells = [] })).cells index (Word 0)
 
 -- a block whose tag is 250 or less is scanned: its cells hold what fits val; those of others what fits int
@@ -142,12 +142,12 @@ type_in memory (InBlock serial index) =
 type_in memory (InStatic list index) =
     type_of_static (is_root memory.roots ((slice_index_or memory.statics list (record { start = 0; size = 0; cells = [] })).start + 8 * index))
 
-abbrev pub with_value : Memory → Cell → Value → Memory
-with_value memory (InHeader serial) value = memory
-with_value memory (InBlock serial index) value =
+abbrev pub with_cell_value : Memory → Cell → Value → Memory
+with_cell_value memory (InHeader serial) value = memory
+with_cell_value memory (InBlock serial index) value =
     let block = slice_index_or memory.blocks serial (record { header = 0; cells = [] }) in
     record memory { blocks = slice_set memory.blocks serial (record block { cells = slice_set block.cells index value }) }
-with_value memory (InStatic list index) value =
+with_cell_value memory (InStatic list index) value =
     let statics = slice_index_or memory.statics list (record { start = 0; size = 0; cells = [] }) in
     record memory { statics = slice_set memory.statics list (record statics { cells = slice_set statics.cells index value }) }
 
@@ -165,21 +165,21 @@ extended chunk.I32 n = sext_word n 32
 extended _ n = n
 
 -- a value of this type, or why it is none
-abbrev pub of_type : ℕ → Ty → Value → Result Value Kind
-of_type end type value = cond (fits end type value) (Ok value) (Err (misfit type))
+abbrev pub value_of_type : ℕ → Ty → Value → Result Value Kind
+value_of_type end type value = cond (fits end type value) (Ok value) (Err (misfit type))
 
 -- a load of 8 bytes gives the value of the cell, which must fit the chunk's type; a smaller one wants a
 -- word in the cell
 abbrev pub loaded_as : Chunk → ℕ → ℕ → Value → Result Value Kind
-loaded_as chunk.Int end offset value = of_type end ty.Int value
-loaded_as chunk.Val end offset value = of_type end ty.Val value
+loaded_as chunk.Int end offset value = value_of_type end ty.Int value
+loaded_as chunk.Val end offset value = value_of_type end ty.Val value
 loaded_as c end offset (Word w) = Ok (Word (extended c (part w offset (width c))))
 loaded_as c end offset (Block s o) = Err PartOfPointer
 loaded_as c end offset (Function f) = Err PartOfPointer
 
 abbrev pub loaded_from : Chunk → Memory → ℕ → Option Cell → Result Value Kind
 loaded_from c memory offset None = Err BadAddress
-loaded_from c memory offset (Some cell) = loaded_as c (end_of_data memory) offset (value_in memory cell)
+loaded_from c memory offset (Some cell) = loaded_as c (end_of_data memory) offset (value_in_cell memory cell)
 
 -- what is loaded at an address
 abbrev pub loaded : Chunk → Memory → Value → Result Value Kind
@@ -190,7 +190,7 @@ loaded c memory address = loaded_from c memory (offset_in_cell address) (cell_at
 -- the memory with this value in a cell, which it must fit
 abbrev pub put_in : ℕ → Memory → Cell → Value → Result Memory Kind
 put_in end memory cell value =
-    cond (fits end (type_in memory cell) value) (Ok (with_value memory cell value)) (Err (misfit (type_in memory cell)))
+    cond (fits end (type_in memory cell) value) (Ok (with_cell_value memory cell value)) (Err (misfit (type_in memory cell)))
 
 -- the word with the lowest bytes of another from one of its bytes on
 abbrev pub replaced : ℕ → ℕ → ℕ → ℕ → ℕ
@@ -210,7 +210,7 @@ put_whole type end memory cell value =
 abbrev pub stored_as : Chunk → ℕ → Memory → Cell → ℕ → Value → Result Memory Kind
 stored_as chunk.Int end memory cell offset value = put_whole ty.Int end memory cell value
 stored_as chunk.Val end memory cell offset value = put_whole ty.Val end memory cell value
-stored_as c end memory cell offset value = put_part end memory cell offset (width c) (value_in memory cell) value
+stored_as c end memory cell offset value = put_part end memory cell offset (width c) (value_in_cell memory cell) value
 
 -- nothing is stored to a header
 abbrev pub stored_in : Chunk → Memory → ℕ → Option Cell → Value → Result Memory Kind

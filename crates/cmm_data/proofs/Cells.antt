@@ -4,7 +4,7 @@ use Rattle.std.specs.Int.{w64, from_le_bytes}
 use Rattle.bs_words.specs.declared.values.Value.{Value}
 use Rattle.bs_words.specs.declared.values.Value.TheVariants.{Word}
 use Rattle.cmm_data.specs.Contents.{DataByte, Plain, little_endian, zeros, word_of_bytes, cells_of}
-use Rattle.cmm_data.specs.Filling.{cells_with, pending, Puts}
+use Rattle.cmm_data.specs.Filling.{cells_with, pending_bytes, Puts}
 use Rattle.cmm_data.specs.declared.filling.Filling.{Filling}
 
 pub word_of_bytes-word : (xs : List ℕ) → length xs ≤ 8 →
@@ -56,7 +56,7 @@ pending-more (x ∷ xs) byte rest = ap (λ (v : List DataByte). Plain x ∷ v) (
 
 -- ---- bytes after bytes
 
-pub puts-none : (filling : Filling) → pending filling < 8 → Puts filling filling []
+pub puts-none : (filling : Filling) → pending_bytes filling < 8 → Puts filling filling []
 puts-none filling h =
     record {
       small = h;

@@ -11,7 +11,7 @@ use Rattle.bs_words.specs.Memory.{StaticList}
 use Rattle.cmm_tree.specs.Tree.{DatumTree, Define, Byte, Half, Int, Val, Address, Skip, Align, Text, Global, AFloat, DataItemTree, DataListTree}
 use Rattle.cmm_data.specs.Placement.{PlacedItem, PlacedList, DataSymbolTree, symbol_at, placed_symbols, size_at, items_from, end_of_items, start_behind, end_behind, lists_behind, items_of_lists}
 use Rattle.cmm_data.specs.Faults.{first_fault}
-use Rattle.cmm_data.specs.Contents.{DataByte, Plain, integer, zeros, symbol_bytes, bytes_at, bytes_of_items, root_at, roots_among, static_list, cells_of}
+use Rattle.cmm_data.specs.Contents.{DataByte, Plain, bytes_of_integer, zeros, symbol_bytes, bytes_at, bytes_of_items, root_of_item, roots_among, static_list, cells_of}
 use Rattle.cmm_data.proofs.Walk.{sound-first}
 
 consed : (s : Option DataSymbolTree) (more : List DataSymbolTree) → cons_option s more ≡ option_to_list s ++ more
@@ -28,11 +28,11 @@ symbols-step before after address i rest h =
     ∙ ap (λ (v : List DataSymbolTree). v ++ more) (sym h)
 
 pub roots-step : (before after : List ℕ) (address : ℕ) (i : DataItemTree) (rest : List DataItemTree) →
-    after ≡ before ++ root_at address i.datum →
+    after ≡ before ++ root_of_item address i.datum →
     before ++ roots_among (items_from address (i ∷ rest)) ≡ after ++ roots_among (items_from (address + size_at address i.datum) rest)
 roots-step before after address i rest h =
     let more = roots_among (items_from (address + size_at address i.datum) rest) in
-    sym (append_assoc before (root_at address i.datum) more)
+    sym (append_assoc before (root_of_item address i.datum) more)
     ∙ ap (λ (v : List ℕ). v ++ more) (sym h)
 
 -- ---- the bytes of an item are as many as its size
@@ -45,15 +45,15 @@ length-plain : (bytes : List ℕ) → length (map Plain bytes) ≡ length bytes
 length-plain [] = refl
 length-plain (b ∷ bytes) = ap suc (length-plain bytes)
 
-length-1 : (word : Option ℕ) → length (integer 1 word) ≡ 1
+length-1 : (word : Option ℕ) → length (bytes_of_integer 1 word) ≡ 1
 length-1 None = refl
 length-1 (Some word) = refl
 
-length-2 : (word : Option ℕ) → length (integer 2 word) ≡ 2
+length-2 : (word : Option ℕ) → length (bytes_of_integer 2 word) ≡ 2
 length-2 None = refl
 length-2 (Some word) = refl
 
-length-8 : (word : Option ℕ) → length (integer 8 word) ≡ 8
+length-8 : (word : Option ℕ) → length (bytes_of_integer 8 word) ≡ 8
 length-8 None = refl
 length-8 (Some word) = refl
 
@@ -135,7 +135,7 @@ pub roots-list : (before after : List ℕ) (end : ℕ) (d : DataListTree) (lists
 roots-list before after end d lists h =
     let items = items_from (start_behind end) d.items in
     let more = items_of_lists (lists_behind (end_behind end d) lists) in
-    ap (λ (v : List ℕ). before ++ v) (flat_map-append (λ (i : PlacedItem). root_at i.address i.datum) items more)
+    ap (λ (v : List ℕ). before ++ v) (flat_map-append (λ (i : PlacedItem). root_of_item i.address i.datum) items more)
     ∙ sym (append_assoc before (roots_among items) (roots_among more))
     ∙ ap (λ (v : List ℕ). v ++ roots_among more) (sym h)
 

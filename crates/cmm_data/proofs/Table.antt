@@ -12,7 +12,7 @@ use Rattle.bs_words.specs.declared.values.Value.{Value}
 use Rattle.cmm_tree.specs.Tree.{DataItemTree}
 use Rattle.cmm_data.specs.declared.symbols.SymbolTable.{SymbolTable}
 use Rattle.cmm_data.specs.Placement.{DefinedValue, value_among, symbol_at, size_at, definition_of_data, defined_at, DataSymbolTree, placed_symbols, items_from}
-use Rattle.cmm_data.specs.Symbols.{value_in, Adds}
+use Rattle.cmm_data.specs.Symbols.{value_in, AddsDefinitions}
 
 pub option_or-none : (a : Option Value) → option_or a None ≡ a
 option_or-none None = refl
@@ -90,7 +90,7 @@ unknown-gets f name value q true same h =
 unknown-gets f name value q false differs h = sym (option_or-none (f q))
 
 pub adds-known : (table : SymbolTable) (name : List ℕ) (value : Value) →
-    is_some (value_in table name) ≡ true → Adds table table (record { name = name; value = value } ∷ [])
+    is_some (value_in table name) ≡ true → AddsDefinitions table table (record { name = name; value = value } ∷ [])
 adds-known table name value h =
     let d : DefinedValue = record { name = name; value = value } in
     record {
@@ -101,7 +101,7 @@ adds-known table name value h =
 pub adds-unknown : (old new : SymbolTable) (name : List ℕ) (value : Value) →
     is_some (value_in old name) ≡ false →
     ((q : List ℕ) → value_in new q ≡ update bytes_eq (value_in old) name (Some value) q) →
-    Adds old new (record { name = name; value = value } ∷ [])
+    AddsDefinitions old new (record { name = name; value = value } ∷ [])
 adds-unknown old new name value h updates =
     let d : DefinedValue = record { name = name; value = value } in
     record {
@@ -110,11 +110,11 @@ adds-unknown old new name value h updates =
           ∙ (unknown-gets (value_in old) name value q (bytes_eq name q) refl h ∙ ap (option_or (value_in old q)) (sym (value_among-more d [] q)));
     }
 
-pub adds-none : (table : SymbolTable) → Adds table table []
+pub adds-none : (table : SymbolTable) → AddsDefinitions table table []
 adds-none table = record { each = λ q. sym (option_or-none (value_in table q)) }
 
 -- what is added, and what is defined later
-pub adds-later : (old new : SymbolTable) (defined later : List DefinedValue) → Adds old new defined → (name : List ℕ) →
+pub adds-later : (old new : SymbolTable) (defined later : List DefinedValue) → AddsDefinitions old new defined → (name : List ℕ) →
     option_or (value_in old name) (value_among (defined ++ later) name) ≡ option_or (value_in new name) (value_among later name)
 adds-later old new defined later adds name =
     ap (option_or (value_in old name)) (value_among-append defined later name)

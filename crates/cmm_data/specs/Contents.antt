@@ -23,9 +23,9 @@ abbrev pub zeros : ℕ → List DataByte
 zeros count = replicate count (Plain 0)
 
 -- an integer of so many bytes
-abbrev pub integer : ℕ → Option ℕ → List DataByte
-integer count (Some word) = little_endian count word
-integer count None = zeros count
+abbrev pub bytes_of_integer : ℕ → Option ℕ → List DataByte
+bytes_of_integer count (Some word) = little_endian count word
+bytes_of_integer count None = zeros count
 
 -- the bytes that are written for the address of a symbol. No symbol is a block, and one that is not defined
 -- is reported as a fault.
@@ -37,10 +37,10 @@ symbol_bytes None = zeros 8
 
 -- the bytes of an item at its address, where symbols stand for these values
 abbrev pub bytes_at : (List ℕ → Option Value) → ℕ → DatumTree → List DataByte
-bytes_at symbols address (Byte word) = integer 1 word
-bytes_at symbols address (Half word) = integer 2 word
-bytes_at symbols address (Int word) = integer 8 word
-bytes_at symbols address (Val word) = integer 8 word
+bytes_at symbols address (Byte word) = bytes_of_integer 1 word
+bytes_at symbols address (Half word) = bytes_of_integer 2 word
+bytes_at symbols address (Int word) = bytes_of_integer 8 word
+bytes_at symbols address (Val word) = bytes_of_integer 8 word
 bytes_at symbols address (Address root name_at name) = symbol_bytes (symbols name)
 bytes_at symbols address (Text bytes) = map Plain bytes
 bytes_at symbols address datum = zeros (size_at address datum)
@@ -50,14 +50,14 @@ bytes_of_items symbols items = flat_map (λ (i : PlacedItem). bytes_at symbols i
 
 -- ---- cells
 
-abbrev pub number_of : DataByte → ℕ
-number_of (Plain byte) = byte
-number_of (OfFunction f) = 0
+abbrev pub byte_number : DataByte → ℕ
+byte_number (Plain byte) = byte
+byte_number (OfFunction f) = 0
 
 -- the word of these bytes, little-endian; above the last one are zeros
 abbrev pub word_of_bytes : List DataByte → ℕ
 word_of_bytes [] = 0
-word_of_bytes (b ∷ bytes) = number_of b + 256 * word_of_bytes bytes
+word_of_bytes (b ∷ bytes) = byte_number b + 256 * word_of_bytes bytes
 
 -- the value of a cell of these bytes: the address of a function fills its cell
 abbrev pub cell_of : List DataByte → Value
@@ -86,11 +86,11 @@ is_root_datum (Address root name_at name) = root
 is_root_datum _ = false
 
 -- the address of an item, where it is a root cell
-abbrev pub root_at : ℕ → DatumTree → List ℕ
-root_at address datum = cond (is_root_datum datum) (address ∷ []) []
+abbrev pub root_of_item : ℕ → DatumTree → List ℕ
+root_of_item address datum = cond (is_root_datum datum) (address ∷ []) []
 
 abbrev pub roots_among : List PlacedItem → List ℕ
-roots_among items = flat_map (λ (i : PlacedItem). root_at i.address i.datum) items
+roots_among items = flat_map (λ (i : PlacedItem). root_of_item i.address i.datum) items
 
 -- the addresses of the root cells, in order
 abbrev pub root_cells : FileTree → List ℕ

@@ -14,13 +14,13 @@ passes_limit i =
     nat_le i.address (data_start + data_limit) && nat_lt (data_start + data_limit) (i.address + size_at i.address i.datum)
 
 -- whether a word, read as signed, lies in these bounds
-abbrev pub is_within : ℤ → ℤ → ℕ → Bool
-is_within low high word = int_le low (signed_of word) && int_le (signed_of word) high
+abbrev pub is_within_bounds : ℤ → ℤ → ℕ → Bool
+is_within_bounds low high word = int_le low (signed_of word) && int_le (signed_of word) high
 
 -- the rule of an item at its address. An integer out of range has no word, and breaks no rule.
 abbrev pub keeps_rule : ℕ → DatumTree → Bool
-keeps_rule address (Byte (Some word)) = is_within (negsuc 127) (pos 255) word
-keeps_rule address (Half (Some word)) = is_within (negsuc 32767) (pos 65535) word
+keeps_rule address (Byte (Some word)) = is_within_bounds (negsuc 127) (pos 255) word
+keeps_rule address (Half (Some word)) = is_within_bounds (negsuc 32767) (pos 65535) word
 keeps_rule address (Val (Some word)) = (address % 8 == 0) && (word % 2 == 1)
 keeps_rule address (Address root name_at name) = address % 8 == 0
 keeps_rule address (Skip (Some count)) = not (is_negative count)

@@ -14,7 +14,7 @@ abbrev pub value_in : SymbolTable → List ℕ → Option Value
 value_in table name = tree.get_by (λ k. slice_cmp nat_cmp name k.now) table.values
 
 -- The table has these definitions after those that it had: the first one of a name counts.
-pub record Adds (old new : SymbolTable) (defined : List DefinedValue) : Type 0 where
+pub record AddsDefinitions (old new : SymbolTable) (defined : List DefinedValue) : Type 0 where
   pub each : (name : List ℕ) → value_in new name ≡ option_or (value_in old name) (value_among defined name)
 
 -- The table has the value of every symbol of the file.

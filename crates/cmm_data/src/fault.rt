@@ -2,7 +2,7 @@
 ghost use Rattle.std.specs.Prelude.{◌≡◌, ◌+◌, ◌%◌, ◌≤◌, ◌<◌, Some, None, map, IfOk, IfErr};
 ghost use Rattle.cmm_tree.specs.View.{file_view, data_item_view, datum_view};
 ghost use Rattle.cmm_data.specs.Placement.{items_from, end_of_items};
-ghost use Rattle.cmm_data.specs.Faults.{is_within, keeps_rule, first_fault, data_fault_of};
+ghost use Rattle.cmm_data.specs.Faults.{is_within_bounds, keeps_rule, first_fault, data_fault_of};
 ghost use Rattle.bs_words.specs.Fits.{data_limit, data_start};
 
 use crate::size::{LISTS_START, is_negative, is_unit, size_at, start_behind};
@@ -55,7 +55,7 @@ fn end_of_items(start: u64, items: &[DataItem]) -> Result<u64, Fault>
 
 /// Whether the word, read as signed, lies in these bounds.
 fn is_within(low: i64, high: i64, word: u64) -> bool
-    ensures { result ≡ is_within low high word }
+    ensures { result ≡ is_within_bounds low high word }
 {
     let signed = signed(word);
     low <= signed && signed <= high

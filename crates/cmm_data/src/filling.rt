@@ -1,7 +1,7 @@
 //! The cells of one list of static data, byte by byte.
 ghost use Rattle.std.specs.Prelude.{◌≡◌, ◌%◌, ◌<◌, ◌≤◌, [], ◌∷◌, true, length, map, slice_index, IfOk};
 ghost use Rattle.cmm_tree.specs.View.{datum_view};
-ghost use Rattle.cmm_data.specs.Contents.{Plain, little_endian, zeros, integer, symbol_bytes, bytes_at, word_of_bytes};
+ghost use Rattle.cmm_data.specs.Contents.{Plain, little_endian, zeros, bytes_of_integer, symbol_bytes, bytes_at, word_of_bytes};
 ghost use Rattle.cmm_data.specs.Faults.{keeps_rule};
 ghost use Rattle.cmm_data.specs.Symbols.{value_in};
 
@@ -19,7 +19,7 @@ pub(crate) struct Filling {
 }
 
 impl Filling {
-    ghost use Rattle.cmm_data.specs.Filling.{cells_with, pending, Puts};
+    ghost use Rattle.cmm_data.specs.Filling.{cells_with, pending_bytes, Puts};
 
     /// A list without bytes.
     pub(crate) fn new(alloc: Global) -> Filling
@@ -34,7 +34,7 @@ impl Filling {
 
     /// The cells of the list. Zeros fill up the last one.
     pub(crate) fn into_cells(self) -> Result<Vec<Value>, AllocError>
-        requires { pending self < 8 }
+        requires { pending_bytes self < 8 }
         ensures { IfOk result (λ cells. cells.items ≡ cells_with self []) }
     {
         let Filling { mut cells, pending } = self;
@@ -45,7 +45,7 @@ impl Filling {
     }
 
     fn put_byte(&mut self, byte: u8) -> Result<(), AllocError>
-        requires { pending self.old < 8 }
+        requires { pending_bytes self.old < 8 }
         ensures { IfOk result (λ _. Puts self.old self.new (Plain byte ∷ [])) }
     {
         self.pending.push(byte)?;
@@ -58,7 +58,7 @@ impl Filling {
     }
 
     fn put_bytes(&mut self, bytes: &[u8]) -> Result<(), AllocError>
-        requires { pending self.old < 8 }
+        requires { pending_bytes self.old < 8 }
         ensures { IfOk result (λ _. Puts self.old self.new (map Plain bytes.now)) }
     {
         for byte in bytes {
@@ -68,7 +68,7 @@ impl Filling {
     }
 
     fn put_zeros(&mut self, count: u64) -> Result<(), AllocError>
-        requires { pending self.old < 8 }
+        requires { pending_bytes self.old < 8 }
         ensures { IfOk result (λ _. Puts self.old self.new (zeros count)) }
     {
         for _index in 0..count {
@@ -79,7 +79,7 @@ impl Filling {
 
     /// The lowest bytes of the word, little-endian.
     fn put_word(&mut self, count: u64, word: u64) -> Result<(), AllocError>
-        requires { pending self.old < 8 }
+        requires { pending_bytes self.old < 8 }
         ensures { IfOk result (λ _. Puts self.old self.new (little_endian count word)) }
     {
         let mut left = word;
@@ -92,8 +92,8 @@ impl Filling {
 
     /// An integer of so many bytes; zeros where it is out of range.
     fn put_integer(&mut self, count: u64, word: Option<u64>) -> Result<(), AllocError>
-        requires { pending self.old < 8 }
-        ensures { IfOk result (λ _. Puts self.old self.new (integer count word)) }
+        requires { pending_bytes self.old < 8 }
+        ensures { IfOk result (λ _. Puts self.old self.new (bytes_of_integer count word)) }
     {
         match word {
             Some(word) => self.put_word(count, word),
@@ -103,7 +103,7 @@ impl Filling {
 
     /// The address of a function, which fills a cell.
     fn put_function(&mut self, function: u32) -> Result<(), AllocError>
-        requires { pending self.old ≡ 0 }
+        requires { pending_bytes self.old ≡ 0 }
         ensures { IfOk result (λ _. Puts self.old self.new (symbol_bytes (Some
             (Value.Function function)))) }
     {
@@ -112,7 +112,7 @@ impl Filling {
     }
 
     fn put_symbol(&mut self, value: Option<Value>) -> Result<(), AllocError>
-        requires { pending self.old ≡ 0 }
+        requires { pending_bytes self.old ≡ 0 }
         ensures { IfOk result (λ _. Puts self.old self.new (symbol_bytes value)) }
     {
         match value {
@@ -130,7 +130,7 @@ impl Filling {
         address: u64,
         datum: &Datum,
     ) -> Result<(), AllocError>
-        requires place { pending self.old ≡ address % 8 }
+        requires place { pending_bytes self.old ≡ address % 8 }
         requires rule { keeps_rule address (datum_view datum.now) ≡ true }
         ensures { IfOk result (λ _. Puts self.old self.new (bytes_at
             (value_in symbols.now) address (datum_view datum.now))) }

@@ -7,7 +7,7 @@ ghost use Rattle.cmm_tree.specs.View.{file_view, data_item_view, datum_view};
 ghost use Rattle.cmm_data.specs.Placement.{items_from, end_of_items, symbol_at, placed_symbols};
 ghost use Rattle.bs_words.specs.Symbol.{caml_bound_error};
 ghost use Rattle.cmm_data.specs.Faults.{first_fault, data_fault_of};
-ghost use Rattle.cmm_data.specs.Contents.{static_list, is_root_datum, root_at, roots_among};
+ghost use Rattle.cmm_data.specs.Contents.{static_list, is_root_datum, root_of_item, roots_among};
 ghost use Rattle.cmm_data.specs.Symbols.{value_in};
 ghost use Rattle.cmm_data.specs.Map.{symbol_view, cells_view, IsMapOf};
 
@@ -147,7 +147,7 @@ fn add_symbol(
 /// Adds the address of an item that is written as a `val`.
 fn add_root(roots: &mut Vec<u32>, address: u64, datum: &Datum) -> Result<(), AllocError>
     requires { address < 2 ^ 32 }
-    ensures { IfOk result (λ _. roots.new.items ≡ roots.old.items ++ root_at address
+    ensures { IfOk result (λ _. roots.new.items ≡ roots.old.items ++ root_of_item address
         (datum_view datum.now)) }
 {
     if is_root(datum) {

@@ -21,7 +21,7 @@ pub struct SymbolTable<'a> {
 }
 
 impl<'a> SymbolTable<'a> {
-    ghost use Rattle.cmm_data.specs.Symbols.{value_in, Adds, IsTableOf};
+    ghost use Rattle.cmm_data.specs.Symbols.{value_in, AddsDefinitions, IsTableOf};
 
     /// The table of the file. The only error is want of memory.
     pub fn of_file(alloc: Global, file: &'a File) -> Result<SymbolTable<'a>, AllocError>
@@ -58,7 +58,7 @@ impl<'a> SymbolTable<'a> {
 
     /// Adds a definition. An earlier one of the same name stays.
     fn define(&mut self, name: &'a [u8], value: Value) -> Result<(), AllocError>
-        ensures { IfOk result (λ _. Adds self.old self.new (record {
+        ensures { IfOk result (λ _. AddsDefinitions self.old self.new (record {
           name = name.now;
           value = value;
         } ∷ [])) }
@@ -71,7 +71,7 @@ impl<'a> SymbolTable<'a> {
 
     /// Adds the symbol that an item at the address defines, if it does.
     fn define_at(&mut self, address: u64, datum: &'a Datum) -> Result<(), AllocError>
-        ensures { IfOk result (λ _. Adds self.old self.new (map definition_of_data
+        ensures { IfOk result (λ _. AddsDefinitions self.old self.new (map definition_of_data
             (option_to_list (symbol_at address (datum_view datum.now))))) }
     {
         match datum {
@@ -86,7 +86,7 @@ impl<'a> SymbolTable<'a> {
     fn define_items(&mut self, start: u64, items: &'a [DataItem]) -> Result<u64, AllocError>
         requires within { start ≤ data_start + data_limit }
         requires faultless { first_fault (items_from start (map data_item_view items.now)) ≡ None }
-        ensures adds { IfOk result (λ _. Adds self.old self.new (defined_at start
+        ensures adds { IfOk result (λ _. AddsDefinitions self.old self.new (defined_at start
             (map data_item_view items.now))) }
         ensures end { IfOk result (λ end. end ≡ end_of_items start (map data_item_view items.now)) }
         ensures within { IfOk result (λ end. end ≤ data_start + data_limit) }

@@ -25,11 +25,11 @@ use Rattle.cmm_tree.specs.declared.file.Item.TheVariants as item
 use Rattle.std.specs.Borrow.{Bor}
 use Rattle.cmm_meaning.specs.State.{World, Here, bound, deepened}
 use Rattle.cmm_meaning.specs.Evaluation.{NoAnswer, Evaluation, Gives, Stops, Surroundings, back_from_call, as_written, stack_below, fit_parameters, scoped_parameter}
-use Rattle.cmm_meaning.specs.Run.{nobody, answered, frame_answered, answered_as, made}
+use Rattle.cmm_meaning.specs.Run.{nobody, answered, frame_answered, answered_as, with_call_made}
 use Rattle.eval_frames.specs.Outside.{call_seen, returned}
 use Rattle.eval_frames.specs.Passing.{ComesBack, TakesPlace}
 use Rattle.eval_frames.specs.Views.{call_view, here_view}
-use Rattle.eval_frames.specs.Filled.{expression, resume}
+use Rattle.eval_frames.specs.Filled.{evaluated_expression, resume}
 use Rattle.eval_frames.specs.Annotated.{FitsFunction, FitsEntry}
 use Rattle.eval_frames.specs.Around.{functions_in, activated_held}
 use Rattle.eval_frames.specs.declared.frame.Frame.{Frame}
@@ -104,7 +104,7 @@ frame_asks_one s frames end written call h w a left e none =
 pub frame_taken : (s : Surroundings) (frames : List Frame) (end : ℕ) (written : Ret) (call : Made) (h : Here) (w : World) (first second : ℕ)
     (rest left : List ℕ) (calls : List Made) (now : World → Evaluation) → w.answers ≡ first ∷ rest → rest ≡ second ∷ left →
     calls ≡ w.made ++ call ∷ [] →
-    now (made call left w) ≡ returned written h (frame_answered end written call (first ∷ second ∷ left) w) →
+    now (with_call_made call left w) ≡ returned written h (frame_answered end written call (first ∷ second ∷ left) w) →
     resume s frames (now (record w { made = calls; answers = left })) ≡ resume s frames (returned written h (answered_as true end written call w.answers w))
 frame_taken s frames end written call h w first second rest left calls now e f q is =
     ap (λ (m : List Made). resume s frames (now (record w { made = m; answers = left }))) q
@@ -118,15 +118,15 @@ pub activated_is : (s : Surroundings) (frames new : List Frame) (tail : Bool) (w
     (below : ℕ) (h inner : Here) (w world : World) → ComesBack frames written h new → below ≡ stack_below tail h →
     inner ≡ record { names = bound (map scoped_parameter (params_view (contents f.params))) arguments []; below = below; frame = frame; tries = 0 } →
     world ≡ deepened (below + frame) w →
-    resume s new (expression s f.body true inner world)
+    resume s new (evaluated_expression s f.body true inner world)
     ≡ resume s frames (returned written h (activated_held s frame (Some f) arguments (stack_below tail h) w))
 activated_is s frames new tail written f frame arguments below h inner w world back is-below is-inner is-world =
     let here : ℕ → Here =
     λ b. record { names = bound (map scoped_parameter (params_view (contents f.params))) arguments []; below = b; frame = frame; tries = 0 } in
-    let body : ℕ → Evaluation = λ b. expression s f.body true (here b) (deepened (b + frame) w) in
-    let one : expression s f.body true inner world ≡ body below =
-    ap (λ (i : Here). expression s f.body true i world) is-inner ∙ ap (λ (v : World). expression s f.body true (here below) v) is-world in
-    back s (expression s f.body true inner world) ∙ ap (λ (e : Evaluation). resume s frames (returned written h e)) (one ∙ ap body is-below)
+    let body : ℕ → Evaluation = λ b. evaluated_expression s f.body true (here b) (deepened (b + frame) w) in
+    let one : evaluated_expression s f.body true inner world ≡ body below =
+    ap (λ (i : Here). evaluated_expression s f.body true i world) is-inner ∙ ap (λ (v : World). evaluated_expression s f.body true (here below) v) is-world in
+    back s (evaluated_expression s f.body true inner world) ∙ ap (λ (e : Evaluation). resume s frames (returned written h e)) (one ∙ ap body is-below)
 
 -- the frame of a callee is added, or it takes the place of its caller
 pub back_pushed : (frames new : List Frame) (form : Bor Form) (tail : Bool) (kept : here.Here) (written : Ret) (tests : Tests) →
@@ -147,18 +147,18 @@ pub first_stands : (s : Surroundings) (frames new : List Frame) (form : Bor Form
     here_view kept ≡ nobody → Meets tests (λ end v h w. Gives v h w) →
     here ≡ record { names = bound (map scoped_parameter (params_view (contents f.params))) arguments []; below = 0; frame = frame; tries = 0 } →
     world ≡ deepened frame w →
-    resume s new (expression s f.body true here world) ≡ back_from_call nobody (activated_held s frame (Some f) arguments 0 w)
+    resume s new (evaluated_expression s f.body true here world) ≡ back_from_call nobody (activated_held s frame (Some f) arguments 0 w)
 first_stands s frames new form tail kept tests f frame arguments here world w is-frames is-new is-kept m is-here is-world =
     let at : Here = record { names = bound (map scoped_parameter (params_view (contents f.params))) arguments []; below = 0; frame = frame; tries = 0 } in
     let whole : frame ≡ 0 + frame = omega arith in
-    let body : Evaluation = expression s f.body true here world in
+    let body : Evaluation = evaluated_expression s f.body true here world in
     pushed s frames new (record { form = form; tail = tail; step = step.Return kept tests }) body (back_from_call nobody body) is-new
     (returns_none s tests m (here_view kept) body ∙ ap (λ (i : Here). back_from_call i body) is-kept)
     ∙ ap (λ (l : List Frame). resume s l (back_from_call nobody body)) is-frames
     ∙ ap (back_from_call nobody)
-    (ap (λ (i : Here). expression s f.body true i world) is-here
-    ∙ ap (λ (v : World). expression s f.body true at v) is-world
-    ∙ ap (λ (t : ℕ). expression s f.body true at (deepened t w)) whole)
+    (ap (λ (i : Here). evaluated_expression s f.body true i world) is-here
+    ∙ ap (λ (v : World). evaluated_expression s f.body true at v) is-world
+    ∙ ap (λ (t : ℕ). evaluated_expression s f.body true at (deepened t w)) whole)
 
 copied_is : {X : Type 0} (o : Option (Bor X)) → option_copied o ≡ option_map (λ x. x.now) o
 copied_is None = refl

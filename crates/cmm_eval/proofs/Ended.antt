@@ -20,7 +20,7 @@ use Rattle.cmm_meaning.specs.State.{World, Here, back_in}
 use Rattle.cmm_meaning.specs.Evaluation.{Body, NotProper, Evaluation, Gives, Raises, Stops, Surroundings, with_value, proper, tested, with_bound, back, chosen}
 use Rattle.cmm_meaning.specs.Choices.{Chosen, case_for}
 use Rattle.eval_frames.specs.Held.{choices_held}
-use Rattle.eval_frames.specs.Filled.{or_improper, expression, taken_by, left_of, right_of, joined_by, operated_by, scoped_binding, bindings_from, first_bound, handler_of, cases_ready, does, resume}
+use Rattle.eval_frames.specs.Filled.{or_improper, evaluated_expression, taken_by, left_operand, right_of, joined_by, operated_by, scoped_binding, bindings_from, first_bound, evaluated_handler, cases_ready, does, resume}
 use Rattle.eval_frames.specs.declared.frame.Frame.{Frame}
 use Rattle.eval_frames.specs.declared.frame.Step.{Step}
 use Rattle.eval_frames.specs.declared.frame.Step.TheVariants as step
@@ -72,14 +72,14 @@ pub try_handles : (s : Surroundings) (frames new : List Frame) (form : Bor Form)
     new ≡ frames ++ record { form = form; tail = tail; step = step.Scope length' tries } ∷ [] →
     inner ≡ back_in level tries h → length' ≡ length inner.names → here ≡ with_bound (raised name ∷ []) (v ∷ []) inner → expr ≡ handler →
     ((h : Here) (w : World) →
-    handler_of s form.now tail v h w ≡ back (length h.names) h.tries (expression s handler tail (with_bound (raised name ∷ []) (v ∷ []) h) w)) →
-    resume s new (expression s expr tail here w) ≡ resume s frames (does s (step.Try level tries) form.now tail (Raises v h w))
+    evaluated_handler s form.now tail v h w ≡ back (length h.names) h.tries (evaluated_expression s handler tail (with_bound (raised name ∷ []) (v ∷ []) h) w)) →
+    resume s new (evaluated_expression s expr tail here w) ≡ resume s frames (does s (step.Try level tries) form.now tail (Raises v h w))
 try_handles s frames new form tail level tries length' v h inner here w name handler expr is-new is-inner is-length is-here is-expr is-handler =
-    let body : Here → Evaluation = λ i. expression s handler tail i w in
+    let body : Here → Evaluation = λ i. evaluated_expression s handler tail i w in
     let bind : Here → Here = λ i. with_bound (raised name ∷ []) (v ∷ []) i in
-    pushed s frames new (record { form = form; tail = tail; step = step.Scope length' tries }) (expression s expr tail here w)
-    (handler_of s form.now tail v (back_in level tries h) w) is-new
-    (ap (λ (e : Expr). back length' tries (expression s e tail here w)) is-expr
+    pushed s frames new (record { form = form; tail = tail; step = step.Scope length' tries }) (evaluated_expression s expr tail here w)
+    (evaluated_handler s form.now tail v (back_in level tries h) w) is-new
+    (ap (λ (e : Expr). back length' tries (evaluated_expression s e tail here w)) is-expr
     ∙ ap (λ (i : Here). back length' tries (body i)) is-here
     ∙ ap (λ (n : ℕ). back n tries (body (bind inner))) is-length
     ∙ ap (λ (i : Here). back (length i.names) tries (body (bind i))) is-inner
@@ -87,14 +87,14 @@ try_handles s frames new form tail level tries length' v h inner here w name han
 
 -- the second of two operands is evaluated
 pub second_begins : (s : Surroundings) (f : Form) (left_first tail : Bool) (first : Value) (left right expr : Expr) →
-    ((h : Here) (w : World) → left_of s f h w ≡ expression s left false h w) → ((h : Here) (w : World) → right_of s f h w ≡ expression s right false h w) →
+    ((h : Here) (w : World) → left_operand s f h w ≡ evaluated_expression s left false h w) → ((h : Here) (w : World) → right_of s f h w ≡ evaluated_expression s right false h w) →
     expr ≡ (if not left_first then left else right) → (h : Here) (w : World) →
-    does s (step.Second first left_first) f tail (expression s expr false h w) ≡ does s (step.First left_first) f tail (Gives (Some first) h w)
+    does s (step.Second first left_first) f tail (evaluated_expression s expr false h w) ≡ does s (step.First left_first) f tail (Gives (Some first) h w)
 second_begins s f false tail first left right expr l r e h w =
-    ap (λ (x : Expr). with_value (expression s x false h w) (λ a h w. joined_by s f a first h w)) e
+    ap (λ (x : Expr). with_value (evaluated_expression s x false h w) (λ a h w. joined_by s f a first h w)) e
     ∙ ap (λ (x : Evaluation). with_value x (λ a h w. joined_by s f a first h w)) (sym (l h w))
 second_begins s f true tail first left right expr l r e h w =
-    ap (λ (x : Expr). with_value (expression s x false h w) (λ b h w. joined_by s f first b h w)) e
+    ap (λ (x : Expr). with_value (evaluated_expression s x false h w) (λ b h w. joined_by s f first b h w)) e
     ∙ ap (λ (x : Evaluation). with_value x (λ b h w. joined_by s f first b h w)) (sym (r h w))
 
 -- the first of these bindings has its value, or it does not fit
@@ -127,10 +127,10 @@ switch_chooses s size_at size selector cases tail v h w k e lt =
 -- the callee of a call is evaluated last
 pub late_callee : (s : Surroundings) (f : Form) (b : Box Expr Global) (arguments : Vec Expr Global) (result : Ret) (result_at : ℕ) (tail : Bool) (callee : Option Value)
     (e : Expr) (values : List Value) → f ≡ form.App b arguments result result_at → callee ≡ None → e ≡ b.value → (h : Here) (w : World) →
-    with_value (expression s e false h w) (λ c h w. operated_by s f tail (Some c) values h w) ≡ operated_by s f tail callee values h w
+    with_value (evaluated_expression s e false h w) (λ c h w. operated_by s f tail (Some c) values h w) ≡ operated_by s f tail callee values h w
 late_callee s f b arguments result result_at tail callee e values p q r h w =
     let P : Form → Type 0 =
-    λ g. with_value (expression s b.value false h w) (λ c h w. operated_by s g tail (Some c) values h w) ≡ operated_by s g tail None values h w in
-    ap (λ (x : Expr). with_value (expression s x false h w) (λ c h w. operated_by s f tail (Some c) values h w)) r
+    λ g. with_value (evaluated_expression s b.value false h w) (λ c h w. operated_by s g tail (Some c) values h w) ≡ operated_by s g tail None values h w in
+    ap (λ (x : Expr). with_value (evaluated_expression s x false h w) (λ c h w. operated_by s f tail (Some c) values h w)) r
     ∙ subst P (sym p) refl
     ∙ ap (λ (o : Option Value). operated_by s f tail o values h w) (sym q)

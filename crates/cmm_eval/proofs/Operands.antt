@@ -12,8 +12,8 @@ use Rattle.cmm_tree.specs.declared.expr.Form as form
 use Rattle.cmm_types.specs.Light.{is_light_address}
 use Rattle.cmm_meaning.specs.State.{World, Here, scope}
 use Rattle.cmm_meaning.specs.Evaluation.{Evaluated, Evaluation, Gives, Exits, Raises, Stops, Surroundings, and_then, with_value, unless_light, now_or_before}
-use Rattle.eval_frames.specs.declared.group.Group.TheVariants as group
-use Rattle.eval_frames.specs.Groups.{group_of}
+use Rattle.eval_frames.specs.declared.group.EvaluationGroup.TheVariants as group
+use Rattle.eval_frames.specs.Groups.{evaluation_group}
 use Rattle.eval_frames.specs.Held.{held, inside, waiting_held, filled_held}
 use Rattle.eval_frames.proofs.Listed.{then_same, value_same}
 use Rattle.eval_frames.specs.Filled.{operands_of, operated_by, fills_in, after_waiting, waits_for}
@@ -169,7 +169,7 @@ plain_row s f tail n k h w plain =
     (λ before h w long. plain before h w ∙ rest_row s f tail None n k before h w long)
 
 -- a node with a row of operands
-pub row_waits : (s : Surroundings) (f : Form) (tail : Bool) (h : Here) (w : World) → group_of f ≡ group.Row →
+pub row_waits : (s : Surroundings) (f : Form) (tail : Bool) (h : Here) (w : World) → evaluation_group f ≡ group.Row →
     waits_for s f tail (reverse (operands_of f)) [] h w ≡ inside s f tail h w
 row_waits s (form.Integer n) tail h w e = cc
 row_waits s (form.Pointer n) tail h w e = cc

@@ -10,17 +10,17 @@ use Rattle.cmm_tree.specs.View.{expr_view}
 use Rattle.cmm_types.specs.Light.{is_light_address}
 use Rattle.cmm_meaning.specs.State.{World, Here, scope}
 use Rattle.cmm_meaning.specs.Evaluation.{Evaluation, Surroundings, with_value, both, unless_light, now_or_before, first_of, rest_of}
-use Rattle.eval_frames.specs.Filled.{expression, fills_in, waits_for, left_of, right_of, joined_by, does}
+use Rattle.eval_frames.specs.Filled.{evaluated_expression, fills_in, waits_for, left_operand, right_of, joined_by, does}
 use Rattle.eval_frames.specs.declared.frame.Step.TheVariants as step
 
 -- the first of two operands begins
-pub both_begun : (s : Surroundings) (f : Form) (t : Bool) (l r : Expr) (tail : Bool) (h : Here) (w : World) → left_of s f h w ≡ expression s l false h w →
-    right_of s f h w ≡ expression s r false h w →
-    does s (step.First t) f tail (expression s (if t then l else r) false h w) ≡ both t (left_of s f) (right_of s f) h w (λ a b h w. joined_by s f a b h w)
+pub both_begun : (s : Surroundings) (f : Form) (t : Bool) (l r : Expr) (tail : Bool) (h : Here) (w : World) → left_operand s f h w ≡ evaluated_expression s l false h w →
+    right_of s f h w ≡ evaluated_expression s r false h w →
+    does s (step.First t) f tail (evaluated_expression s (if t then l else r) false h w) ≡ both t (left_operand s f) (right_of s f) h w (λ a b h w. joined_by s f a b h w)
 both_begun s f true l r tail h w left right =
     ap (λ (e : Evaluation). with_value e (λ a h w. with_value (right_of s f h w) (λ b h w. joined_by s f a b h w))) (sym left)
 both_begun s f false l r tail h w left right =
-    ap (λ (e : Evaluation). with_value e (λ b h w. with_value (left_of s f h w) (λ a h w. joined_by s f a b h w))) (sym right)
+    ap (λ (e : Evaluation). with_value e (λ b h w. with_value (left_operand s f h w) (λ a h w. joined_by s f a b h w))) (sym right)
 
 -- the last of what is left
 pub last_first : {A : Type 0} (xs : List A) (left : ℕ) (x : A) → 0 < left → left ≤ length xs → x ≡ get_or xs (left - 1) x →
@@ -64,13 +64,13 @@ item_at {A} (a ∷ xs) i lt = let x : A = get_or (a ∷ xs) i a in (x, get_or_de
 module _ (s : Surroundings) (f : Form) (tail : Bool) (callee : Option Value) (operands : List Expr) (left : ℕ) (x : Expr) (old new : List (Option Value))
     (o : Option (Option Value)) (values : List Value) (is : reverse (take left operands) ≡ x ∷ reverse (take (left - 1) operands)) (p : Popped old new o) (h : Here) (w : World) where
   filling : fills_in s f tail callee (reverse (take left operands)) (reverse old) (reverse values) h w
-      ≡ now_or_before (option_flatten o) (expression s x false) h w
+      ≡ now_or_before (option_flatten o) (evaluated_expression s x false) h w
       (λ v h w. fills_in s f tail callee (reverse (take (left - 1) operands)) (reverse new) (v ∷ reverse values) h w)
   filling =
       ap (λ l. fills_in s f tail callee l (reverse old) (reverse values) h w) is
-      ∙ ap (λ b. now_or_before b (expression s x false) h w
+      ∙ ap (λ b. now_or_before b (evaluated_expression s x false) h w
       (λ v h w. fills_in s f tail callee (reverse (take (left - 1) operands)) (rest_of (reverse old)) (v ∷ reverse values) h w)) p.first
-      ∙ ap (λ l. now_or_before (option_flatten o) (expression s x false) h w
+      ∙ ap (λ l. now_or_before (option_flatten o) (evaluated_expression s x false) h w
       (λ v h w. fills_in s f tail callee (reverse (take (left - 1) operands)) l (v ∷ reverse values) h w)) p.rest
 
   -- the operand has a value already
@@ -79,23 +79,23 @@ module _ (s : Surroundings) (f : Form) (tail : Bool) (callee : Option Value) (op
       ≡ fills_in s f tail callee (reverse (take left operands)) (reverse old) (reverse values) h w
   fill_before v e =
       ap (λ l. fills_in s f tail callee (reverse (take (left - 1) operands)) (reverse new) l h w) (reverse_push values v)
-      ∙ ap (λ b. now_or_before b (expression s x false) h w
+      ∙ ap (λ b. now_or_before b (evaluated_expression s x false) h w
       (λ v h w. fills_in s f tail callee (reverse (take (left - 1) operands)) (reverse new) (v ∷ reverse values) h w)) (sym e)
       ∙ sym filling
 
   -- the operand has waited
   pub fill_now : option_flatten o ≡ None →
-      with_value (expression s x false h w) (λ v h w. fills_in s f tail callee (reverse (take (left - 1) operands)) (reverse new) (v ∷ reverse values) h w)
+      with_value (evaluated_expression s x false h w) (λ v h w. fills_in s f tail callee (reverse (take (left - 1) operands)) (reverse new) (v ∷ reverse values) h w)
       ≡ fills_in s f tail callee (reverse (take left operands)) (reverse old) (reverse values) h w
   fill_now e =
-      ap (λ b. now_or_before b (expression s x false) h w
+      ap (λ b. now_or_before b (evaluated_expression s x false) h w
       (λ v h w. fills_in s f tail callee (reverse (take (left - 1) operands)) (reverse new) (v ∷ reverse values) h w)) (sym e)
       ∙ sym filling
 
 module _ (s : Surroundings) (f : Form) (tail : Bool) (operands : List Expr) (left : ℕ) (x : Expr) (values : List (Option Value))
     (is : reverse (take left operands) ≡ x ∷ reverse (take (left - 1) operands)) (h : Here) (w : World) where
   waiting : waits_for s f tail (reverse (take left operands)) (reverse values) h w
-      ≡ unless_light (is_light_address (scope h) (expr_view x)) (expression s x false) h w
+      ≡ unless_light (is_light_address (scope h) (expr_view x)) (evaluated_expression s x false) h w
       (λ v h w. waits_for s f tail (reverse (take (left - 1) operands)) (v ∷ reverse values) h w)
   waiting = ap (λ l. waits_for s f tail l (reverse values) h w) is
 
@@ -105,15 +105,15 @@ module _ (s : Surroundings) (f : Form) (tail : Bool) (operands : List Expr) (lef
       ≡ waits_for s f tail (reverse (take left operands)) (reverse values) h w
   wait_light e =
       ap (λ l. waits_for s f tail (reverse (take (left - 1) operands)) l h w) (reverse_push values None)
-      ∙ ap (λ t. unless_light t (expression s x false) h w (λ v h w. waits_for s f tail (reverse (take (left - 1) operands)) (v ∷ reverse values) h w)) (sym e)
+      ∙ ap (λ t. unless_light t (evaluated_expression s x false) h w (λ v h w. waits_for s f tail (reverse (take (left - 1) operands)) (v ∷ reverse values) h w)) (sym e)
       ∙ sym waiting
 
   -- any other operand is evaluated
   pub wait_other : is_light_address (scope h) (expr_view x) ≡ false →
-      with_value (expression s x false h w) (λ v h w. waits_for s f tail (reverse (take (left - 1) operands)) (Some v ∷ reverse values) h w)
+      with_value (evaluated_expression s x false h w) (λ v h w. waits_for s f tail (reverse (take (left - 1) operands)) (Some v ∷ reverse values) h w)
       ≡ waits_for s f tail (reverse (take left operands)) (reverse values) h w
   wait_other e =
-      ap (λ t. unless_light t (expression s x false) h w (λ v h w. waits_for s f tail (reverse (take (left - 1) operands)) (v ∷ reverse values) h w)) (sym e)
+      ap (λ t. unless_light t (evaluated_expression s x false) h w (λ v h w. waits_for s f tail (reverse (take (left - 1) operands)) (v ∷ reverse values) h w)) (sym e)
       ∙ sym waiting
 
 -- a sum that did not pass a word

@@ -9,7 +9,7 @@ use Rattle.cmm_meaning.specs.Evaluation.{Evaluation, Gives, Exits, Raises, Stops
 use Rattle.cmm_meaning.specs.Run.{finished}
 use Rattle.cmm_meaning.specs.Layout.{Layout}
 use Rattle.eval_frames.specs.Outside.{returned}
-use Rattle.eval_frames.specs.Filled.{does, fills, resume}
+use Rattle.eval_frames.specs.Filled.{does, fills_frame, resume}
 use Rattle.eval_frames.specs.Meets.{judged, verdict_on, meets}
 use Rattle.eval_frames.specs.Passing.{returns, NeverExits, Passes, TakesPlace}
 use Rattle.eval_frames.specs.Views.{here_view}
@@ -109,7 +109,7 @@ frame_at xs left f some within at =
 
 resume_append : (s : Surroundings) (outer inner : List Frame) (e : Evaluation) → resume s (outer ++ inner) e ≡ resume s outer (resume s inner e)
 resume_append s [] inner e = refl
-resume_append s (f ∷ outer) inner e = ap (fills s f) (resume_append s outer inner e)
+resume_append s (f ∷ outer) inner e = ap (fills_frame s f) (resume_append s outer inner e)
 
 -- The callee takes its caller's place: back in the activation h0 to which the caller returns, it meets the tests of
 -- the caller after its own.

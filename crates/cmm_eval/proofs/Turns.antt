@@ -6,20 +6,20 @@ use Rattle.cmm_tree.specs.declared.expr.Form.{Form}
 use Rattle.cmm_tree.specs.declared.expr.Form as form
 use Rattle.cmm_meaning.specs.State.{World, Here}
 use Rattle.cmm_meaning.specs.Evaluation.{OutOfFuel, NotProper, Evaluation, Stops, Surroundings, spend, typed}
-use Rattle.eval_frames.specs.declared.group.Group.{Group}
-use Rattle.eval_frames.specs.declared.group.Group.TheVariants as group
+use Rattle.eval_frames.specs.declared.group.EvaluationGroup.{EvaluationGroup}
+use Rattle.eval_frames.specs.declared.group.EvaluationGroup.TheVariants as group
 use Rattle.eval_frames.specs.declared.frame.Frame.{Frame}
-use Rattle.eval_frames.specs.Groups.{group_of}
+use Rattle.eval_frames.specs.Groups.{evaluation_group}
 use Rattle.eval_frames.specs.Held.{is_float_form, node_held, inside}
-use Rattle.eval_frames.specs.Filled.{expression, fills, resume}
+use Rattle.eval_frames.specs.Filled.{evaluated_expression, fills_frame, resume}
 use Rattle.cmm_eval.proofs.Resumed.{resume_push}
 
 -- a frame that is added, and what is evaluated in it
-pub pushed : (s : Surroundings) (frames new : List Frame) (f : Frame) (e whole : Evaluation) → new ≡ frames ++ f ∷ [] → fills s f e ≡ whole →
+pub pushed : (s : Surroundings) (frames new : List Frame) (f : Frame) (e whole : Evaluation) → new ≡ frames ++ f ∷ [] → fills_frame s f e ≡ whole →
     resume s new e ≡ resume s frames whole
 pushed s frames new f e whole p q = ap (λ (l : List Frame). resume s l e) p ∙ resume_push s frames f e ∙ ap (resume s frames) q
 
-abbrev is_float_group : Group → Bool
+abbrev is_float_group : EvaluationGroup → Bool
 is_float_group group.Float = true
 is_float_group group.Leaf = false
 is_float_group group.One = false
@@ -28,7 +28,7 @@ is_float_group group.Row = false
 is_float_group group.Sequence = false
 is_float_group group.Scope = false
 
-float_group : (f : Form) → is_float_form f ≡ is_float_group (group_of f)
+float_group : (f : Form) → is_float_form f ≡ is_float_group (evaluation_group f)
 float_group (form.Integer n) = refl
 float_group (form.Pointer n) = refl
 float_group (form.Symbol name) = refl
@@ -52,7 +52,7 @@ float_group (form.Catch' p at type body shape handlers) = refl
 float_group (form.Exit' label_at label shape arguments) = refl
 float_group (form.Try' p at type body name_at name q handler_at handler_type handler) = refl
 
-not_float : (g : Group) → g ≢ group.Float → is_float_group g ≡ false
+not_float : (g : EvaluationGroup) → g ≢ group.Float → is_float_group g ≡ false
 not_float group.Float p = absurd (p refl)
 not_float group.Leaf p = refl
 not_float group.One p = refl
@@ -62,8 +62,8 @@ not_float group.Sequence p = refl
 not_float group.Scope p = refl
 
 -- a float begins no node
-pub floats : (s : Surroundings) (e : Expr) (tail : Bool) (h : Here) (w : World) → group_of e.form ≡ group.Float →
-    expression s e tail h w ≡ Stops (NotProper BadValue) w
+pub floats : (s : Surroundings) (e : Expr) (tail : Bool) (h : Here) (w : World) → evaluation_group e.form ≡ group.Float →
+    evaluated_expression s e tail h w ≡ Stops (NotProper BadValue) w
 floats s e tail h w p =
     ap (λ b. node_held s b e.ty w (λ w. inside s e.form tail h w)) (float_group e.form ∙ ap is_float_group p)
 
@@ -71,19 +71,19 @@ spent : (left : ℕ) (w : World) (go : World → Evaluation) → left ≢ 0 → 
 spent zero w go p = absurd (p refl)
 spent (suc n) w go p = let e : n ≡ suc n - 1 = omega arith in ap (λ k. go (record w { left = k })) e
 
-begun : (s : Surroundings) (e : Expr) (tail : Bool) (h : Here) (w : World) → group_of e.form ≢ group.Float →
-    expression s e tail h w ≡ spend w.left w (λ w. typed s.end e.ty (inside s e.form tail h w))
+begun : (s : Surroundings) (e : Expr) (tail : Bool) (h : Here) (w : World) → evaluation_group e.form ≢ group.Float →
+    evaluated_expression s e tail h w ≡ spend w.left w (λ w. typed s.end e.ty (inside s e.form tail h w))
 begun s e tail h w p =
-    ap (λ b. node_held s b e.ty w (λ w. inside s e.form tail h w)) (float_group e.form ∙ not_float (group_of e.form) p)
+    ap (λ b. node_held s b e.ty w (λ w. inside s e.form tail h w)) (float_group e.form ∙ not_float (evaluation_group e.form) p)
 
 -- no unit is left
-pub out_of_fuel : (s : Surroundings) (e : Expr) (tail : Bool) (h : Here) (w : World) → group_of e.form ≢ group.Float → w.left ≡ 0 →
-    expression s e tail h w ≡ Stops OutOfFuel w
+pub out_of_fuel : (s : Surroundings) (e : Expr) (tail : Bool) (h : Here) (w : World) → evaluation_group e.form ≢ group.Float → w.left ≡ 0 →
+    evaluated_expression s e tail h w ≡ Stops OutOfFuel w
 out_of_fuel s e tail h w p q =
     begun s e tail h w p ∙ ap (λ n. spend n w (λ w. typed s.end e.ty (inside s e.form tail h w))) q
 
 -- a node takes a unit, and what it gives is tested
-pub node_begins : (s : Surroundings) (e : Expr) (tail : Bool) (h : Here) (w : World) → group_of e.form ≢ group.Float → w.left ≢ 0 →
-    typed s.end e.ty (inside s e.form tail h (record w { left = w.left - 1 })) ≡ expression s e tail h w
+pub node_begins : (s : Surroundings) (e : Expr) (tail : Bool) (h : Here) (w : World) → evaluation_group e.form ≢ group.Float → w.left ≢ 0 →
+    typed s.end e.ty (inside s e.form tail h (record w { left = w.left - 1 })) ≡ evaluated_expression s e tail h w
 node_begins s e tail h w p q =
     sym (begun s e tail h w p ∙ spent w.left w (λ w. typed s.end e.ty (inside s e.form tail h w)) q)

@@ -3,7 +3,7 @@ ghost use Rattle.std.specs.Prelude.{◌≡◌, IfOk};
 ghost use Rattle.cmm_tree.specs.View.{label_view};
 ghost use Rattle.cmm_meaning.specs.Evaluation as evaluation;
 ghost use Rattle.cmm_meaning.specs.Evaluation.{Exits, Raises};
-ghost use Rattle.eval_frames.specs.Filled.{fills};
+ghost use Rattle.eval_frames.specs.Filled.{fills_frame};
 ghost use Rattle.eval_frames.specs.Around.{IsAround, around_view};
 ghost use Rattle.cmm_eval.specs.Stands.{stands, goes_on, stands_in, goes_on_in};
 ghost use Rattle.cmm_eval.specs.Turns.{TurnsFall};
@@ -30,7 +30,7 @@ impl<'a> Machine<'a> {
         requires { IsAround around.now }
         ensures meaning { IfOk result (λ now. stands around.now self.new now ≡
             goes_on around.now self.old
-            (λ h w. fills (around_view around.now) frame.entry (Exits
+            (λ h w. fills_frame (around_view around.now) frame.entry (Exits
             (label_view label.entry.now) values.items h w))) }
         ensures falls { IfOk result (λ now. TurnsFall 3 self.old self.new now) }
     {
@@ -92,7 +92,7 @@ impl<'a> Machine<'a> {
     pub(crate) fn raise(&mut self, frame: Frame<'a>, value: Value) -> Result<Now<'a>, AllocError>
         ensures meaning { IfOk result (λ now. (s : evaluation.Surroundings) →
             stands_in s self.new now ≡ goes_on_in s self.old (λ h w.
-            fills s frame.entry (Raises value h w))) }
+            fills_frame s frame.entry (Raises value h w))) }
         ensures falls { IfOk result (λ now. TurnsFall 3 self.old self.new now) }
     {
         let Frame { form, tail, step } = frame;

@@ -3,7 +3,7 @@ ghost use Rattle.std.specs.Prelude.{◌≡◌, IfOk, None, Some};
 ghost use Rattle.cmm_meaning.specs.Evaluation as evaluation;
 ghost use Rattle.cmm_meaning.specs.Evaluation.{Gives};
 ghost use Rattle.eval_frames.specs.declared.frame.Step.{Step};
-ghost use Rattle.eval_frames.specs.Filled.{WantsValue, does, fills, taken_by, joined_by, body_of, first_bound};
+ghost use Rattle.eval_frames.specs.Filled.{WantsValue, does, fills_frame, taken_by, joined_by, body_of, first_bound};
 ghost use Rattle.eval_frames.specs.Around.{IsAround, around_view};
 ghost use Rattle.cmm_eval.specs.Stands.{stands, goes_on, stands_in, goes_on_in};
 ghost use Rattle.cmm_eval.specs.Turns.{TurnsFall};
@@ -17,7 +17,7 @@ use eval_frames::bind::bind_value;
 use eval_frames::cases::case_for;
 use eval_frames::frame::{Frame, Now, Row, Step};
 use eval_frames::given::{checked, given, not_proper, of_type, raised};
-use eval_frames::group::{Group, group_of};
+use eval_frames::group::{EvaluationGroup, group_of};
 use eval_frames::operands::{both_operands, earlier, operands_of};
 use std::alloc::AllocError;
 
@@ -32,7 +32,7 @@ impl<'a> Machine<'a> {
         requires { IsAround around.now }
         ensures meaning { IfOk result (λ now. stands around.now self.new now ≡
             goes_on around.now self.old
-            (λ h w. fills (around_view around.now) frame.entry (Gives value h w))) }
+            (λ h w. fills_frame (around_view around.now) frame.entry (Gives value h w))) }
         ensures falls { IfOk result (λ now. TurnsFall 3 self.old self.new now) }
     {
         let Frame { form, tail, step } = frame;
@@ -71,7 +71,7 @@ impl<'a> Machine<'a> {
         requires wants { WantsValue frame.step }
         ensures meaning { IfOk result (λ now. stands around.now self.new now ≡
             goes_on around.now self.old
-            (λ h w. fills (around_view around.now) frame.entry (Gives (Some value) h w))) }
+            (λ h w. fills_frame (around_view around.now) frame.entry (Gives (Some value) h w))) }
         ensures falls { IfOk result (λ now. TurnsFall 3 self.old self.new now) }
     {
         let Frame { form, tail, step } = frame;
@@ -199,7 +199,7 @@ impl<'a> Machine<'a> {
             does s (Step.First left_first) form.entry.now tail (Gives (Some first) h w))) }
         ensures falls { IfOk result (λ now. TurnsFall 3 self.old self.new now) }
     {
-        if group_of(form) != Group::Two {
+        if group_of(form) != EvaluationGroup::Two {
             return Ok(not_proper(Kind::BadValue));
         }
         let (left, right) = both_operands(form);

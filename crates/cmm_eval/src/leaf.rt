@@ -1,7 +1,7 @@
 //! Nodes without parts, and those with one or two operands.
 ghost use Rattle.std.specs.Prelude.{◌≡◌, IfOk, false};
-ghost use Rattle.eval_frames.specs.Groups.{group_of};
-ghost use Rattle.eval_frames.specs.declared.group.Group.{Group};
+ghost use Rattle.eval_frames.specs.Groups.{evaluation_group};
+ghost use Rattle.eval_frames.specs.declared.group.EvaluationGroup.{EvaluationGroup};
 ghost use Rattle.eval_frames.specs.Views.{here_view, world_view};
 ghost use Rattle.eval_frames.specs.Held.{inside};
 ghost use Rattle.eval_frames.specs.Filled.{standing};
@@ -23,7 +23,7 @@ impl<'a> Machine<'a> {
     /// A node without parts.
     pub(crate) fn leaf(&self, around: &Surroundings<'a>, form: &'a Form) -> Now<'a>
         requires around { IsAround around.now }
-        requires leaf { group_of form.now ≡ Group.Leaf }
+        requires leaf { evaluation_group form.now ≡ EvaluationGroup.Leaf }
         ensures { standing (around_view around.now) result (here_view self.now.here)
             (world_view self.now.world) ≡ inside (around_view around.now) form.entry.now false
             (here_view self.now.here) (world_view self.now.world) }
@@ -62,7 +62,7 @@ impl<'a> Machine<'a> {
         form: &'a Form,
         tail: bool,
     ) -> Result<Now<'a>, AllocError>
-        requires { group_of form.now ≡ Group.One }
+        requires { evaluation_group form.now ≡ EvaluationGroup.One }
         ensures meaning { IfOk result (λ now. stands around.now self.new now ≡
             goes_on around.now self.old
             (λ h w. inside (around_view around.now) form.entry.now tail h w)) }
@@ -81,7 +81,7 @@ impl<'a> Machine<'a> {
         form: &'a Form,
         tail: bool,
     ) -> Result<Now<'a>, AllocError>
-        requires { group_of form.now ≡ Group.Two }
+        requires { evaluation_group form.now ≡ EvaluationGroup.Two }
         ensures meaning { IfOk result (λ now. stands around.now self.new now ≡
             goes_on around.now self.old
             (λ h w. inside (around_view around.now) form.entry.now tail h w)) }

@@ -1,9 +1,9 @@
 //! The machine: an activation, the world, and what is still to be done.
 ghost use Rattle.std.specs.Prelude.{◌≡◌, ◌^◌, ◌<◌, ◌+◌, ◌++◌, ◌∷◌, [], IfOk};
 ghost use Rattle.eval_frames.specs.Views.{here_view, world_view};
-ghost use Rattle.eval_frames.specs.Groups.{group_of};
+ghost use Rattle.eval_frames.specs.Groups.{evaluation_group};
 ghost use Rattle.eval_frames.specs.Held.{inside};
-ghost use Rattle.eval_frames.specs.Filled.{HasEnded, expression, standing, fills};
+ghost use Rattle.eval_frames.specs.Filled.{HasEnded, evaluated_expression, standing, fills_frame};
 ghost use Rattle.eval_frames.specs.Around.{IsAround, around_view};
 ghost use Rattle.cmm_eval.specs.Stands.{stands, goes_on};
 ghost use Rattle.cmm_eval.specs.Turns.{TurnsFall, turns};
@@ -13,7 +13,7 @@ use cmm_tree::{Expr, Form};
 use eval_frames::around::Surroundings;
 use eval_frames::frame::{Frame, Now, Step};
 use eval_frames::given::not_proper;
-use eval_frames::group::{Group, group_of};
+use eval_frames::group::{EvaluationGroup, group_of};
 use eval_frames::here::Here;
 use eval_frames::operands::operands_of;
 use eval_frames::world::{Stop, World};
@@ -70,10 +70,10 @@ impl<'a> Machine<'a> {
         requires { IsAround around.now }
         ensures meaning { IfOk result (λ now. stands around.now self.new now ≡
             goes_on around.now self.old
-            (λ h w. expression (around_view around.now) expr.entry.now tail h w)) }
+            (λ h w. evaluated_expression (around_view around.now) expr.entry.now tail h w)) }
         ensures falls { IfOk result (λ now. TurnsFall 0 self.old self.new now) }
     {
-        if group_of(&expr.form) == Group::Float {
+        if group_of(&expr.form) == EvaluationGroup::Float {
             return Ok(not_proper(Kind::BadValue));
         }
         if self.world.left == 0 {
@@ -120,19 +120,19 @@ impl<'a> Machine<'a> {
         ensures falls { IfOk result (λ now. TurnsFall 4 self.old self.new now) }
     {
         match group_of(form) {
-            Group::Float => Ok(not_proper(Kind::BadValue)),
-            Group::Leaf => Ok(self.leaf(around, form)),
-            Group::One => self.operand(around, form, tail),
-            Group::Two => self.operands(around, form, tail),
-            Group::Row => self.wait(
+            EvaluationGroup::Float => Ok(not_proper(Kind::BadValue)),
+            EvaluationGroup::Leaf => Ok(self.leaf(around, form)),
+            EvaluationGroup::One => self.operand(around, form, tail),
+            EvaluationGroup::Two => self.operands(around, form, tail),
+            EvaluationGroup::Row => self.wait(
                 around,
                 form,
                 tail,
                 operands_of(form),
                 Vec::new(around.alloc),
             ),
-            Group::Sequence => self.sequence(form, tail),
-            Group::Scope => self.enter_scope(form, tail),
+            EvaluationGroup::Sequence => self.sequence(form, tail),
+            EvaluationGroup::Scope => self.enter_scope(form, tail),
         }
     }
 
@@ -147,7 +147,7 @@ impl<'a> Machine<'a> {
         requires ended { HasEnded ended }
         ensures meaning { IfOk result (λ now. stands around.now self.new now ≡
             goes_on around.now self.old
-            (λ h w. fills (around_view around.now) frame.entry (standing
+            (λ h w. fills_frame (around_view around.now) frame.entry (standing
             (around_view around.now) ended.entry h w))) }
         ensures falls { IfOk result (λ now. TurnsFall 3 self.old self.new now) }
     {

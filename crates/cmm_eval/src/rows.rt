@@ -1,10 +1,10 @@
 //! Rows of operands, elements of sequences, and scopes that are entered.
 ghost use Rattle.std.specs.Prelude.{◌≡◌, ◌^◌, ◌<◌, ◌+◌, false, IfOk, reverse};
 ghost use Rattle.cmm_meaning.specs.State.{taken, within_try, deepened};
-ghost use Rattle.eval_frames.specs.Filled.{expression, elements_from, waits_for, after_waiting, row_fills};
-ghost use Rattle.eval_frames.specs.Groups.{group_of};
+ghost use Rattle.eval_frames.specs.Filled.{evaluated_expression, elements_from, waits_for, after_waiting, row_fills};
+ghost use Rattle.eval_frames.specs.Groups.{evaluation_group};
 ghost use Rattle.eval_frames.specs.Held.{inside};
-ghost use Rattle.eval_frames.specs.declared.group.Group.{Group};
+ghost use Rattle.eval_frames.specs.declared.group.EvaluationGroup.{EvaluationGroup};
 ghost use Rattle.eval_frames.specs.Around.{IsAround, around_view};
 ghost use Rattle.cmm_eval.specs.Stands.{stands, goes_on, stands_in, goes_on_in};
 ghost use Rattle.cmm_eval.specs.Turns.{TurnsFall};
@@ -22,7 +22,7 @@ use std::alloc::AllocError;
 impl<'a> Machine<'a> {
     /// A sequence.
     pub(crate) fn sequence(&mut self, form: &'a Form, tail: bool) -> Result<Now<'a>, AllocError>
-        requires { group_of form.now ≡ Group.Sequence }
+        requires { evaluation_group form.now ≡ EvaluationGroup.Sequence }
         ensures meaning { IfOk result (λ now. (s : evaluation.Surroundings) →
             stands_in s self.new now ≡ goes_on_in s self.old (λ h w.
             inside s form.entry.now tail h w)) }
@@ -80,7 +80,7 @@ impl<'a> Machine<'a> {
 
     /// A let, a catch or a try, which has taken a unit.
     pub(crate) fn enter_scope(&mut self, form: &'a Form, tail: bool) -> Result<Now<'a>, AllocError>
-        requires group { group_of form.now ≡ Group.Scope }
+        requires group { evaluation_group form.now ≡ EvaluationGroup.Scope }
         requires taken { self.old.world.left + 1 < 2 ^ 64 }
         ensures meaning { IfOk result (λ now. (s : evaluation.Surroundings) →
             stands_in s self.new now ≡ goes_on_in s self.old (λ h w.
@@ -139,7 +139,7 @@ impl<'a> Machine<'a> {
     fn begin_try(&mut self, body: &'a Expr) -> Result<Now<'a>, AllocError>
         ensures meaning { IfOk result (λ now. (s : evaluation.Surroundings) →
             stands_in s self.new now ≡ goes_on_in s self.old (λ h w.
-            expression s body.entry.now false (within_try h) (deepened (taken
+            evaluated_expression s body.entry.now false (within_try h) (deepened (taken
             (within_try h)) w))) }
         ensures falls { IfOk result (λ now. TurnsFall 3 self.old self.new now) }
     {

@@ -7,10 +7,10 @@ use Rattle.cmm_tree.specs.Tree.{Expression, Switch, Catch, Handlers, Handle}
 use Rattle.cmm_tree.specs.View.{expr_view, label_view, params_view}
 use Rattle.cmm_tree.specs.declared.expr.Handler.{Handler}
 use Rattle.cmm_grammar.specs.Parts.{CasePart, HandlerPart, HeadPart, cases, handlers}
-use Rattle.cmm_grammar.specs.Words.{is_open, is_integer, is_case, passing, word_of}
+use Rattle.cmm_grammar.specs.Words.{is_open, is_integer, is_case, passing, word_or_zero}
 use Rattle.cmm_grammar.specs.Rule.{Expr}
 use Rattle.cmm_grammar.specs.Grammar.{let_form, labelled_handlers, a_token, switch_form, a_case, handler_rest, more_handlers}
-use Rattle.cmm_grammar.specs.Reading.{Outcome, Read, Reader, bind, one_by, some_of, reading, forms_below, reads}
+use Rattle.cmm_grammar.specs.Reading.{ReadOutcome, Read, Reader, bind, one_by, some_of, reading, forms_below, reads}
 use Rattle.cmm_grammar.proofs.Basics.{cond_off}
 use Rattle.cmm_tree.specs.Rows.{handlers_of}
 use Rattle.cmm_exprs.specs.Results.{binding_rule, let_one, case_goes_on, handler_part, marked_parts}
@@ -35,21 +35,21 @@ pub switch-read : (at d : ℕ) (ts us vs ws rest : List TokenTree) (size token :
     → reads Expr d us ≡ Read selector vs
     → one_by (passing is_case) vs ≡ Read token ws
     → some_of case_goes_on (reading a_case d (forms_below d)) (suc (length ws)) ws ≡ Read cs rest
-    → reads (switch_form at) d ts ≡ Read (Switch at size.at (word_of (integer_value size.text)) selector (cases cs)) rest
+    → reads (switch_form at) d ts ≡ Read (Switch at size.at (word_or_zero (integer_value size.text)) selector (cases cs)) rest
 unfolding switch_form a_token
 switch-read at d ts us vs ws rest size token selector cs e f g h =
     let last : TokenTree → Expression → List CasePart → Reader Expression =
-    λ size selector cs rest. Read (Switch at size.at (word_of (integer_value size.text)) selector (cases cs)) rest
+    λ size selector cs rest. Read (Switch at size.at (word_or_zero (integer_value size.text)) selector (cases cs)) rest
     in
     let third : TokenTree → Expression → TokenTree → Reader Expression =
     λ size selector token ws. bind (some_of case_goes_on (reading a_case d (forms_below d)) (suc (length ws)) ws) (last size selector)
     in
     let second : TokenTree → Expression → Reader Expression = λ size selector vs. bind (one_by (passing is_case) vs) (third size selector) in
     let first : TokenTree → Reader Expression = λ size us. bind (reads Expr d us) (second size) in
-    ap (λ (o : Outcome TokenTree). bind o first) e
-    ∙ ap (λ (o : Outcome Expression). bind o (second size)) f
-    ∙ ap (λ (o : Outcome TokenTree). bind o (third size selector)) g
-    ∙ ap (λ (o : Outcome (List CasePart)). bind o (last size selector)) h
+    ap (λ (o : ReadOutcome TokenTree). bind o first) e
+    ∙ ap (λ (o : ReadOutcome Expression). bind o (second size)) f
+    ∙ ap (λ (o : ReadOutcome TokenTree). bind o (third size selector)) g
+    ∙ ap (λ (o : ReadOutcome (List CasePart)). bind o (last size selector)) h
 
 -- ---- catch
 
@@ -62,7 +62,7 @@ unfolding labelled_handlers
 labelled-read at d body label ts us rest h hs e f =
     let second : HandlerPart → List HandlerPart → Reader Expression = λ h hs rest. Read (Catch at body (handlers (h ∷ hs))) rest in
     let first : HandlerPart → Reader Expression = λ h us. bind (reads (more_handlers h.goes_on) d us) (second h) in
-    ap (λ (o : Outcome HandlerPart). bind o first) e ∙ ap (λ (o : Outcome (List HandlerPart)). bind o (second h)) f
+    ap (λ (o : ReadOutcome HandlerPart). bind o first) e ∙ ap (λ (o : ReadOutcome (List HandlerPart)). bind o (second h)) f
 
 pub insert-first : {A : Type 0} (xs : List A) (x : A) → insert xs 0 x ≡ x ∷ xs
 insert-first [] x = refl

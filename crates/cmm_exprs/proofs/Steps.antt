@@ -3,7 +3,7 @@ use Rattle.std.proofs.Common.{◌≡◌, ℕ, ◌<◌, suc, Bool, true, false, L
 use Rattle.std.proofs.lemmas.List.{map-append}
 use Rattle.cmm_lex.specs.Token.{TokenTree}
 use Rattle.cmm_grammar.specs.Rule.{Sort, Value, Rule, Give, One, Then, Expr, Inside, InsideOr, LabelledOr, Until, Maybe, Repeat}
-use Rattle.cmm_grammar.specs.Reading.{Outcome, Read, Stops, Stuck, Reader, Forms, bind, some_of, reading, forms_below}
+use Rattle.cmm_grammar.specs.Reading.{ReadOutcome, Read, Stops, Stuck, Reader, Forms, bind, some_of, reading, forms_below}
 use Rattle.cmm_exprs.specs.Results.{marked_parts}
 use Rattle.cmm_parts.proofs.Lengths.{Takes, shorter}
 use Rattle.cmm_exprs.proofs.Repeating.{Repeating, repeating-on, repeating-last}
@@ -21,7 +21,7 @@ takes-none _ (Until s t stop r k) h d forms = absurd h
 takes-none _ (Maybe s t f k) h d forms = absurd h
 takes-none _ (Repeat s more r) h d forms = absurd h
 
-stops-read : {A : Type 0} {G : Type 0} (o : Outcome A) (a : A) (rest : List TokenTree) → o ≡ Stops Stuck 0 → o ≡ Read a rest → G
+stops-read : {A : Type 0} {G : Type 0} (o : ReadOutcome A) (a : A) (rest : List TokenTree) → o ≡ Stops Stuck 0 → o ≡ Read a rest → G
 stops-read o a rest h g = cc
 
 -- a rule that takes a token leaves fewer

@@ -3,7 +3,7 @@ ghost use Rattle.std.specs.Prelude.{map};
 ghost use Rattle.cmm_grammar.specs.Words.{is_close};
 ghost use Rattle.cmm_grammar.specs.Grammar.{a_binding, a_mutable_binding, bindings_to_close, let_body, let_form};
 ghost use Rattle.cmm_tree.specs.View.{expr_view};
-ghost use Rattle.cmm_parts.specs.Results.{trees, Gives, ReadsBy, many_of};
+ghost use Rattle.cmm_parts.specs.Results.{trees, GivesReading, ReadsBy, many_of};
 ghost use Rattle.cmm_nodes.specs.Nodes.{binding_part};
 ghost use Rattle.cmm_operations.specs.Forms.{MayRead, ReadsForms};
 ghost use Rattle.cmm_exprs.specs.Results.{binding_rule, enclosed_bindings, let_one};
@@ -97,7 +97,7 @@ fn binding_list<'t, F: Fn(&'t [Token], u32, u32) -> Result<(Expr, &'t [Token]), 
 ) -> Result<(Vec<Binding>, &'t [Token]), Stop>
     requires callable { MayRead (F.pre forms.now) depth }
     requires forms_read { ReadsForms (F.post forms.now) source.now depth }
-    ensures { Gives (λ x. map binding_part x.0.items) (λ x. trees source.now x.1.now) result
+    ensures { GivesReading (λ x. map binding_part x.0.items) (λ x. trees source.now x.1.now) result
         (many_of is_close (binding_rule mutable) depth (trees source.now tokens.now)) }
 {
     let mut bindings = Vec::new(alloc);
@@ -148,7 +148,7 @@ fn enclosed_bindings<'t, F: Fn(&'t [Token], u32, u32) -> Result<(Expr, &'t [Toke
 ) -> Result<(Vec<Binding>, &'t [Token]), Stop>
     requires callable { MayRead (F.pre forms.now) depth }
     requires forms_read { ReadsForms (F.post forms.now) source.now depth }
-    ensures { Gives (λ x. map binding_part x.0.items) (λ x. trees source.now x.1.now) result
+    ensures { GivesReading (λ x. map binding_part x.0.items) (λ x. trees source.now x.1.now) result
         (enclosed_bindings (binding_rule mutable) depth (trees source.now tokens.now)) }
 {
     if depth == 0 {

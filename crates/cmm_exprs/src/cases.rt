@@ -3,7 +3,7 @@ ghost use Rattle.std.specs.Prelude.{map};
 ghost use Rattle.cmm_grammar.specs.Grammar.{while_form, case_body, a_case, switch_form};
 ghost use Rattle.cmm_grammar.specs.Reading.{reads};
 ghost use Rattle.cmm_tree.specs.View.{expr_view, index_view};
-ghost use Rattle.cmm_parts.specs.Results.{trees, Gives, ReadsBy};
+ghost use Rattle.cmm_parts.specs.Results.{trees, GivesReading, ReadsBy};
 ghost use Rattle.cmm_operations.specs.Forms.{MayRead, ReadsForms};
 ghost use Rattle.cmm_exprs.specs.Results.{case_part, case_goes_on, marked_parts, some_by};
 
@@ -49,7 +49,7 @@ fn case_body<'t, F: Fn(&'t [Token], u32, u32) -> Result<(Expr, &'t [Token]), Sto
 ) -> Result<(Case, bool, &'t [Token]), Stop>
     requires callable { MayRead (F.pre forms.now) depth }
     requires forms_read { ReadsForms (F.post forms.now) source.now depth }
-    ensures { Gives (λ x. case_part x.1 x.0) (λ x. trees source.now x.2.now) result
+    ensures { GivesReading (λ x. case_part x.1 x.0) (λ x. trees source.now x.2.now) result
         (reads (case_body (map index_view indexes.items)) depth (trees source.now tokens.now)) }
 {
     let (first, rest) = operand(forms, alloc, source, tokens, depth)?;
@@ -70,7 +70,7 @@ fn a_case<'t, F: Fn(&'t [Token], u32, u32) -> Result<(Expr, &'t [Token]), Stop>>
 ) -> Result<(Case, bool, &'t [Token]), Stop>
     requires callable { MayRead (F.pre forms.now) depth }
     requires forms_read { ReadsForms (F.post forms.now) source.now depth }
-    ensures { Gives (λ x. case_part x.1 x.0) (λ x. trees source.now x.2.now) result
+    ensures { GivesReading (λ x. case_part x.1 x.0) (λ x. trees source.now x.2.now) result
         (reads a_case depth (trees source.now tokens.now)) }
 {
     let (first, rest) = case_number(source, tokens, depth)?;
@@ -90,7 +90,7 @@ fn case_list<'t, F: Fn(&'t [Token], u32, u32) -> Result<(Expr, &'t [Token]), Sto
 ) -> Result<(Vec<Case>, &'t [Token]), Stop>
     requires callable { MayRead (F.pre forms.now) depth }
     requires forms_read { ReadsForms (F.post forms.now) source.now depth }
-    ensures { Gives (λ x. marked_parts case_part x.0.items) (λ x. trees source.now x.1.now) result
+    ensures { GivesReading (λ x. marked_parts case_part x.0.items) (λ x. trees source.now x.1.now) result
         (some_by case_goes_on a_case depth (trees source.now tokens.now)) }
 {
     let mut cases = Vec::new(alloc);

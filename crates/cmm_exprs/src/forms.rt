@@ -1,9 +1,9 @@
 //! All forms, by their words.
 ghost use Rattle.std.specs.Prelude.{◌<◌};
-ghost use Rattle.cmm_grammar.specs.Grammar.{sequence_to_close, form_of, form};
+ghost use Rattle.cmm_grammar.specs.Grammar.{sequence_to_close, form_of, open_form};
 ghost use Rattle.cmm_grammar.specs.Reading.{reads};
 ghost use Rattle.cmm_tree.specs.View.{expr_view};
-ghost use Rattle.cmm_parts.specs.Results.{trees, Gives, ReadsBy};
+ghost use Rattle.cmm_parts.specs.Results.{trees, GivesReading, ReadsBy};
 ghost use Rattle.cmm_operations.specs.Forms.{MayRead, ReadsForms};
 
 use crate::bindings::let_form;
@@ -67,7 +67,7 @@ fn form_of<'t, F: Fn(&'t [Token], u32, u32) -> Result<(Expr, &'t [Token]), Stop>
 }
 
 /// A form after its parenthesis.
-#[tactic(auto, unfolding(cmm_grammar::specs::Grammar::form))]
+#[tactic(auto, unfolding(cmm_grammar::specs::Grammar::open_form))]
 fn form<'t, F: Fn(&'t [Token], u32, u32) -> Result<(Expr, &'t [Token]), Stop>>(
     forms: &F,
     alloc: Global,
@@ -78,7 +78,7 @@ fn form<'t, F: Fn(&'t [Token], u32, u32) -> Result<(Expr, &'t [Token]), Stop>>(
 ) -> Result<(Expr, &'t [Token]), Stop>
     requires callable { MayRead (F.pre forms.now) depth }
     requires forms_read { ReadsForms (F.post forms.now) source.now depth }
-    ensures { ReadsBy (form at) expr_view depth source.now tokens.now result }
+    ensures { ReadsBy (open_form at) expr_view depth source.now tokens.now result }
 {
     let (word, head, rest) = head(source, tokens)?;
     form_of(
@@ -93,7 +93,7 @@ fn form<'t, F: Fn(&'t [Token], u32, u32) -> Result<(Expr, &'t [Token]), Stop>>(
 }
 
 /// A form after its parenthesis, and all forms inside it.
-#[cycle(form)]
+#[cycle(open_form)]
 fn form_at<'t>(
     alloc: Global,
     source: &[u8],
@@ -101,11 +101,11 @@ fn form_at<'t>(
     depth: u32,
     at: u32,
 ) -> Result<(Expr, &'t [Token]), Stop>
-    ensures { ReadsBy (form at) expr_view depth source.now tokens.now result }
+    ensures { ReadsBy (open_form at) expr_view depth source.now tokens.now result }
 {
     let forms = |rest, below: u32, place: u32|
         requires { below < depth }
-        ensures { ReadsBy (form place) expr_view below source.entry.now rest.now result }
+        ensures { ReadsBy (open_form place) expr_view below source.entry.now rest.now result }
     {
         let _ = &depth;
         form_at(alloc, source, rest, below, place)
@@ -124,11 +124,11 @@ pub fn function_body<'t>(
     tokens: &'t [Token],
     depth: u32,
 ) -> Result<(Expr, &'t [Token]), Stop>
-    ensures { Gives (λ x. expr_view x.0) (λ x. trees source.now x.1.now) result
+    ensures { GivesReading (λ x. expr_view x.0) (λ x. trees source.now x.1.now) result
         (reads sequence_to_close depth (trees source.now tokens.now)) }
 {
     let forms = |rest, below: u32, place: u32|
-        ensures { ReadsBy (form place) expr_view below source.entry.now rest.now result }
+        ensures { ReadsBy (open_form place) expr_view below source.entry.now rest.now result }
     { form_at(alloc, source, rest, below, place) };
     sequence_to_close(&forms, alloc, source, tokens, depth)
 }

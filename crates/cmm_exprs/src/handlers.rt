@@ -4,7 +4,7 @@ ghost use Rattle.cmm_grammar.specs.Grammar.{handler_rest, next_handler, more_han
 ghost use Rattle.cmm_grammar.specs.Grammar.{bare_handler, catch_form, exit_form, try_form};
 ghost use Rattle.cmm_grammar.specs.Reading.{reads};
 ghost use Rattle.cmm_tree.specs.View.{expr_view};
-ghost use Rattle.cmm_parts.specs.Results.{trees, Gives, ReadsBy};
+ghost use Rattle.cmm_parts.specs.Results.{trees, GivesReading, ReadsBy};
 ghost use Rattle.cmm_parts.specs.Parts.{label_part};
 ghost use Rattle.cmm_operations.specs.Forms.{MayRead, ReadsForms};
 ghost use Rattle.cmm_exprs.specs.Results.{handler_part, handler_goes_on, marked_parts, some_by, bare_handler_rule, handlers_rule};
@@ -38,7 +38,7 @@ fn handler_rest<'t, F: Fn(&'t [Token], u32, u32) -> Result<(Expr, &'t [Token]), 
 ) -> Result<(Handler, bool, &'t [Token]), Stop>
     requires callable { MayRead (F.pre forms.now) depth }
     requires forms_read { ReadsForms (F.post forms.now) source.now depth }
-    ensures { Gives (λ x. handler_part x.1 x.0) (λ x. trees source.now x.2.now) result
+    ensures { GivesReading (λ x. handler_part x.1 x.0) (λ x. trees source.now x.2.now) result
         (reads (handler_rest (label_part label)) depth (trees source.now tokens.now)) }
 {
     let (first, rest) = operand(forms, alloc, source, tokens, depth)?;
@@ -66,7 +66,7 @@ fn next_handler<'t, F: Fn(&'t [Token], u32, u32) -> Result<(Expr, &'t [Token]), 
 ) -> Result<(Handler, bool, &'t [Token]), Stop>
     requires callable { MayRead (F.pre forms.now) depth }
     requires forms_read { ReadsForms (F.post forms.now) source.now depth }
-    ensures { Gives (λ x. handler_part x.1 x.0) (λ x. trees source.now x.2.now) result
+    ensures { GivesReading (λ x. handler_part x.1 x.0) (λ x. trees source.now x.2.now) result
         (reads next_handler depth (trees source.now tokens.now)) }
 {
     let (label, rest) = inner_label(alloc, source, tokens, depth)?;
@@ -83,7 +83,7 @@ fn handler_list<'t, F: Fn(&'t [Token], u32, u32) -> Result<(Expr, &'t [Token]), 
 ) -> Result<(Vec<Handler>, &'t [Token]), Stop>
     requires callable { MayRead (F.pre forms.now) depth }
     requires forms_read { ReadsForms (F.post forms.now) source.now depth }
-    ensures { Gives (λ x. marked_parts handler_part x.0.items) (λ x. trees source.now x.1.now)
+    ensures { GivesReading (λ x. marked_parts handler_part x.0.items) (λ x. trees source.now x.1.now)
         result (some_by handler_goes_on next_handler depth (trees source.now tokens.now)) }
 {
     let mut handlers = Vec::new(alloc);
@@ -110,7 +110,7 @@ fn more_handlers<'t, F: Fn(&'t [Token], u32, u32) -> Result<(Expr, &'t [Token]),
 ) -> Result<(Vec<Handler>, &'t [Token]), Stop>
     requires callable { MayRead (F.pre forms.now) depth }
     requires forms_read { ReadsForms (F.post forms.now) source.now depth }
-    ensures { Gives (λ x. marked_parts handler_part x.0.items) (λ x. trees source.now x.1.now)
+    ensures { GivesReading (λ x. marked_parts handler_part x.0.items) (λ x. trees source.now x.1.now)
         result (reads (more_handlers goes_on) depth (trees source.now tokens.now)) }
 {
     if goes_on {

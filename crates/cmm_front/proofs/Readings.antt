@@ -1,7 +1,7 @@
 -- A text is read in one way.
 use Rattle.std.proofs.Common.{◌≡◌, ℕ, ◌≤◌, List, length, Option, Some, None, Result, Ok, Err, refl, sym, subst}
 use Rattle.bs_fault.specs.declared.fault.Fault.{Fault}
-use Rattle.cmm_grammar.specs.Reading.{Outcome, Read, Stops, items_at}
+use Rattle.cmm_grammar.specs.Reading.{ReadOutcome, Read, Stops, items_at}
 use Rattle.cmm_lex.specs.Lexing.{Splits, first_range}
 use Rattle.cmm_lex.specs.Token.{TokenTree}
 use Rattle.cmm_lex.proofs.Languages.{AreBytes}
@@ -40,7 +40,7 @@ pub record IsRead (text : List ℕ) (file : FileTree) : Type 0 where
   pub items : items_at nesting tokens ≡ Read file.items rest
   pub faultless : Faultless (read_file_faults (first_range tokens) file)
 
-read_by : (text : List ℕ) (tokens : List TokenTree) (lexing : Option Fault) (file : FileTree) (o : Outcome (List ItemTree))
+read_by : (text : List ℕ) (tokens : List TokenTree) (lexing : Option Fault) (file : FileTree) (o : ReadOutcome (List ItemTree))
     → length text ≤ longest_text
     → Splits 0 text tokens lexing
     → items_at nesting tokens ≡ o

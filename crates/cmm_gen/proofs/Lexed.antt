@@ -9,7 +9,7 @@ use Rattle.cmm_lex.specs.declared.state.State.TheVariants.{Start, Done, Dead}
 use Rattle.cmm_lex.specs.declared.token.TokenKind.{TokenKind}
 use Rattle.cmm_lex.specs.declared.token.TokenKind.TheVariants as kind
 use Rattle.cmm_lex.specs.declared.token.Sign.TheVariants as sign
-use Rattle.cmm_lex.specs.Automaton.{run, after, after_start, accepts}
+use Rattle.cmm_lex.specs.Automaton.{run, state_after_byte, after_start, accepts}
 use Rattle.cmm_lex.specs.Enclosed.{BeginsWith, AComment, opening}
 use Rattle.cmm_lex.specs.Lexing.{Splits, ended, gap, token, separator, is_out_of_range, first_range}
 use Rattle.cmm_lex.specs.Strings.{IsInside}
@@ -34,23 +34,23 @@ begins_end (b ∷ bs) = is_end b
 
 -- the automaton goes on from this state with none of these bytes
 pub record Halts (s : State) : Type 0 where
-  pub space : after s 32 ≡ Dead
-  pub line : after s 10 ≡ Dead
-  pub open_sign : after s 40 ≡ Dead
-  pub close_sign : after s 41 ≡ Dead
-  pub colon : after s 58 ≡ Dead
+  pub space : state_after_byte s 32 ≡ Dead
+  pub line : state_after_byte s 10 ≡ Dead
+  pub open_sign : state_after_byte s 40 ≡ Dead
+  pub close_sign : state_after_byte s 41 ≡ Dead
+  pub colon : state_after_byte s 58 ≡ Dead
 
-pub halts-at : (s : State) (b : ℕ) → Halts s → is_end b ≡ true → after s b ≡ Dead
+pub halts-at : (s : State) (b : ℕ) → Halts s → is_end b ≡ true → state_after_byte s b ≡ Dead
 halts-at s b h e =
     elim (or_cases _ _ e) [
-      | inl is ↦ ap (after s) (eqb-true b 32 is) ∙ h.space
+      | inl is ↦ ap (state_after_byte s) (eqb-true b 32 is) ∙ h.space
       | inr e1 ↦ elim (or_cases _ _ e1) [
-        | inl is ↦ ap (after s) (eqb-true b 10 is) ∙ h.line
+        | inl is ↦ ap (state_after_byte s) (eqb-true b 10 is) ∙ h.line
         | inr e2 ↦ elim (or_cases _ _ e2) [
-          | inl is ↦ ap (after s) (eqb-true b 40 is) ∙ h.open_sign
+          | inl is ↦ ap (state_after_byte s) (eqb-true b 40 is) ∙ h.open_sign
           | inr e3 ↦ elim (or_cases _ _ e3) [
-            | inl is ↦ ap (after s) (eqb-true b 41 is) ∙ h.close_sign
-            | inr is ↦ ap (after s) (eqb-true b 58 is) ∙ h.colon
+            | inl is ↦ ap (state_after_byte s) (eqb-true b 41 is) ∙ h.close_sign
+            | inr is ↦ ap (state_after_byte s) (eqb-true b 58 is) ∙ h.colon
           ]
         ]
       ]
@@ -62,20 +62,20 @@ bytes-append (x ∷ xs) ys h g = (h.0, bytes-append xs ys h.1 g)
 
 -- no front that is longer is accepted where the automaton halts after these bytes
 none-longer : (s : State) (text rest xs ys : List ℕ) (k : Shape)
-    → ((b : ℕ) (bs : List ℕ) → rest ≡ b ∷ bs → after (run s text) b ≡ Dead)
+    → ((b : ℕ) (bs : List ℕ) → rest ≡ b ∷ bs → state_after_byte (run s text) b ≡ Dead)
     → text ++ rest ≡ xs ++ ys
     → accepts (run s xs) ≡ Some k
     → length xs ≤ length text
 none-longer s text rest [] ys k halts e a = omega arith
 none-longer s [] rest (x ∷ xs) ys k halts e a =
-    let dead : after s x ≡ Dead = halts x (xs ++ ys) e in
-    let none : accepts (run (after s x) xs) ≡ None = ap (λ (t : State). accepts (run t xs)) dead ∙ run-dead xs in
+    let dead : state_after_byte s x ≡ Dead = halts x (xs ++ ys) e in
+    let none : accepts (run (state_after_byte s x) xs) ≡ None = ap (λ (t : State). accepts (run t xs)) dead ∙ run-dead xs in
     cc
 none-longer s (t ∷ text) rest (x ∷ xs) ys k halts e a =
     let same : x ≡ t = cc in
     let tail : text ++ rest ≡ xs ++ ys = cc in
-    let there : accepts (run (after s t) xs) ≡ Some k = subst (λ (v : ℕ). accepts (run (after s v) xs) ≡ Some k) same a in
-    let shorter = none-longer (after s t) text rest xs ys k halts tail there in
+    let there : accepts (run (state_after_byte s t) xs) ≡ Some k = subst (λ (v : ℕ). accepts (run (state_after_byte s v) xs) ≡ Some k) same a in
+    let shorter = none-longer (state_after_byte s t) text rest xs ys k halts tail there in
     omega arith
 
 -- ---- one token
@@ -110,7 +110,7 @@ no-comment text rest plain (bs, e) = not-first text rest 40 (42 ∷ bs) plain re
 pub longest-there : (text rest : List ℕ)
     → AreBytes (text ++ rest)
     → (BeginsWith (text ++ rest) (34 ∷ []) → ⊥)
-    → ((b : ℕ) (bs : List ℕ) → rest ≡ b ∷ bs → after (run Start text) b ≡ Dead)
+    → ((b : ℕ) (bs : List ℕ) → rest ≡ b ∷ bs → state_after_byte (run Start text) b ≡ Dead)
     → Longest (length text) (text ++ rest)
 longest-there text rest are no_quote halts k xs ys is whole =
     elim (accepted-token k xs (AreBytes-front xs ys (subst AreBytes whole are)) is) [
@@ -276,15 +276,15 @@ no-sign-quote b rest bs other e =
     let same : b ≡ 34 = cc in
     false≢true (sym other ∙ ap (λ (v : ℕ). v == 34) same)
 
-done-halts : (b : ℕ) (k : Shape) → after Start b ≡ Done k → (c : ℕ) → after (run Start (b ∷ [])) c ≡ Dead
-unfolding after
-done-halts b k e c = ap (λ (s : State). after s c) e
+done-halts : (b : ℕ) (k : Shape) → state_after_byte Start b ≡ Done k → (c : ℕ) → state_after_byte (run Start (b ∷ [])) c ≡ Dead
+unfolding state_after_byte
+done-halts b k e c = ap (λ (s : State). state_after_byte s c) e
 
 closed-sign : (k : TokenKind) (b : ℕ)
     → IsToken k (b ∷ [])
     → b < 256
     → (b == 34) ≡ false
-    → after Start b ≡ Done shape.Signs
+    → state_after_byte Start b ≡ Done shape.Signs
     → is_out_of_range k (b ∷ []) ≡ false
     → Closed k (b ∷ [])
 closed-sign k b is small no_quote done in_range = record {
@@ -296,15 +296,15 @@ closed-sign k b is small no_quote done in_range = record {
 }
 
 pub open-closed : Closed (kind.Sign sign.Open) (40 ∷ [])
-unfolding after after_start
+unfolding state_after_byte after_start
 open-closed = closed-sign (kind.Sign sign.Open) 40 (is_sign sign.Open _ refl) (lit< tt) refl refl refl
 
 pub close-closed : Closed (kind.Sign sign.Close) (41 ∷ [])
-unfolding after after_start
+unfolding state_after_byte after_start
 close-closed = closed-sign (kind.Sign sign.Close) 41 (is_sign sign.Close _ refl) (lit< tt) refl refl refl
 
 pub colon-closed : Closed (kind.Sign sign.Colon) (58 ∷ [])
-unfolding after after_start
+unfolding state_after_byte after_start
 colon-closed = closed-sign (kind.Sign sign.Colon) 58 (is_sign sign.Colon _ refl) (lit< tt) refl refl refl
 
 no-star-there : (more rest bs : List ℕ) → is_star_first more ≡ false → begins_end rest ≡ true → more ++ rest ≡ 42 ∷ bs → ⊥

@@ -8,7 +8,7 @@ use Rattle.cmm_lex.specs.declared.state.Shape.TheVariants as shape
 use Rattle.cmm_lex.specs.declared.state.State.{State}
 use Rattle.cmm_lex.specs.declared.state.State.TheVariants.{Start}
 use Rattle.cmm_lex.specs.declared.token.TokenKind.TheVariants as kind
-use Rattle.cmm_lex.specs.Automaton.{run, after, after_start, after_number, after_decimal, after_operator, accepts, accepts_number, is_dead}
+use Rattle.cmm_lex.specs.Automaton.{run, state_after_byte, after_start, after_number, after_decimal, after_operator, accepts, accepts_number, is_dead}
 use Rattle.cmm_lex.specs.Integers.{integer_value}
 use Rattle.cmm_lex.specs.Scanning.{kind_of}
 use Rattle.cmm_lex.specs.Strings.{IsInside, closing, plain, unescaped, string_bytes}
@@ -31,7 +31,7 @@ are-bytes [] e = tt
 are-bytes (b ∷ bs) e = let p = and_parts (nat_lt b 256) (are_bytes bs) e in (ltb-true b 256 p.0, are-bytes bs p.1)
 
 unfoldable pub halts : State → Bool
-halts s = is_dead (after s 32) && (is_dead (after s 10) && (is_dead (after s 40) && (is_dead (after s 41) && is_dead (after s 58))))
+halts s = is_dead (state_after_byte s 32) && (is_dead (state_after_byte s 10) && (is_dead (state_after_byte s 40) && (is_dead (state_after_byte s 41) && is_dead (state_after_byte s 58))))
 
 pub halts-are : (s : State) → halts s ≡ true → Halts s
 unfolding halts
@@ -76,7 +76,7 @@ is_number draw =
     && nat_le (length (number_text draw)) 4))))
 
 numbers-are : all_below 201 is_number ≡ true
-unfolding is_number digits sub_word halts after after_start after_number after_decimal after_operator accepts accepts_number
+unfolding is_number digits sub_word halts state_after_byte after_start after_number after_decimal after_operator accepts accepts_number
 numbers-are = refl
 
 -- What is used of a number's text.

@@ -6,7 +6,7 @@ use Rattle.bs_words.specs.declared.operators.IntOp.TheVariants as op
 use Rattle.bs_words.specs.declared.types.Chunk.TheVariants as chunk
 use Rattle.cmm_lex.specs.declared.token.TokenKind.TheVariants as kind
 use Rattle.cmm_tree.specs.Tree.{Expression, Integer, Name, Operator, Load, Alloc, Raise, If, Try, NoMore, More}
-use Rattle.cmm_grammar.specs.Words.{word_of}
+use Rattle.cmm_grammar.specs.Words.{word_or_zero}
 use Rattle.cmm_gen.proofs.Within as within
 use Rattle.cmm_gen.specs.Drawn.{Drawn, Number, Variable, Sum, Difference, Product, Choice, Cell, Attempt, drawn_text, number_text}
 use Rattle.cmm_gen.proofs.Within.{IsWithin}
@@ -44,7 +44,7 @@ number-reads n draw at h =
       spelled =
           more-tokens (number_text draw) at (Integer at (number_word draw)) 1 _ _ (some-tokens n)
           (leaf-spelled kind.Integer (number_text draw) at (Integer at (number_word draw)) (levels_in n) is.word
-          (ap (λ (o : Option ℕ). Some (Integer at (word_of o))) is.value) refl none-fine);
+          (ap (λ (o : Option ℕ). Some (Integer at (word_or_zero o))) is.value) refl none-fine);
       is_tree = tree.number draw at;
     }
 

@@ -11,9 +11,9 @@ use Rattle.cmm_lex.specs.declared.token.TokenKind.TheVariants as kind
 use Rattle.cmm_lex.specs.Token.{TokenTree}
 use Rattle.cmm_lex.proofs.Languages.{AreBytes}
 use Rattle.cmm_tree.specs.Tree.{Expression, Operator, Let, Bind, NoBinding, Parameter, ItemTree, FileTree, data_among}
-use Rattle.bs_fault.specs.Reported.{Both, one_if, one_of, Faultless}
+use Rattle.bs_fault.specs.Reported.{Both, one_if, faults_of_option, Faultless}
 use Rattle.bs_fault.specs.Limits.{most_tokens}
-use Rattle.cmm_limits.specs.Limits.{item_faults, items_faults}
+use Rattle.cmm_limits.specs.Limits.{item_limit_faults, items_limit_faults}
 use Rattle.cmm_grammar.specs.Grammar.{an_item}
 use Rattle.cmm_grammar.specs.Parts.{FunctionPart, FunctionItem, item_of}
 use Rattle.cmm_grammar.specs.Rule.{AnItem}
@@ -95,7 +95,7 @@ pub record ReadingFunction (j : ℕ) (f : DrawnFunction) (at : ℕ) : Type 0 whe
   pub part : FunctionPart
   pub lexes : Lexes at (function_text j f) tokens
   pub spells : Spells AnItem nesting an_item (FunctionItem part) tokens
-  pub faultless : Faultless (item_faults (item_of (length tokens) (FunctionItem part)))
+  pub faultless : Faultless (item_limit_faults (item_of (length tokens) (FunctionItem part)))
   pub few : length tokens ≤ 1167
   pub is_tree : IsFunctionTreeOf j f
       (record { at = part.at; name_at = part.name_at; name = part.name; params = part.params; body = part.body; tokens = length tokens })
@@ -224,7 +224,7 @@ pub record ReadingLines (j : ℕ) (fs : List DrawnFunction) (at : ℕ) : Type 0 
   pub items : List ItemTree
   pub lexes : Lexes at (text_from j fs) tokens
   pub spells : AreItems nesting items tokens
-  pub faultless : Faultless (items_faults items)
+  pub faultless : Faultless (items_limit_faults items)
   pub no_data : data_among items ≡ []
   pub are : AreItemsOf j fs items
   pub short : length (text_from j fs) ≤ most_of_line * length fs
@@ -276,8 +276,8 @@ no-data-fault items no_data = rw no_data refl
 fine-file : (range data_fault : Option Fault) (items : List ItemTree)
     → range ≡ None
     → data_fault ≡ None
-    → Faultless (items_faults items)
-    → Faultless (Both (items_faults items) (Both (one_of range) (one_of data_fault)))
+    → Faultless (items_limit_faults items)
+    → Faultless (Both (items_limit_faults items) (Both (faults_of_option range) (faults_of_option data_fault)))
 fine-file range data_fault items no_range no_fault h = rw (no_range, no_fault) (both-fine _ _ h (both-fine _ _ none-fine none-fine))
 
 -- The text of up to 1,000 functions that are drawn is read as their file.

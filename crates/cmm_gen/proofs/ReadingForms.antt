@@ -12,10 +12,10 @@ use Rattle.cmm_grammar.specs.declared.word.Head.{Head}
 use Rattle.cmm_grammar.specs.declared.word.Pair.{Pair}
 use Rattle.cmm_grammar.specs.declared.word.Triple.{Triple}
 use Rattle.cmm_grammar.specs.declared.word.ChunkWord.TheVariants as starts
-use Rattle.cmm_grammar.specs.Grammar.{form, form_of, a_token, close, pair_form, paired, triple_form, tripled, raise_form, load_form, load_rest, chunked, chunk_rest, alloc_form, operands, sequence_to_close, sequence_to_with, try_form, let_form, a_binding, let_body, app_form, arguments_of, a_result, a_parameter, a_comp, parameters, an_item, item_rest, a_function}
+use Rattle.cmm_grammar.specs.Grammar.{open_form, form_of, a_token, close, pair_form, paired, triple_form, tripled, raise_form, load_form, load_rest, chunked, chunk_rest, alloc_form, operands, sequence_to_close, sequence_to_with, try_form, let_form, a_binding, let_body, app_form, arguments_of, a_result, a_parameter, a_comp, parameters, an_item, item_rest, a_function}
 use Rattle.cmm_grammar.specs.Rule.{Sort, AToken, AnExpression, AHead, AChunkWord, ABinding, AResult, ADeclaration, AParameter, AnItem, Both, Listed, Rule, Value, Give, Then, Expr}
 use Rattle.cmm_grammar.specs.Spelling.{Spells, nothing, token, both, leaf, parenthesis, ended, one_more, present, not_inside, inside}
-use Rattle.cmm_grammar.specs.Words.{is_open, is_close, is_name, is_integer, is_with, is_colon, is_function, is_symbol_token, is_ret, ret_of, comp_of, leaf_of, passing, marked, head_of, chunk_word_of, word_of}
+use Rattle.cmm_grammar.specs.Words.{is_open, is_close, is_name, is_integer, is_with, is_colon, is_function, is_symbol_token, is_ret, ret_of, comp_of, leaf_of, passing, marked, head_of, chunk_word_of, word_or_zero}
 
 -- a form in its parentheses
 pub form-spells : (d : ℕ) (o w : TokenTree) (h : Head) (e : Expression) (xs : List TokenTree)
@@ -23,7 +23,7 @@ pub form-spells : (d : ℕ) (o w : TokenTree) (h : Head) (e : Expression) (xs : 
     → head_of w.kind ≡ Some h
     → Spells AnExpression d (form_of o.at w.at h) e xs
     → Spells AnExpression (suc d) Expr e (o ∷ w ∷ xs)
-unfolding form
+unfolding open_form
 form-spells d o w h e xs opens is g =
     parenthesis d o e (w ∷ xs) opens
     (both (Both AToken AHead) AnExpression d _ _ (w, h) e (w ∷ []) xs
@@ -113,13 +113,13 @@ pub alloc-spells : (d at : ℕ) (n : TokenTree) (a b : Expression) (u v : TokenT
     → is_close c ≡ true
     → Spells AnExpression d Expr a (u ∷ xs)
     → Spells AnExpression d Expr b (v ∷ ys)
-    → Spells AnExpression d (alloc_form at) (Alloc at n.at (word_of (integer_value n.text)) (More a (More b NoMore))) (n ∷ u ∷ (xs ++ (v ∷ (ys ++ (c ∷ [])))))
+    → Spells AnExpression d (alloc_form at) (Alloc at n.at (word_or_zero (integer_value n.text)) (More a (More b NoMore))) (n ∷ u ∷ (xs ++ (v ∷ (ys ++ (c ∷ [])))))
 unfolding alloc_form
 alloc-spells d at n a b u v xs ys c number first second is h g =
     let all = u ∷ (xs ++ (v ∷ (ys ++ (c ∷ [])))) in
-    let e = Alloc at n.at (word_of (integer_value n.text)) (More a (More b NoMore)) in
+    let e = Alloc at n.at (word_or_zero (integer_value n.text)) (More a (More b NoMore)) in
     both AToken AnExpression d _ _ n e (n ∷ []) all (passes d is_integer n number)
-    (subst (λ (ts : List TokenTree). Spells AnExpression d (Then (Listed AnExpression) AnExpression operands (λ es. Give AnExpression (Alloc at n.at (word_of (integer_value n.text)) (expressions es)))) e ts) (append-nil all)
+    (subst (λ (ts : List TokenTree). Spells AnExpression d (Then (Listed AnExpression) AnExpression operands (λ es. Give AnExpression (Alloc at n.at (word_or_zero (integer_value n.text)) (expressions es)))) e ts) (append-nil all)
     (both (Listed AnExpression) AnExpression d operands _ (a ∷ b ∷ []) e all [] (two-operands d a b u v xs ys c first second is h g) (nothing AnExpression d e)))
 
 -- ---- one expression up to a word

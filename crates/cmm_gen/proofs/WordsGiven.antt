@@ -1,7 +1,7 @@
 -- What is drawn gives a word, or stops out of fuel, where its names are bound to words.
 use Rattle.std.proofs.Common.{◌≡◌, ℕ, zero, suc, ◌+◌, ◌-◌, Bool, true, false, not, cond, ◌==◌, List, [], ◌∷◌, ◌++◌, Option, Some, Result, Ok, length, map, drop, get_or, codes, slice_get, refl, ap, sym, ◌∙◌, subst, arith}
 use Rattle.std.proofs.lemmas.List.{get_or_at}
-use Rattle.bs_words.specs.Memory.{Memory, HeapBlock, sizes, in_block, loaded_from, loaded, of_type, end_of_data, allocated, next_block}
+use Rattle.bs_words.specs.Memory.{Memory, HeapBlock, sizes, in_block, loaded_from, loaded, value_of_type, end_of_data, allocated, next_block}
 use Rattle.bs_words.specs.Operators.{apply, truth, signed_holds}
 use Rattle.bs_words.specs.Word.{add_word, sub_word, mul_word}
 use Rattle.bs_words.specs.declared.operators.CmpOp.TheVariants.{Lt}
@@ -187,7 +187,7 @@ first_cell m u v =
     let P : Option ℕ → Type 0 =
     λ o. loaded_from chunk.Int (with_pair m u v) 0 (in_block (length m.blocks) o 8 8) ≡ Ok (Word u) in
     let Q : HeapBlock → Type 0 =
-    λ b. of_type (end_of_data (with_pair m u v)) ty.Int (get_or b.cells 0 (Word 0)) ≡ Ok (Word u) in
+    λ b. value_of_type (end_of_data (with_pair m u v)) ty.Int (get_or b.cells 0 (Word 0)) ≡ Ok (Word u) in
     subst P (sym (sizes-more m.blocks (pair_of u v))) (subst Q (sym found) refl)
 
 -- an expression that is evaluated with these names bound

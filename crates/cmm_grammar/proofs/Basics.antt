@@ -8,7 +8,7 @@ use Rattle.cmm_tree.specs.Tree.{Expression}
 use Rattle.cmm_grammar.specs.Words.{is_open, is_open_kind, is_open_bracket, is_open_bracket_kind, leaf_of}
 use Rattle.cmm_grammar.specs.Rule.{Sort, Value, Rule}
 use Rattle.cmm_grammar.specs.Spelling.{Spells, nothing, token, both, leaf, brackets, parenthesis, inside, inside_first, not_inside, labelled, not_labelled, ended, one_more, present, absent, last, another}
-use Rattle.cmm_grammar.specs.Reading.{Outcome, Read, Stops, Why, Reader, bind, given}
+use Rattle.cmm_grammar.specs.Reading.{ReadOutcome, Read, Stops, Why, Reader, bind, given}
 use Rattle.cmm_grammar.proofs.Fine.{Solid}
 
 pub read_inj : {A : Type 0} (a b : A) (xs ys : List TokenTree) → Read a xs ≡ Read b ys → (a ≡ b) × (xs ≡ ys)
@@ -17,26 +17,26 @@ read_inj a b xs ys e = (cc, cc)
 pub not_both : {A : Type 0} {G : Type 0} (a : A) (xs : List TokenTree) (why : Why) (left : ℕ) → Stops why left ≡ Read a xs → G
 not_both a xs why left e = cc
 
-pub stops_inj : {A : Type 0} (v w : Why) (m n : ℕ) → ◌≡◌ {A = Outcome A} (Stops v m) (Stops w n) → (v ≡ w) × (m ≡ n)
+pub stops_inj : {A : Type 0} (v w : Why) (m n : ℕ) → ◌≡◌ {A = ReadOutcome A} (Stops v m) (Stops w n) → (v ≡ w) × (m ≡ n)
 stops_inj v w m n e = (cc, cc)
 
 -- the first part read this, and the second what is left of that
-pub record BothRead {A B : Type 0} (o : Outcome A) (next : A → Reader B) (b : B) (rest : List TokenTree) : Type 0 where
+pub record BothRead {A B : Type 0} (o : ReadOutcome A) (next : A → Reader B) (b : B) (rest : List TokenTree) : Type 0 where
   pub a : A
   pub middle : List TokenTree
   pub first : o ≡ Read a middle
   pub second : next a middle ≡ Read b rest
 
-pub bind_read : {A B : Type 0} (o : Outcome A) (next : A → Reader B) (b : B) (rest : List TokenTree) → bind o next ≡ Read b rest → BothRead o next b rest
+pub bind_read : {A B : Type 0} (o : ReadOutcome A) (next : A → Reader B) (b : B) (rest : List TokenTree) → bind o next ≡ Read b rest → BothRead o next b rest
 bind_read (Read a middle) next b rest e = record { a = a; middle = middle; first = refl; second = e }
 bind_read (Stops why left) next b rest e = cc
 
 -- either the first part stops, or the second does
-pub data OneStops {A B : Type 0} (o : Outcome A) (next : A → Reader B) (why : Why) (left : ℕ) : Type 0 where
+pub data OneStops {A B : Type 0} (o : ReadOutcome A) (next : A → Reader B) (why : Why) (left : ℕ) : Type 0 where
   at_first : o ≡ Stops why left → OneStops o next why left
   at_second : (a : A) (middle : List TokenTree) → o ≡ Read a middle → next a middle ≡ Stops why left → OneStops o next why left
 
-pub bind_stops : {A B : Type 0} (o : Outcome A) (next : A → Reader B) (why : Why) (left : ℕ) → bind o next ≡ Stops why left → OneStops o next why left
+pub bind_stops : {A B : Type 0} (o : ReadOutcome A) (next : A → Reader B) (why : Why) (left : ℕ) → bind o next ≡ Stops why left → OneStops o next why left
 bind_stops (Read a middle) next why left e = at_second a middle refl e
 bind_stops (Stops v n) next why left e =
     let same : (v ≡ why) × (n ≡ left) = (cc, cc) in
@@ -44,13 +44,13 @@ bind_stops (Stops v n) next why left e =
     let y = same.1 in
     at_first cc
 
-pub bind_on : {A B : Type 0} (o : Outcome A) (next : A → Reader B) (a : A) (middle : List TokenTree) → o ≡ Read a middle → bind o next ≡ next a middle
+pub bind_on : {A B : Type 0} (o : ReadOutcome A) (next : A → Reader B) (a : A) (middle : List TokenTree) → o ≡ Read a middle → bind o next ≡ next a middle
 bind_on o next a middle e = ap (λ v. bind v next) e
 
-pub bind_out : {A B : Type 0} (o : Outcome A) (next : A → Reader B) (why : Why) (left : ℕ) → o ≡ Stops why left → bind o next ≡ Stops why left
+pub bind_out : {A B : Type 0} (o : ReadOutcome A) (next : A → Reader B) (why : Why) (left : ℕ) → o ≡ Stops why left → bind o next ≡ Stops why left
 bind_out o next why left e = ap (λ v. bind v next) e
 
-pub bind_bind : {A B C : Type 0} (o : Outcome A) (f : A → B) (next : B → Reader C)
+pub bind_bind : {A B C : Type 0} (o : ReadOutcome A) (f : A → B) (next : B → Reader C)
     → bind (bind o (λ a rest. Read (f a) rest)) next ≡ bind o (λ a. next (f a))
 bind_bind (Read a rest) f next = refl
 bind_bind (Stops why left) f next = refl

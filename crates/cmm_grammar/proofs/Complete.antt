@@ -5,9 +5,9 @@ use Rattle.cmm_lex.specs.Token.{TokenTree}
 use Rattle.cmm_tree.specs.Tree.{Expression}
 use Rattle.cmm_grammar.specs.Words.{is_open, is_open_bracket, is_close_bracket, is_name, is_labelled}
 use Rattle.cmm_grammar.specs.Rule.{Sort, Value, AnExpression, Listed, Rule, Then, Expr, InsideOr, LabelledOr, Until, Repeat}
-use Rattle.cmm_grammar.specs.Grammar.{form}
+use Rattle.cmm_grammar.specs.Grammar.{open_form}
 use Rattle.cmm_grammar.specs.Spelling.{Spells, nothing, token, both, leaf, brackets, parenthesis, inside, inside_first, not_inside, labelled, not_labelled, ended, one_more, present, absent, last, another}
-use Rattle.cmm_grammar.specs.Reading.{Outcome, Read, Stops, Reader, bind, given, many, some_of, maybe_given, reads}
+use Rattle.cmm_grammar.specs.Reading.{ReadOutcome, Read, Stops, Reader, bind, given, many, some_of, maybe_given, reads}
 use Rattle.cmm_grammar.proofs.Fine.{Solid, Fine}
 use Rattle.cmm_grammar.proofs.Basics.{bind_on, bind_bind, cond_on, cond_off, solid_some, leaf_closed, bracket_closed}
 use Rattle.cmm_grammar.proofs.Sound.{IsSound, FormsSound, sound}
@@ -23,7 +23,7 @@ solid_shortens s d r solid h ts a rest e =
     let m : length ts ≡ length (t.tokens ++ rest) = ap length t.whole in
     omega (arith, n, m, length-append t.tokens rest)
 
-many_step : {A : Type 0} (stop : TokenTree → Bool) (one : Reader A) (n m : ℕ) (o : Outcome A)
+many_step : {A : Type 0} (stop : TokenTree → Bool) (one : Reader A) (n m : ℕ) (o : ReadOutcome A)
     → ((a : A) (rest : List TokenTree) → o ≡ Read a rest → many stop one n rest ≡ many stop one m rest)
     → bind o (λ a rest. bind (many stop one n rest) (λ more final. Read (a ∷ more) final))
     ≡ bind o (λ a rest. bind (many stop one m rest) (λ more final. Read (a ∷ more) final))
@@ -42,7 +42,7 @@ many_same stop one h (suc n) (suc m) (t ∷ ts) x y =
     ap (λ v. cond (stop t) (Read [] (t ∷ ts)) v)
     (many_step stop one n m (one (t ∷ ts)) (λ a rest e. let l = h (t ∷ ts) a rest e in many_same stop one h n m rest (omega arith) (omega arith)))
 
-some_step : {A : Type 0} (more : A → Bool) (one : Reader A) (n m : ℕ) (o : Outcome A)
+some_step : {A : Type 0} (more : A → Bool) (one : Reader A) (n m : ℕ) (o : ReadOutcome A)
     → ((a : A) (rest : List TokenTree) → o ≡ Read a rest → some_of more one n rest ≡ some_of more one m rest)
     → bind o (λ a rest. cond (more a) (bind (some_of more one n rest) (λ others final. Read (a ∷ others) final)) (Read (a ∷ []) rest))
     ≡ bind o (λ a rest. cond (more a) (bind (some_of more one m rest) (λ others final. Read (a ∷ others) final)) (Read (a ∷ []) rest))
@@ -59,11 +59,11 @@ some_same more one h (suc n) (suc m) ts x y =
     some_step more one n m (one ts) (λ a rest e. let l = h ts a rest e in some_same more one h n m rest (omega arith) (omega arith))
 
 abbrev pub FineForms : Type 0
-FineForms = (e at : ℕ) → Fine (form at) e
+FineForms = (e at : ℕ) → Fine (open_form at) e
 
 pub forms_sound : FineForms → (n : ℕ) → FormsSound n
 forms_sound fine zero e less at = absurd (omega arith)
-forms_sound fine (suc n) e less at = sound AnExpression (form at) e (fine e at) (λ f under. forms_sound fine n f (omega arith))
+forms_sound fine (suc n) e less at = sound AnExpression (open_form at) e (fine e at) (λ f under. forms_sound fine n f (omega arith))
 
 -- a solid rule that is fine takes at least one token
 pub shortens : FineForms → (s : Sort) (d : ℕ) (r : Rule s) → Solid r → Fine r d → Shortens (reads r d)
@@ -112,8 +112,8 @@ AloneClosed [] = Unit {0}
 AloneClosed (x ∷ []) = is_open x ≡ false
 AloneClosed (x ∷ y ∷ xs) = Unit {0}
 
-pub form_solid : (at : ℕ) → Solid (form at)
-unfolding form
+pub form_solid : (at : ℕ) → Solid (open_form at)
+unfolding open_form
 form_solid at = tt
 
 behind_open : (o : TokenTree) (xs : List TokenTree) → 1 ≤ length xs → AloneClosed (o ∷ xs)
@@ -123,7 +123,7 @@ behind_open o (x ∷ xs) h = tt
 alone : (s : Sort) (d : ℕ) (r : Rule s) (a : Value s) (xs : List TokenTree) → Spells s d r a xs → IsExpr r → AloneClosed xs
 alone _ _ _ _ _ (leaf d t e h) is = (leaf_closed t e h).0
 alone _ _ _ _ _ (brackets d o c h g) is = tt
-alone _ _ _ _ _ (parenthesis d o e xs h g) is = behind_open o xs (solid_some AnExpression d (form o.at) e xs g (form_solid o.at))
+alone _ _ _ _ _ (parenthesis d o e xs h g) is = behind_open o xs (solid_some AnExpression d (open_form o.at) e xs g (form_solid o.at))
 alone _ _ _ _ _ _ is = absurd is
 
 alone_closed : (d : ℕ) (o : TokenTree) (e : Expression) → Spells AnExpression d Expr e (o ∷ []) → is_open o ≡ false
@@ -160,7 +160,7 @@ complete forms _ _ _ _ _ (leaf d t e h) fine rest =
 complete forms _ _ _ _ _ (brackets d o c h g) fine rest =
     cond_off (is_open o) _ _ (bracket_closed o h) ∙ cond_on (is_open_bracket o) _ _ h ∙ cond_on (is_close_bracket c) _ _ g
 complete forms _ _ _ _ _ (parenthesis d o e xs h g) fine rest =
-    cond_on (is_open o) _ _ h ∙ complete forms AnExpression d (form o.at) e xs g (forms d o.at) rest
+    cond_on (is_open o) _ _ h ∙ complete forms AnExpression d (open_form o.at) e xs g (forms d o.at) rest
 complete forms _ _ _ _ _ (inside s d r o a xs h g) fine rest =
     cond_on (is_open o) _ _ h ∙ complete forms s d (r o.at) a xs g (fine o.at) rest
 complete forms _ _ _ _ _ (inside_first s t d r k other o a b xs ys h g i) fine rest =

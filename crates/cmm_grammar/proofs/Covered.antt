@@ -27,9 +27,9 @@ use Rattle.cmm_grammar.specs.declared.word.DataWord.{DataWord}
 use Rattle.cmm_grammar.specs.declared.word.DataWord.TheVariants as item
 use Rattle.cmm_grammar.specs.Parts.{ResultPart, BindingPart, HandlerPart, HeadPart, ItemPart, FunctionItem, DataItem, item_of, expressions, sequence}
 use Rattle.cmm_grammar.specs.Rewriting.{element_by, element, array_load, array_store, exit_to, turn_by, turn, while_loop}
-use Rattle.cmm_grammar.specs.Words.{leaf_of, word_of, is_symbol_token, is_integer, val_of}
+use Rattle.cmm_grammar.specs.Words.{leaf_of, word_or_zero, is_symbol_token, is_integer, val_of}
 use Rattle.cmm_grammar.specs.Rule.{AnExpression, ABinding, AnIndex, AHandler, AParameter, ADataItem, AnItem, Rule}
-use Rattle.cmm_grammar.specs.Grammar.{a_token, a_comp, a_result, operands, sequence_to_close, sequence_to_with, a_binding, a_mutable_binding, bindings_to_close, let_body, let_form, assign_form, arguments_of, app_form, extcall_rest, extcall_form, alloc_form, loaded, stored, load_rest, store_rest, chunk_rest, chunked, load_form, store_form, paired, tripled, raise_form, pair_form, triple_form, float_form, seq_form, while_form, case_number, another_number, case_body, a_case, switch_form, a_parameter, parameters, label_rest, handler_rest, a_label, next_handler, more_handlers, labelled_handlers, bare_handler, catch_form, exit_rest, exit_form, try_form, form_of, form, a_data_integer, datum_of, a_data_item, data_items, data_list, a_function, item_rest, an_item}
+use Rattle.cmm_grammar.specs.Grammar.{a_token, a_comp, a_result, operands, sequence_to_close, sequence_to_with, a_binding, a_mutable_binding, bindings_to_close, let_body, let_form, assign_form, arguments_of, app_form, extcall_rest, extcall_form, alloc_form, load_expression, store_expression, load_rest, store_rest, chunk_rest, chunked, load_form, store_form, paired, tripled, raise_form, pair_form, triple_form, float_form, seq_form, while_form, case_number, another_number, case_body, a_case, switch_form, a_parameter, parameters, label_rest, handler_rest, a_label, next_handler, more_handlers, labelled_handlers, bare_handler, catch_form, exit_rest, exit_form, try_form, form_of, open_form, a_data_integer, datum_of, a_data_item, data_items, data_list, a_function, item_rest, an_item}
 use Rattle.cmm_grammar.specs.Spelling.{Spells, AreItems, none, more}
 use Rattle.cmm_grammar.specs.Covered.{IsCovered, IsMeasured}
 use Rattle.cmm_grammar.proofs.Fitting.{integer_fits, word_fits_if}
@@ -43,10 +43,10 @@ same_measured e f n same p = subst (λ (v : Expression). Measured v n) same p
 
 leaf_kind : (at : ℕ) (k : TokenKind) (text : List ℕ) (e : Expression) → leaf_of (record { at = at; kind = k; text = text }) ≡ Some e → Measured e 1
 leaf_kind at kind.Integer text e h =
-    let same : Integer at (word_of (integer_value text)) ≡ e = cc in
+    let same : Integer at (word_or_zero (integer_value text)) ≡ e = cc in
     same_measured _ e 1 same (record { fits = integer_fits text; nodes = omega arith; values = omega arith })
 leaf_kind at kind.Pointer text e h =
-    let same : Pointer at (word_of (integer_value text)) ≡ e = cc in
+    let same : Pointer at (word_or_zero (integer_value text)) ≡ e = cc in
     same_measured _ e 1 same (record { fits = integer_fits text; nodes = omega arith; values = omega arith })
 leaf_kind at kind.Float text e h =
     let same : Float at at NoMore ≡ e = cc in
@@ -193,7 +193,7 @@ alloc_pays at n h = λ t header e. operands_pay (1 + n) _ (λ es k all parts siz
     let d = row.values in
     record { fits = (integer_fits header.text, row.fits); nodes = omega arith; values = omega arith })
 
-loaded_measured : (at : ℕ) (c : Option Chunk) (chunk_at : ℕ) (x : Expression) (m n : ℕ) → Measured x m → 3 + m ≤ n → Measured (loaded at c chunk_at x) n
+loaded_measured : (at : ℕ) (c : Option Chunk) (chunk_at : ℕ) (x : Expression) (m n : ℕ) → Measured x m → 3 + m ≤ n → Measured (load_expression at c chunk_at x) n
 loaded_measured at None chunk_at x m n p h =
     let a = p.nodes in
     let b = p.values in
@@ -204,7 +204,7 @@ loaded_measured at (Some c) chunk_at x m n p h =
     record { fits = p.fits; nodes = omega arith; values = omega arith }
 
 stored_measured : (at : ℕ) (c : Option Chunk) (chunk_at : ℕ) (x y : Expression) (m k n : ℕ) → Measured x m → Measured y k → 3 + (m + k) ≤ n
-    → Measured (stored at c chunk_at x y) n
+    → Measured (store_expression at c chunk_at x y) n
 stored_measured at None chunk_at x y m k n p q h =
     let a = p.nodes in
     let b = p.values in
@@ -438,8 +438,8 @@ number_pays : (n : ℕ) (Q : Index → ℕ → Type 0) → ((i : Index) → i.in
 unfolding case_number a_token
 number_pays n Q q =
     λ t i e u c f.
-    let Two_more : ℕ → Type 0 = Q (record { at = i.at; index = word_of (integer_value i.text) }) in
-    subst Two_more (omega arith) (q (record { at = i.at; index = word_of (integer_value i.text) }) (integer_fits i.text))
+    let Two_more : ℕ → Type 0 = Q (record { at = i.at; index = word_or_zero (integer_value i.text) }) in
+    subst Two_more (omega arith) (q (record { at = i.at; index = word_or_zero (integer_value i.text) }) (integer_fits i.text))
 
 indexes_fit : (is : List Index) (n : ℕ) → PartsOf AnIndex is n → IndexesFit is
 indexes_fit _ _ no_parts = tt
@@ -579,8 +579,8 @@ form_of_pays at word_at head.Exit n h = exit_pays at n h
 form_of_pays at word_at head.Try n h = try_pays at n h
 form_of_pays at word_at head.Float n h = float_pays at word_at n h
 
-form_pays : (at : ℕ) → Pays (form at) 1 Measured
-unfolding form
+form_pays : (at : ℕ) → Pays (open_form at) 1 Measured
+unfolding open_form
 form_pays at = λ t w e. form_of_pays at w.0.at w.1 (1 + 1) (omega arith)
 
 -- ---- static data

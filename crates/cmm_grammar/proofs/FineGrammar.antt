@@ -17,9 +17,9 @@ use Rattle.cmm_grammar.specs.declared.word.DataWord.{DataWord}
 use Rattle.cmm_grammar.specs.declared.word.DataWord.TheVariants as item
 use Rattle.cmm_grammar.specs.declared.word.Width.TheVariants as width
 use Rattle.cmm_grammar.specs.Parts.{ResultPart, BindingPart, CasePart, HandlerPart, HeadPart, sequence}
-use Rattle.cmm_grammar.specs.Words.{is_close, is_colon, is_name, is_integer, is_float, is_string, is_with, is_case, is_no_case, is_and, is_symbol_token, is_ret, is_data, is_function, ends_case, ends_handler}
+use Rattle.cmm_grammar.specs.Words.{is_close, is_colon, is_name, is_integer, is_float_token, is_string, is_with, is_case, is_no_case, is_and, is_symbol_token, is_ret, is_data, is_function, ends_case, ends_handler}
 use Rattle.cmm_grammar.specs.Rule.{AToken, AnExpression, AResult, ABinding, AnIndex, ACase, AHandler, ALabel, AParameter, ADataItem, AnItem, Listed, Rule, Expr, Inside}
-use Rattle.cmm_grammar.specs.Grammar.{a_token, close, a_comp, a_result, operands, sequence_to_close, sequence_to_with, a_binding, a_mutable_binding, bindings_to_close, let_body, let_form, assign_form, arguments_of, app_form, extcall_rest, extcall_form, alloc_form, load_rest, store_rest, chunk_rest, chunked, load_form, store_form, raise_form, pair_form, triple_form, float_form, seq_form, while_form, case_number, another_number, case_body, a_case, switch_form, a_parameter, parameters, label_rest, handler_rest, a_label, next_handler, more_handlers, labelled_handlers, bare_handler, catch_form, exit_rest, exit_form, try_form, form_of, form, a_data_integer, datum_of, a_data_item, data_items, data_list, a_function, item_rest, an_item}
+use Rattle.cmm_grammar.specs.Grammar.{a_token, close, a_comp, a_result, operands, sequence_to_close, sequence_to_with, a_binding, a_mutable_binding, bindings_to_close, let_body, let_form, assign_form, arguments_of, app_form, extcall_rest, extcall_form, alloc_form, load_rest, store_rest, chunk_rest, chunked, load_form, store_form, raise_form, pair_form, triple_form, float_form, seq_form, while_form, case_number, another_number, case_body, a_case, switch_form, a_parameter, parameters, label_rest, handler_rest, a_label, next_handler, more_handlers, labelled_handlers, bare_handler, catch_form, exit_rest, exit_form, try_form, form_of, open_form, a_data_integer, datum_of, a_data_item, data_items, data_list, a_function, item_rest, an_item}
 use Rattle.cmm_grammar.specs.Spelling.{Spells, nothing, token, both, inside, ended}
 use Rattle.cmm_grammar.proofs.Fine.{Solid, Fine, Starts, Ends, is_no_open}
 use Rattle.cmm_grammar.proofs.Finish.{finish, of_kind, a_name, an_open, a_name_leaf, leaf_spells, starts_then, starts_leaf, starts_token, token_spells, token_fine, token_solid, the, two, three, until_fine}
@@ -417,8 +417,8 @@ form_of_fine at word_at head.Try d = try_fine at d
 form_of_fine at word_at head.Float d = float_fine at word_at d
 
 -- each form, at any depth
-pub form_fine : (d at : ℕ) → Fine (form at) d
-unfolding form
+pub form_fine : (d at : ℕ) → Fine (open_form at) d
+unfolding open_form
 form_fine d at = two (record { token = of_kind (kind.Keyword word.Seq); value = _; gives = refl }) (λ w. form_of_fine at w.0.at w.1 d)
 
 -- ---- static data and functions
@@ -439,7 +439,7 @@ datum_fine t item.Skip d = data_integer_fine _ d
 datum_fine t item.Align d = data_integer_fine _ d
 datum_fine t item.Text d = two (token_fine is_string d a_string refl) (λ u. tt)
 datum_fine t item.Global d = two (symbol_fine d) (λ n. tt)
-datum_fine t item.Float d = two (token_fine is_float d a_float refl) (λ u. tt)
+datum_fine t item.Float d = two (token_fine is_float_token d a_float refl) (λ u. tt)
 
 data_item_fine : (d : ℕ) → Fine a_data_item d
 unfolding a_data_item

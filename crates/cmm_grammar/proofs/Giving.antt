@@ -5,7 +5,7 @@ use Rattle.cmm_tree.specs.Tree.{Expression, Nothing, DatumTree, DataItemTree}
 use Rattle.cmm_grammar.specs.Parts.{ItemPart, FunctionItem, DataItem}
 use Rattle.cmm_grammar.specs.Words.{leaf_of}
 use Rattle.cmm_grammar.specs.Rule.{Sort, Value, AnExpression, ABinding, ACase, AHandler, ADataItem, AnItem, Listed, Rule, Give, One, Then, Expr, Inside, InsideOr, LabelledOr, Until, Maybe, Repeat}
-use Rattle.cmm_grammar.specs.Grammar.{form}
+use Rattle.cmm_grammar.specs.Grammar.{open_form}
 use Rattle.cmm_grammar.specs.Spelling.{Spells, nothing, token, both, leaf, brackets, parenthesis, inside, inside_first, not_inside, labelled, not_labelled, ended, one_more, present, absent, last, another}
 use Rattle.cmm_grammar.proofs.Paid.{Two}
 
@@ -97,7 +97,7 @@ less_deep n d le = omega (arith, le)
 module _ (k : Facts) (deeper : (n d : ℕ) (e : Expression) → n ≤ d → k.expression n e → k.expression d e)
     (leaf_has : (d : ℕ) (t : TokenTree) (e : Expression) → leaf_of t ≡ Some e → k.expression d e)
     (nothing_has : (d at : ℕ) → k.expression d (Nothing at))
-    (form_gives : (d at : ℕ) → Gives k d (form at) (k.expression (suc d))) where
+    (form_gives : (d at : ℕ) → Gives k d (open_form at) (k.expression (suc d))) where
   pub given : (s : Sort) (n : ℕ) (r : Rule s) (a : Value s) (xs : List TokenTree) → Spells s n r a xs → AllKnown k.token xs → (d : ℕ) → n ≤ d →
       (Q : Value s → Type 0) → Gives k d r Q → Q a
   given _ _ _ _ _ (nothing s n a) b d le Q p = p
@@ -108,7 +108,7 @@ module _ (k : Facts) (deeper : (n d : ℕ) (e : Expression) → n ≤ d → k.ex
   given _ _ _ _ _ (leaf n t e h) b d le Q p = p e (leaf_has d t e h)
   given _ _ _ _ _ (brackets n o c h g) b d le Q p = p (Nothing o.at) (nothing_has d o.at)
   given _ _ _ _ _ (parenthesis n o e xs h g) b d le Q p =
-      p e (deeper (suc n) d e le (given AnExpression n (form o.at) e xs g b.1 n (le_refl n) (k.expression (suc n)) (form_gives n o.at)))
+      p e (deeper (suc n) d e le (given AnExpression n (open_form o.at) e xs g b.1 n (le_refl n) (k.expression (suc n)) (form_gives n o.at)))
   given _ _ _ _ _ (inside s n r o a xs h g) b d le Q p = given s n (r o.at) a xs g b.1 d (less_deep n d le) Q (p o.at)
   given _ _ _ _ _ (inside_first s t n r next other o a v xs ys h g i) b d le Q p =
       given t (suc n) (next a) v ys i (back k.token xs ys b.1) d le Q

@@ -28,9 +28,9 @@ use Rattle.cmm_grammar.specs.declared.word.DataWord.{DataWord}
 use Rattle.cmm_grammar.specs.declared.word.DataWord.TheVariants as item
 use Rattle.cmm_grammar.specs.Parts.{ResultPart, BindingPart, CasePart, HandlerPart, HeadPart, ItemPart, FunctionItem, DataItem, item_of, expressions, bindings, cases, handlers, sequence_at, sequence}
 use Rattle.cmm_grammar.specs.Rewriting.{element_by, element, turn_by, turn}
-use Rattle.cmm_grammar.specs.Words.{leaf_of, word_of, passing, is_symbol_token, data_word_of}
+use Rattle.cmm_grammar.specs.Words.{leaf_of, word_or_zero, passing, is_symbol_token, data_word_of}
 use Rattle.cmm_grammar.specs.Rule.{AToken, AnExpression, ABinding, ACase, AHandler, ADataItem, ADataWord, AnItem, Both, Rule}
-use Rattle.cmm_grammar.specs.Grammar.{a_token, a_comp, a_result, operands, sequence_to_close, sequence_to_with, a_binding, a_mutable_binding, bindings_to_close, let_body, let_form, assign_form, arguments_of, app_form, extcall_rest, extcall_form, alloc_form, loaded, stored, load_rest, store_rest, chunk_rest, chunked, load_form, store_form, paired, tripled, raise_form, pair_form, triple_form, float_form, seq_form, while_form, case_number, another_number, case_body, a_case, switch_form, a_parameter, parameters, label_rest, handler_rest, a_label, next_handler, more_handlers, labelled_handlers, bare_handler, catch_form, exit_rest, exit_form, try_form, form_of, form, a_data_integer, datum_of, a_data_item, data_items, data_list, a_function, item_rest, an_item}
+use Rattle.cmm_grammar.specs.Grammar.{a_token, a_comp, a_result, operands, sequence_to_close, sequence_to_with, a_binding, a_mutable_binding, bindings_to_close, let_body, let_form, assign_form, arguments_of, app_form, extcall_rest, extcall_form, alloc_form, load_expression, store_expression, load_rest, store_rest, chunk_rest, chunked, load_form, store_form, paired, tripled, raise_form, pair_form, triple_form, float_form, seq_form, while_form, case_number, another_number, case_body, a_case, switch_form, a_parameter, parameters, label_rest, handler_rest, a_label, next_handler, more_handlers, labelled_handlers, bare_handler, catch_form, exit_rest, exit_form, try_form, form_of, open_form, a_data_integer, datum_of, a_data_item, data_items, data_list, a_function, item_rest, an_item}
 use Rattle.cmm_grammar.specs.Spelling.{Spells, AreItems, none, more}
 use Rattle.cmm_grammar.proofs.Giving.{Facts, AllKnown, front, back, DataHave, ItemHas, PartHas, PartsHave, Given, Gives, given}
 
@@ -73,8 +73,8 @@ module _ (k : Facts) (c : IsClosed k) where
   -- ---- one token
 
   leaf_kind : (d at : ℕ) (kind : TokenKind) (text : List ℕ) (e : Expression) → leaf_of (record { at = at; kind = kind; text = text }) ≡ Some e → k.expression d e
-  leaf_kind d at kind.Integer text e h = let same : Integer at (word_of (integer_value text)) ≡ e = cc in subst (k.expression d) same (c.integer d at _)
-  leaf_kind d at kind.Pointer text e h = let same : Pointer at (word_of (integer_value text)) ≡ e = cc in subst (k.expression d) same (c.pointer d at _)
+  leaf_kind d at kind.Integer text e h = let same : Integer at (word_or_zero (integer_value text)) ≡ e = cc in subst (k.expression d) same (c.integer d at _)
+  leaf_kind d at kind.Pointer text e h = let same : Pointer at (word_or_zero (integer_value text)) ≡ e = cc in subst (k.expression d) same (c.pointer d at _)
   leaf_kind d at kind.Float text e h = let same : Float at at (expressions []) ≡ e = cc in subst (k.expression d) same (c.float d at at [] tt)
   leaf_kind d at kind.String text e h = go (is_symbol (string_bytes text)) h
     where
@@ -199,11 +199,11 @@ module _ (k : Facts) (c : IsClosed k) where
     unfolding alloc_form a_token
     alloc_gives at = λ header. operands_give _ (λ es parts. out _ (c.alloc d at _ _ es parts))
 
-    loaded_has : (at : ℕ) (o : Option Chunk) (chunk_at : ℕ) (x : Expression) → Holds x → Holds (loaded at o chunk_at x)
+    loaded_has : (at : ℕ) (o : Option Chunk) (chunk_at : ℕ) (x : Expression) → Holds x → Holds (load_expression at o chunk_at x)
     loaded_has at None chunk_at x p = c.float d at chunk_at (x ∷ []) (p, tt)
     loaded_has at (Some w) chunk_at x p = c.load d at w x p
 
-    stored_has : (at : ℕ) (o : Option Chunk) (chunk_at : ℕ) (x y : Expression) → Holds x → Holds y → Holds (stored at o chunk_at x y)
+    stored_has : (at : ℕ) (o : Option Chunk) (chunk_at : ℕ) (x y : Expression) → Holds x → Holds y → Holds (store_expression at o chunk_at x y)
     stored_has at None chunk_at x y p q = c.float d at chunk_at (x ∷ y ∷ []) (p, (q, tt))
     stored_has at (Some w) chunk_at x y p q = c.store d at w x y p q
 
@@ -361,8 +361,8 @@ module _ (k : Facts) (c : IsClosed k) where
     form_of_gives d at word_at head.Try = try_gives d at
     form_of_gives d at word_at head.Float = float_gives d at word_at
 
-    form_gives : (d at : ℕ) → Gives k d (form at) (Out d)
-    unfolding form
+    form_gives : (d at : ℕ) → Gives k d (open_form at) (Out d)
+    unfolding open_form
     form_gives d at = λ w. form_of_gives d at w.value.0.at w.value.1
 
     -- ---- items

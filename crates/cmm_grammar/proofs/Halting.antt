@@ -1,7 +1,7 @@
 -- Where reading stops, by any rule, and so by the rules of the grammar.
 use Rattle.std.proofs.Common.{ℕ, ◌≤◌, zero, suc, length, arith}
 use Rattle.cmm_grammar.specs.Rule.{Sort, Value, AnExpression, AnItem, Rule, Give, One, Then, Expr, Inside, InsideOr, LabelledOr, Until, Maybe, Repeat}
-use Rattle.cmm_grammar.specs.Grammar.{form, an_item}
+use Rattle.cmm_grammar.specs.Grammar.{open_form, an_item}
 use Rattle.cmm_grammar.proofs.Fine.{Fine}
 use Rattle.cmm_grammar.proofs.Sound.{IsSound, sound, expr_sound}
 use Rattle.cmm_grammar.proofs.Complete.{FineForms, forms_sound}
@@ -70,7 +70,7 @@ grammar_forms e at = form_fine e at
 
 forms_halt : (n : ℕ) → FormsHalt n
 forms_halt zero e less at = absurd (omega arith)
-forms_halt (suc n) e less at = halts grammar_forms AnExpression (form at) e (λ f l. form_fine f at) (λ f under. forms_halt n f (omega arith))
+forms_halt (suc n) e less at = halts grammar_forms AnExpression (open_form at) e (λ f l. form_fine f at) (λ f under. forms_halt n f (omega arith))
 
 pub item_halts : (d : ℕ) → 2 ≤ d → Halts AnItem d an_item
 item_halts d two = halts grammar_forms AnItem an_item d (λ e l. item_fine e (omega arith)) (forms_halt d)

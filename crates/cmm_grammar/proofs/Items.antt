@@ -6,8 +6,8 @@ use Rattle.cmm_tree.specs.Tree.{ItemTree}
 use Rattle.cmm_grammar.specs.Parts.{ItemPart, item_of}
 use Rattle.cmm_grammar.specs.Rule.{AnItem}
 use Rattle.cmm_grammar.specs.Grammar.{an_item}
-use Rattle.cmm_grammar.specs.Spelling.{Spells, AreItems, none, more, Begins}
-use Rattle.cmm_grammar.specs.Reading.{Outcome, Read, Stops, Why, Deep, Reader, bind, reads, items_by, items_at}
+use Rattle.cmm_grammar.specs.Spelling.{Spells, AreItems, none, more, BeginsText}
+use Rattle.cmm_grammar.specs.Reading.{ReadOutcome, Read, Stops, Why, Deep, Reader, bind, reads, items_by, items_at}
 use Rattle.cmm_grammar.proofs.Basics.{read_inj, bind_read, bind_stops, OneStops, at_first, at_second, bind_on, bind_out, solid_some}
 use Rattle.cmm_grammar.proofs.Sound.{Taken}
 use Rattle.cmm_grammar.proofs.Complete.{Shortens, shortens, complete}
@@ -24,7 +24,7 @@ item_short d two = shortens grammar_forms AnItem d an_item item_solid (item_fine
 abbrev before_others : ℕ → ItemPart → List ItemTree → Reader (List ItemTree)
 before_others size i others final = Read (item_of size i ∷ others) final
 
-item_step : (one : Reader ItemPart) (n m size : ℕ) (o : Outcome ItemPart)
+item_step : (one : Reader ItemPart) (n m size : ℕ) (o : ReadOutcome ItemPart)
     → ((i : ItemPart) (rest : List TokenTree) → o ≡ Read i rest → items_by one n rest ≡ items_by one m rest)
     → bind o (λ i rest. bind (items_by one n rest) (before_others (size - length rest) i)) ≡ bind o (λ i rest. bind (items_by one m rest) (before_others (size - length rest) i))
 item_step one n m size (Read i rest) h = ap (λ v. bind v (before_others (size - length rest) i)) (h i rest refl)
@@ -37,7 +37,7 @@ items_same one h (suc n) zero (t ∷ ts) x y = absurd (omega arith)
 items_same one h (suc n) (suc m) (t ∷ ts) x y =
     item_step one n m (suc (length ts)) (one (t ∷ ts)) (λ i rest e. let l = h (t ∷ ts) i rest e in items_same one h n m rest (omega arith) (omega arith))
 
-next_step : (one : Reader ItemPart) → Shortens one → (n size : ℕ) (o : Outcome ItemPart)
+next_step : (one : Reader ItemPart) → Shortens one → (n size : ℕ) (o : ReadOutcome ItemPart)
     → ((i : ItemPart) (rest : List TokenTree) → o ≡ Read i rest → length rest ≤ n)
     → bind o (λ i rest. bind (items_by one n rest) (before_others (size - length rest) i)) ≡ bind o (λ i rest. bind (items_by one (length rest) rest) (before_others (size - length rest) i))
 next_step one short n size (Read i rest) h = ap (λ v. bind v (before_others (size - length rest) i)) (items_same one short n (length rest) rest (h i rest refl) (omega arith))
@@ -107,10 +107,10 @@ pub record HaltedItems (d : ℕ) (why : Why) (ts : List TokenTree) (left : ℕ) 
   pub whole : ts ≡ before ++ after
   pub so : length after ≡ left
   pub opens : why ≡ Deep → AnOpen after
-  pub finishes : (e : ℕ) (forced : List TokenTree) → Way why d after e forced → Begins e (before ++ forced)
+  pub finishes : (e : ℕ) (forced : List TokenTree) → Way why d after e forced → BeginsText e (before ++ forced)
   pub again : (e : ℕ) → Reach why d e → (zs : List TokenTree) → Alike after zs → items_at e (before ++ zs) ≡ Stops why (length zs)
 
-one_item : (e : ℕ) (ys : List TokenTree) → Finish AnItem e an_item ys → Begins e ys
+one_item : (e : ℕ) (ys : List TokenTree) → Finish AnItem e an_item ys → BeginsText e ys
 one_item e ys x =
     let made : AreItems e (item_of (length (ys ++ x.more)) x.value ∷ []) ((ys ++ x.more) ++ []) = more e x.value [] (ys ++ x.more) [] x.spells (none e) in
     (item_of (length (ys ++ x.more)) x.value ∷ [], x.more, subst (λ (v : List TokenTree). AreItems e (item_of (length (ys ++ x.more)) x.value ∷ []) v) (append-nil (ys ++ x.more)) made)
@@ -118,7 +118,7 @@ one_item e ys x =
 regroup : (xs b f m : List TokenTree) → xs ++ ((b ++ f) ++ m) ≡ ((xs ++ b) ++ f) ++ m
 regroup xs b f m = sym (append_assoc xs (b ++ f) m) ∙ ap (λ (v : List TokenTree). v ++ m) (sym (append_assoc xs b f))
 
-one_more_item : (e : ℕ) (i : ItemPart) (xs before forced : List TokenTree) → Spells AnItem e an_item i xs → Begins e (before ++ forced) → Begins e ((xs ++ before) ++ forced)
+one_more_item : (e : ℕ) (i : ItemPart) (xs before forced : List TokenTree) → Spells AnItem e an_item i xs → BeginsText e (before ++ forced) → BeginsText e ((xs ++ before) ++ forced)
 one_more_item e i xs before forced h b =
     let made : AreItems e (item_of (length xs) i ∷ b.0) (xs ++ ((before ++ forced) ++ b.1)) = more e i b.0 xs ((before ++ forced) ++ b.1) h b.2 in
     (item_of (length xs) i ∷ b.0, b.1, subst (λ (v : List TokenTree). AreItems e (item_of (length xs) i ∷ b.0) v) (regroup xs before forced b.1) made)
@@ -128,7 +128,7 @@ first_stops e two u ws us why n w p =
     let q : reads an_item e (u ∷ us) ≡ Stops why n = ap (reads an_item e) (sym w) ∙ p in
     ap (items_at e) w ∙ items_next e two u us ∙ bind_out (reads an_item e (u ∷ us)) (λ i rest. bind (items_at e rest) (before_others (suc (length us) - length rest) i)) why n q
 
-rest_stops : (o : Outcome (List ItemTree)) (size : ℕ) (i : ItemPart) (why : Why) (left : ℕ) → OneStops o (before_others size i) why left → o ≡ Stops why left
+rest_stops : (o : ReadOutcome (List ItemTree)) (size : ℕ) (i : ItemPart) (why : Why) (left : ℕ) → OneStops o (before_others size i) why left → o ≡ Stops why left
 rest_stops o size i why left (at_first g) = g
 rest_stops o size i why left (at_second a middle g j) = cc
 

@@ -8,9 +8,9 @@ use Rattle.cmm_tree.specs.Tree.{Expression}
 use Rattle.cmm_grammar.specs.declared.word.Head.{Head}
 use Rattle.cmm_grammar.specs.Words.{is_open, is_name, is_name_kind, is_labelled, head_of}
 use Rattle.cmm_grammar.specs.Rule.{Sort, Value, AnExpression, Rule, Expr, LabelledOr}
-use Rattle.cmm_grammar.specs.Grammar.{form, form_of}
+use Rattle.cmm_grammar.specs.Grammar.{open_form, form_of}
 use Rattle.cmm_grammar.specs.Spelling.{Spells, leaf, brackets, parenthesis, labelled, not_labelled}
-use Rattle.cmm_grammar.specs.Reading.{Outcome, Stops, Why, Stuck, Deep, bind, given, behind as behind_token, deeper, reading, forms_below, reads}
+use Rattle.cmm_grammar.specs.Reading.{ReadOutcome, Stops, Why, Stuck, Deep, bind, given, behind as behind_token, deeper, reading, forms_below, reads}
 use Rattle.cmm_grammar.proofs.Fine.{Fine}
 use Rattle.cmm_grammar.proofs.Basics.{stops_inj, not_both, bind_stops, OneStops, at_first, at_second, bind_on, bind_out, cond_on, cond_off, bracket_closed}
 use Rattle.cmm_grammar.proofs.Sound.{IsSound}
@@ -24,8 +24,8 @@ name_heads_none : (k : TokenKind) → is_name_kind k ≡ true → head_of k ≡ 
 name_heads_none kind.Name h = refl
 name_heads_none _ h = cc
 
-named_form : (d at : ℕ) (n : TokenTree) (xs : List TokenTree) → is_name n ≡ true → reads (form at) d (n ∷ xs) ≡ Stops Stuck (suc (length xs))
-unfolding form
+named_form : (d at : ℕ) (n : TokenTree) (xs : List TokenTree) → is_name n ≡ true → reads (open_form at) d (n ∷ xs) ≡ Stops Stuck (suc (length xs))
+unfolding open_form
 named_form d at n xs h =
     ap (λ (o : Option Head). bind {A = TokenTree × Head} (given {A = TokenTree × Head} (option_map (λ (a : Head). (n, a)) o) xs) (λ w rest. reads (form_of at w.0.at w.1) d rest)) (name_heads_none n.kind h)
 
@@ -33,13 +33,13 @@ and_false : (a b : Bool) → b ≡ false → (a && b) ≡ false
 and_false true b e = e
 and_false false b e = refl
 
-behind_form : FineForms → (d : ℕ) (o : TokenTree) (e : Expression) (xs : List TokenTree) → Spells AnExpression d (form o.at) e xs → is_labelled (o ∷ xs) ≡ false
+behind_form : FineForms → (d : ℕ) (o : TokenTree) (e : Expression) (xs : List TokenTree) → Spells AnExpression d (open_form o.at) e xs → is_labelled (o ∷ xs) ≡ false
 behind_form forms d o e [] h = refl
 behind_form forms d o e (n ∷ xs) h = go (is_name n) refl
   where
     go : (b : Bool) → is_name n ≡ b → (is_open o && is_name n) ≡ false
     go false is = and_false (is_open o) (is_name n) is
-    go true is = not_both _ _ _ _ (sym (named_form d o.at n (xs ++ []) is) ∙ complete forms AnExpression d (form o.at) e (n ∷ xs) h (forms d o.at) [])
+    go true is = not_both _ _ _ _ (sym (named_form d o.at n (xs ++ []) is) ∙ complete forms AnExpression d (open_form o.at) e (n ∷ xs) h (forms d o.at) [])
 
 unlabelled_any : FineForms → (s : Sort) (d : ℕ) (r : Rule s) (a : Value s) (xs : List TokenTree) → Spells s d r a xs → IsExpr r → is_labelled xs ≡ false
 unlabelled_any forms _ _ _ _ _ (leaf d t e h) is = refl
@@ -73,17 +73,17 @@ first_unlabelled z [] is = refl
 first_unlabelled z (n ∷ zs) is = ap (λ v. v && is_name n) is
 
 -- a form of no tokens ends inside
-empty_form : (d at : ℕ) → reads (form at) d [] ≡ Stops Stuck 0
-unfolding form
+empty_form : (d at : ℕ) → reads (open_form at) d [] ≡ Stops Stuck 0
+unfolding open_form
 empty_form d at = refl
 
 -- an expression stops at a parenthesis only where that is too deep
 open_stops : (e : ℕ) (z : TokenTree) (why : Why) → is_open z ≡ true → reads Expr e (z ∷ []) ≡ Stops why 1 → (e ≡ 0) × (Deep ≡ why)
 open_stops zero z why is p =
-    let x : ◌≡◌ {A = Outcome Expression} (Stops Deep 1) (Stops why 1) = sym (cond_on (is_open z) _ _ is) ∙ p in
+    let x : ◌≡◌ {A = ReadOutcome Expression} (Stops Deep 1) (Stops why 1) = sym (cond_on (is_open z) _ _ is) ∙ p in
     (refl, (stops_inj Deep why 1 1 x).0)
 open_stops (suc e) z why is p =
-    let x : ◌≡◌ {A = Outcome Expression} (Stops Stuck 0) (Stops why 1) = sym (empty_form e z.at) ∙ sym (cond_on (is_open z) _ _ is) ∙ p in
+    let x : ◌≡◌ {A = ReadOutcome Expression} (Stops Stuck 0) (Stops why 1) = sym (empty_form e z.at) ∙ sym (cond_on (is_open z) _ _ is) ∙ p in
     cc
 
 expression_again : (s t : Sort) (e : ℕ) (r : TokenTree → Rule s) (k : Value s → Rule t) (other : Expression → Rule t) (why : Why) (before after zs : List TokenTree) (z0 : TokenTree) (zs0 : List TokenTree)

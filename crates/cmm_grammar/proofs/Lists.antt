@@ -3,7 +3,7 @@ use Rattle.std.proofs.Common.{◌≡◌, ℕ, ◌<◌, ◌≤◌, zero, suc, Boo
 use Rattle.cmm_lex.specs.Token.{TokenTree}
 use Rattle.cmm_grammar.specs.Rule.{Sort, Value, Listed, Rule, Until, Repeat}
 use Rattle.cmm_grammar.specs.Spelling.{Spells, ended, one_more, last, another}
-use Rattle.cmm_grammar.specs.Reading.{Outcome, Read, Stops, Why, Reader, bind, many, some_of, reads}
+use Rattle.cmm_grammar.specs.Reading.{ReadOutcome, Read, Stops, Why, Reader, bind, many, some_of, reads}
 use Rattle.cmm_grammar.proofs.Fine.{Fine}
 use Rattle.cmm_grammar.proofs.Basics.{bind_stops, OneStops, at_first, at_second, bind_on, bind_out, bind_bind, cond_on, cond_off}
 use Rattle.cmm_grammar.proofs.Sound.{IsSound, some_tokens}
@@ -18,7 +18,7 @@ until_stop : (s t : Sort) (d : ℕ) (stop : TokenTree → Bool) (r : Rule s) (k 
     → reads (Until s t stop r k) d (u ∷ us) ≡ reads (k []) d (u ∷ us)
 until_stop s t d stop r k u us is = ap (λ v. bind v (λ values left. reads (k values) d left)) (cond_on (stop u) _ _ is)
 
-many_next : {A B : Type 0} (stop : TokenTree → Bool) (one : Reader A) (next : List A → Reader B) (n : ℕ) (o : Outcome A)
+many_next : {A B : Type 0} (stop : TokenTree → Bool) (one : Reader A) (next : List A → Reader B) (n : ℕ) (o : ReadOutcome A)
     → Shortens one
     → ((a : A) (rest : List TokenTree) → o ≡ Read a rest → length rest ≤ n)
     → bind (bind o (λ a rest. bind (many stop one n rest) (λ more final. Read (a ∷ more) final))) next
@@ -85,7 +85,7 @@ until_halts forms s t d stop r so one (suc n) k fine next (u ∷ us) less why le
 
 -- ---- up to the first that no other follows
 
-some_next : {A : Type 0} (more : A → Bool) (one : Reader A) (n : ℕ) (o : Outcome A)
+some_next : {A : Type 0} (more : A → Bool) (one : Reader A) (n : ℕ) (o : ReadOutcome A)
     → Shortens one
     → ((a : A) (rest : List TokenTree) → o ≡ Read a rest → length rest < n)
     → bind o (λ a rest. cond (more a) (bind (some_of more one n rest) (λ others final. Read (a ∷ others) final)) (Read (a ∷ []) rest))

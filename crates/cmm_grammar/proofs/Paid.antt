@@ -4,7 +4,7 @@ use Rattle.cmm_lex.specs.Token.{TokenTree}
 use Rattle.cmm_tree.specs.Tree.{Expression, Nothing}
 use Rattle.cmm_grammar.specs.Words.{leaf_of}
 use Rattle.cmm_grammar.specs.Rule.{Sort, Value, AnExpression, Listed, Rule, Give, One, Then, Expr, Inside, InsideOr, LabelledOr, Until, Maybe, Repeat}
-use Rattle.cmm_grammar.specs.Grammar.{form}
+use Rattle.cmm_grammar.specs.Grammar.{open_form}
 use Rattle.cmm_grammar.specs.Spelling.{Spells, nothing, token, both, leaf, brackets, parenthesis, inside, inside_first, not_inside, labelled, not_labelled, ended, one_more, present, absent, last, another}
 use Rattle.cmm_grammar.proofs.Measured.{Measured, PartOf, PartsOf, no_parts, more_parts}
 
@@ -36,7 +36,7 @@ moved Q m n e q = subst Q e q
 
 module _ (leaf_measured : (t : TokenTree) (e : Expression) → leaf_of t ≡ Some e → Measured e 1)
     (nothing_measured : (at : ℕ) → Measured (Nothing at) 2)
-    (form_pays : (at : ℕ) → Pays (form at) 1 Measured) where
+    (form_pays : (at : ℕ) → Pays (open_form at) 1 Measured) where
   pub paid : (s : Sort) (d : ℕ) (r : Rule s) (a : Value s) (xs : List TokenTree) → Spells s d r a xs
       → (n : ℕ) (Q : Value s → ℕ → Type 0) → Pays r n Q → Q a (length xs + n)
   paid _ _ _ _ _ (nothing s d a) n Q p = moved (Q a) n _ (omega arith) p
@@ -50,7 +50,7 @@ module _ (leaf_measured : (t : TokenTree) (e : Expression) → leaf_of t ≡ Som
       moved (Q (Nothing o.at)) (2 + n) _ (omega arith) (p (Nothing o.at) 2 (nothing_measured o.at))
   paid _ _ _ _ _ (parenthesis d o e xs h g) n Q p =
       moved (Q e) (length xs + 1 + n) (length (o ∷ xs) + n) (omega arith)
-      (p e (length xs + 1) (paid AnExpression d (form o.at) e xs g 1 Measured (form_pays o.at)))
+      (p e (length xs + 1) (paid AnExpression d (open_form o.at) e xs g 1 Measured (form_pays o.at)))
   paid _ _ _ _ _ (inside s d r o a xs h g) n Q p =
       moved (Q a) (length xs + (1 + n)) (length (o ∷ xs) + n) (omega arith) (paid s d (r o.at) a xs g (1 + n) Q (p o.at))
   paid _ _ _ _ _ (inside_first s t d r k other o a b xs ys h g i) n Q p =

@@ -6,8 +6,8 @@ use Rattle.cmm_lex.specs.Token.{TokenTree}
 use Rattle.cmm_tree.specs.Tree.{ItemTree}
 use Rattle.cmm_grammar.specs.Words.{is_open}
 use Rattle.cmm_grammar.specs.Rule.{Sort, Value, Rule}
-use Rattle.cmm_grammar.specs.Spelling.{Spells, AreItems, Begins, nesting}
-use Rattle.cmm_grammar.specs.Faults.{Unexpected, TooDeep, EndsInside, Stands}
+use Rattle.cmm_grammar.specs.Spelling.{Spells, AreItems, BeginsText, nesting}
+use Rattle.cmm_grammar.specs.Faults.{Unexpected, TooDeep, EndsInside, HasBadToken}
 use Rattle.cmm_grammar.specs.Reading.{Read, Stops, Why, Stuck, Deep, items_at}
 use Rattle.cmm_grammar.proofs.Fine.{Fine}
 use Rattle.cmm_grammar.proofs.Basics.{read_inj, not_both}
@@ -33,19 +33,19 @@ one_list d e is js ts h g =
 
 -- ---- beginnings
 
-pub begins_less : (d : ℕ) (xs ys : List TokenTree) → Begins d (xs ++ ys) → Begins d xs
+pub begins_less : (d : ℕ) (xs ys : List TokenTree) → BeginsText d (xs ++ ys) → BeginsText d xs
 begins_less d xs ys b = (b.0, ys ++ b.1, subst (λ (v : List TokenTree). AreItems d b.0 v) (append_assoc xs ys b.1) b.2)
 
-pub begins_rise : (d e : ℕ) (xs : List TokenTree) → d ≤ e → Begins d xs → Begins e xs
+pub begins_rise : (d e : ℕ) (xs : List TokenTree) → d ≤ e → BeginsText d xs → BeginsText e xs
 begins_rise d e xs l b = (b.0, b.1, items_rise d b.0 (xs ++ b.1) b.2 e l)
 
-pub items_begin : (d : ℕ) (items : List ItemTree) (ts : List TokenTree) → AreItems d items ts → Begins d ts
+pub items_begin : (d : ℕ) (items : List ItemTree) (ts : List TokenTree) → AreItems d items ts → BeginsText d ts
 items_begin d items ts h = (items, [], subst (λ (v : List TokenTree). AreItems d items v) (sym (append-nil ts)) h)
 
 -- where reading stops at a token whatever follows, no text goes on with it
 blocked : (e : ℕ) → 2 ≤ e → (before : List TokenTree) (bad : TokenTree) (why : Why)
     → ((zs : List TokenTree) → items_at e (before ++ (bad ∷ zs)) ≡ Stops why (suc (length zs)))
-    → Begins e (before ++ (bad ∷ [])) → ⊥
+    → BeginsText e (before ++ (bad ∷ [])) → ⊥
 blocked e two before bad why stops b =
     let x = items_complete e b.0 ((before ++ (bad ∷ [])) ++ b.1) b.2 two in
     not_both b.0 [] why (suc (length b.1)) (sym (stops b.1) ∙ ap (items_at e) (sym (append_assoc before (bad ∷ []) b.1)) ∙ x)
@@ -60,7 +60,7 @@ read_items ts items rest p = items_sound nesting (omega arith) (length ts) ts (o
 pub items_read : (ts : List TokenTree) (items : List ItemTree) → AreItems nesting items ts → items_at nesting ts ≡ Read items []
 items_read ts items h = items_complete nesting items ts h (omega arith)
 
-so_far_of : (d : ℕ) (before : List TokenTree) → Begins d (before ++ []) → Begins d before
+so_far_of : (d : ℕ) (before : List TokenTree) → BeginsText d (before ++ []) → BeginsText d before
 so_far_of d before b = begins_less d before [] b
 
 -- where no token is left, the text ends inside a form
@@ -70,12 +70,12 @@ stuck_end ts p =
     go h.before h.after h.whole h.so h.finishes h.again
   where
     go : (before after : List TokenTree) → ts ≡ before ++ after → length after ≡ 0
-        → ((e : ℕ) (forced : List TokenTree) → Way Stuck nesting after e forced → Begins e (before ++ forced))
+        → ((e : ℕ) (forced : List TokenTree) → Way Stuck nesting after e forced → BeginsText e (before ++ forced))
         → ((e : ℕ) → Reach Stuck nesting e → (zs : List TokenTree) → Alike after zs → items_at e (before ++ zs) ≡ Stops Stuck (length zs))
         → EndsInside ts
     go before (a ∷ after) w so finishes again = absurd (omega arith)
     go before [] w so finishes again = record {
-      so_far = subst (λ (v : List TokenTree). Begins nesting v) (sym w) (finishes nesting [] (here refl refl));
+      so_far = subst (λ (v : List TokenTree). BeginsText nesting v) (sym w) (finishes nesting [] (here refl refl));
       no_end = λ d items are.
           let e = d + nesting in
           let x = items_complete e items ts (items_rise d items ts are e (omega arith)) (omega arith) in
@@ -84,15 +84,15 @@ stuck_end ts p =
     }
 
 -- where tokens are left, the first one is unexpected
-pub stuck_token : (ts : List TokenTree) (left : ℕ) → items_at nesting ts ≡ Stops Stuck left → 1 ≤ left → Stands Unexpected ts left
+pub stuck_token : (ts : List TokenTree) (left : ℕ) → items_at nesting ts ≡ Stops Stuck left → 1 ≤ left → HasBadToken Unexpected ts left
 stuck_token ts left p some =
     let h = items_halt nesting (omega arith) (length ts) ts (omega arith) Stuck left p in
     go h.before h.after h.whole h.so h.finishes h.again
   where
     go : (before after : List TokenTree) → ts ≡ before ++ after → length after ≡ left
-        → ((e : ℕ) (forced : List TokenTree) → Way Stuck nesting after e forced → Begins e (before ++ forced))
+        → ((e : ℕ) (forced : List TokenTree) → Way Stuck nesting after e forced → BeginsText e (before ++ forced))
         → ((e : ℕ) → Reach Stuck nesting e → (zs : List TokenTree) → Alike after zs → items_at e (before ++ zs) ≡ Stops Stuck (length zs))
-        → Stands Unexpected ts left
+        → HasBadToken Unexpected ts left
     go before [] w so finishes again = absurd (omega arith)
     go before (bad ∷ after) w so finishes again = record {
       before = before;
@@ -110,15 +110,15 @@ stuck_token ts left p some =
     }
 
 -- where it is too deep, the first token that is left opens a parenthesis one level too deep
-pub deep_token : (ts : List TokenTree) (left : ℕ) → items_at nesting ts ≡ Stops Deep left → Stands TooDeep ts left
+pub deep_token : (ts : List TokenTree) (left : ℕ) → items_at nesting ts ≡ Stops Deep left → HasBadToken TooDeep ts left
 deep_token ts left p =
     let h = items_halt nesting (omega arith) (length ts) ts (omega arith) Deep left p in
     go h.before h.after h.whole h.so (h.opens refl) h.finishes h.again
   where
     go : (before after : List TokenTree) → ts ≡ before ++ after → length after ≡ left → AnOpen after
-        → ((e : ℕ) (forced : List TokenTree) → Way Deep nesting after e forced → Begins e (before ++ forced))
+        → ((e : ℕ) (forced : List TokenTree) → Way Deep nesting after e forced → BeginsText e (before ++ forced))
         → ((e : ℕ) → Reach Deep nesting e → (zs : List TokenTree) → Alike after zs → items_at e (before ++ zs) ≡ Stops Deep (length zs))
-        → Stands TooDeep ts left
+        → HasBadToken TooDeep ts left
     go before [] w so o finishes again = let x = o.is_after in cc
     go before (bad ∷ after) w so o finishes again =
         let x = o.is_after in

@@ -5,9 +5,9 @@ use Rattle.cmm_lex.specs.Token.{TokenTree}
 use Rattle.cmm_tree.specs.Tree.{Expression, Nothing}
 use Rattle.cmm_grammar.specs.Words.{is_open, is_open_bracket, is_close_bracket, is_name, is_labelled, leaf_of}
 use Rattle.cmm_grammar.specs.Rule.{Sort, Value, AnExpression, Listed, Rule, Give, One, Then, Expr, Inside, InsideOr, LabelledOr, Until, Maybe, Repeat}
-use Rattle.cmm_grammar.specs.Grammar.{form}
+use Rattle.cmm_grammar.specs.Grammar.{open_form}
 use Rattle.cmm_grammar.specs.Spelling.{Spells, nothing, token, both, leaf, brackets, parenthesis, inside, inside_first, not_inside, labelled, not_labelled, ended, one_more, present, absent, last, another}
-use Rattle.cmm_grammar.specs.Reading.{Outcome, Read, Stops, Stuck, bind, given, behind, bracket_at, many, some_of, maybe_given, deeper, form_below, reading, forms_below, reads}
+use Rattle.cmm_grammar.specs.Reading.{ReadOutcome, Read, Stops, Stuck, bind, given, behind, bracket_at, many, some_of, maybe_given, deeper, form_below, reading, forms_below, reads}
 use Rattle.cmm_grammar.proofs.Fine.{Solid, Fine}
 use Rattle.cmm_grammar.proofs.Basics.{read_inj, bind_read, given_read, solid_some}
 
@@ -22,7 +22,7 @@ IsSound s d r = (ts : List TokenTree) (a : Value s) (rest : List TokenTree) → 
 
 -- the forms below a level are
 abbrev pub FormsSound : ℕ → Type 0
-FormsSound d = (e : ℕ) → e < d → (at : ℕ) → IsSound AnExpression e (form at)
+FormsSound d = (e : ℕ) → e < d → (at : ℕ) → IsSound AnExpression e (open_form at)
 
 pub lower : (d : ℕ) → FormsSound (suc d) → FormsSound d
 lower d h e less at = h e (omega arith) at
@@ -85,7 +85,7 @@ some_tokens s d r a t ts rest (x ∷ ys) h solid e = (ys, cc, cc)
 
 many_ended : (s : Sort) (d : ℕ) (stop : TokenTree → Bool) (r : Rule s) (t : TokenTree) (ts : List TokenTree) (values : List (Value s)) (rest : List TokenTree)
     → stop t ≡ true
-    → ◌≡◌ {A = Outcome (List (Value s))} (Read [] (t ∷ ts)) (Read values rest)
+    → ◌≡◌ {A = ReadOutcome (List (Value s))} (Read [] (t ∷ ts)) (Read values rest)
     → ManyTaken s d stop r values (t ∷ ts) rest
 many_ended s d stop r t ts values rest is e =
     let same = read_inj _ _ _ _ e in

@@ -6,9 +6,9 @@ use Rattle.cmm_lex.specs.declared.token.Sign.TheVariants as sign
 use Rattle.cmm_tree.specs.Tree.{Expression, Nothing}
 use Rattle.cmm_grammar.specs.Words.{is_open, is_open_bracket, is_close_bracket, leaf_of}
 use Rattle.cmm_grammar.specs.Rule.{Sort, Value, AnExpression, Rule, One, Then, Expr, Inside, InsideOr, Maybe}
-use Rattle.cmm_grammar.specs.Grammar.{form}
+use Rattle.cmm_grammar.specs.Grammar.{open_form}
 use Rattle.cmm_grammar.specs.Spelling.{Spells, both, brackets, parenthesis, inside, inside_first, not_inside, present, absent}
-use Rattle.cmm_grammar.specs.Reading.{Outcome, Read, Stops, Why, Stuck, Deep, bind, given, bracket_at, maybe_given, deeper, form_below, reading, forms_below, reads}
+use Rattle.cmm_grammar.specs.Reading.{ReadOutcome, Read, Stops, Why, Stuck, Deep, bind, given, bracket_at, maybe_given, deeper, form_below, reading, forms_below, reads}
 use Rattle.cmm_grammar.proofs.Fine.{Fine}
 use Rattle.cmm_grammar.proofs.Basics.{stops_inj, bind_stops, OneStops, at_first, at_second, bind_on, bind_out, cond_on, cond_off, bracket_closed, rises}
 use Rattle.cmm_grammar.proofs.Sound.{IsSound}
@@ -31,12 +31,12 @@ pub taken_read : FineForms → (s : Sort) (d e : ℕ) → d ≤ e → (r : Rule 
 taken_read forms s d e l r a xs h fine zs = complete forms s e r a xs (rises_to s d e l r a xs h) fine zs
 
 abbrev pub FormsHalt : ℕ → Type 0
-FormsHalt d = (e : ℕ) → e < d → (at : ℕ) → Halts AnExpression e (form at)
+FormsHalt d = (e : ℕ) → e < d → (at : ℕ) → Halts AnExpression e (open_form at)
 
 -- ---- at the first token
 
 pub at_end : (s : Sort) (d : ℕ) (q : Rule s) (why : Why) (left : ℕ) → AllFine s d q → ((e : ℕ) → d ≤ e → reads q e [] ≡ Stops Stuck 0)
-    → ◌≡◌ {A = Outcome (Value s)} (Stops Stuck 0) (Stops why left)
+    → ◌≡◌ {A = ReadOutcome (Value s)} (Stops Stuck 0) (Stops why left)
     → Halted s d q why [] left
 at_end s d q why left fine stops p =
     let x = stops_inj Stuck why 0 left p in
@@ -48,7 +48,7 @@ at_end s d q why left fine stops p =
 
 pub at_token : (s : Sort) (d : ℕ) (q : Rule s) (u : TokenTree) (us : List TokenTree) (why : Why) (left : ℕ) → AllFine s d q
     → ((e : ℕ) → d ≤ e → (zs : List TokenTree) → reads q e (u ∷ zs) ≡ Stops Stuck (suc (length zs)))
-    → ◌≡◌ {A = Outcome (Value s)} (Stops Stuck (suc (length us))) (Stops why left)
+    → ◌≡◌ {A = ReadOutcome (Value s)} (Stops Stuck (suc (length us))) (Stops why left)
     → Halted s d q why (u ∷ us) left
 at_token s d q u us why left fine stops p =
     let x = stops_inj Stuck why (suc (length us)) left p in
@@ -62,7 +62,7 @@ pub too_deep : (s : Sort) (q : Rule s) (u : TokenTree) (us : List TokenTree) (wh
     → is_open u ≡ true
     → ((zs : List TokenTree) → reads q 0 (u ∷ zs) ≡ Stops Deep (suc (length zs)))
     → Finish s 1 q (u ∷ [])
-    → ◌≡◌ {A = Outcome (Value s)} (Stops Deep (suc (length us))) (Stops why left)
+    → ◌≡◌ {A = ReadOutcome (Value s)} (Stops Deep (suc (length us))) (Stops why left)
     → Halted s 0 q why (u ∷ us) left
 too_deep s q u us why left fine is stops f p =
     let x = stops_inj Deep why (suc (length us)) left p in
@@ -146,7 +146,7 @@ bracket_halts d t (c ∷ cs) why left is p = go (is_close_bracket c) refl p
 
 form_deep : FineForms → (t : TokenTree) → is_open t ≡ true → Finish AnExpression 1 Expr (t ∷ [])
 form_deep forms t is =
-    let x = finish AnExpression (form t.at) 0 (forms 0 t.at) in
+    let x = finish AnExpression (open_form t.at) 0 (forms 0 t.at) in
     record { value = x.value; more = x.more; spells = parenthesis 0 t x.value x.more is x.spells }
 
 form_halts : FineForms → (d : ℕ) → FormsHalt d → (t : TokenTree) (ts : List TokenTree) (why : Why) (left : ℕ) → is_open t ≡ true
@@ -155,7 +155,7 @@ form_halts : FineForms → (d : ℕ) → FormsHalt d → (t : TokenTree) (ts : L
 form_halts forms zero h t ts why left is p =
     too_deep AnExpression Expr t ts why left (λ e l. tt) is (λ zs. cond_on (is_open t) _ _ is) (form_deep forms t is) p
 form_halts forms (suc d) h t ts why left is p =
-    within AnExpression AnExpression d (form t.at) Expr why (t ∷ []) (t ∷ ts) ts left refl (h d (omega arith) t.at ts why left p)
+    within AnExpression AnExpression d (open_form t.at) Expr why (t ∷ []) (t ∷ ts) ts left refl (h d (omega arith) t.at ts why left p)
     (λ e l zs n stop. cond_on (is_open t) _ _ is ∙ stop)
     (λ e l a ys g. exactly AnExpression (suc e) Expr a (t ∷ ys) (parenthesis e t a ys is g))
 

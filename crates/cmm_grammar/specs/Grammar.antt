@@ -23,7 +23,7 @@ use Rattle.cmm_grammar.specs.declared.word.DataWord.{DataWord}
 use Rattle.cmm_grammar.specs.declared.word.DataWord.TheVariants as item
 use Rattle.cmm_grammar.specs.Parts.{ResultPart, BindingPart, CasePart, HandlerPart, HeadPart, FunctionItem, DataItem, expressions, bindings, cases, handlers, sequence_at, sequence}
 use Rattle.cmm_grammar.specs.Rewriting.{array_load, array_store, while_loop}
-use Rattle.cmm_grammar.specs.Words.{is_close, is_colon, is_name, is_integer, is_float, is_string, is_with, is_case, is_no_case, is_and, is_data, is_function, is_alloc, is_symbol_token, is_ret, ends_case, ends_handler, passing, marked, word_of, comp_of, ret_of, head_of, chunk_word_of, width_of, unsigned_chunk, signed_chunk, data_word_of, val_of}
+use Rattle.cmm_grammar.specs.Words.{is_close, is_colon, is_name, is_integer, is_float_token, is_string, is_with, is_case, is_no_case, is_and, is_data, is_function, is_alloc, is_symbol_token, is_ret, ends_case, ends_handler, passing, marked, word_or_zero, comp_of, ret_of, head_of, chunk_word_of, width_of, unsigned_chunk, signed_chunk, data_word_of, val_of}
 use Rattle.cmm_grammar.specs.Rule.{AToken, AnExpression, AParameter, ADeclaration, AResult, ABinding, AnIndex, ACase, AHandler, ALabel, AHead, AChunkWord, AWidth, ADataWord, ADatum, ADataItem, AnItem, Listed, Both, Rule, One, Expr, Inside, ◌>>=◌, ◌>>◌, give, inside_or, labelled_or, maybe, until, repeat}
 
 -- ---- one token
@@ -141,23 +141,23 @@ unfoldable pub alloc_form : ℕ → Rule AnExpression
 alloc_form at = do
   header ← a_token is_integer
   es ← operands
-  give (Alloc at header.at (word_of (integer_value header.text)) (expressions es))
+  give (Alloc at header.at (word_or_zero (integer_value header.text)) (expressions es))
 
 -- what a load or a store is, by its chunk: with a chunk of floats it computes with floats
-abbrev pub loaded : ℕ → Option Chunk → ℕ → Expression → Expression
-loaded at (Some chunk) chunk_at address = Load at chunk address
-loaded at None chunk_at address = Float at chunk_at (More address NoMore)
+abbrev pub load_expression : ℕ → Option Chunk → ℕ → Expression → Expression
+load_expression at (Some chunk) chunk_at address = Load at chunk address
+load_expression at None chunk_at address = Float at chunk_at (More address NoMore)
 
-abbrev pub stored : ℕ → Option Chunk → ℕ → Expression → Expression → Expression
-stored at (Some chunk) chunk_at address value = Store at chunk address value
-stored at None chunk_at address value = Float at chunk_at (More address (More value NoMore))
+abbrev pub store_expression : ℕ → Option Chunk → ℕ → Expression → Expression → Expression
+store_expression at (Some chunk) chunk_at address value = Store at chunk address value
+store_expression at None chunk_at address value = Float at chunk_at (More address (More value NoMore))
 
 -- expr )
 unfoldable pub load_rest : ℕ → Option Chunk → ℕ → Rule AnExpression
 load_rest at chunk chunk_at = do
   address ← Expr
   close
-  give (loaded at chunk chunk_at address)
+  give (load_expression at chunk chunk_at address)
 
 -- expr expr )
 unfoldable pub store_rest : ℕ → Option Chunk → ℕ → Rule AnExpression
@@ -165,7 +165,7 @@ store_rest at chunk chunk_at = do
   address ← Expr
   value ← Expr
   close
-  give (stored at chunk chunk_at address value)
+  give (store_expression at chunk chunk_at address value)
 
 -- a width, where one follows
 unfoldable pub chunk_rest : ChunkWord → (Option Chunk → Rule AnExpression) → Rule AnExpression
@@ -253,7 +253,7 @@ unfoldable pub case_number : Rule AnIndex
 case_number = do
   i ← a_token is_integer
   a_token is_colon
-  give (record { at = i.at; index = word_of (integer_value i.text) })
+  give (record { at = i.at; index = word_or_zero (integer_value i.text) })
 
 -- case integer :
 unfoldable pub another_number : Rule AnIndex
@@ -282,7 +282,7 @@ switch_form at = do
   selector ← Expr
   a_token is_case
   cs ← repeat (λ (c : CasePart). c.goes_on) a_case
-  give (Switch at size.at (word_of (integer_value size.text)) selector (cases cs))
+  give (Switch at size.at (word_or_zero (integer_value size.text)) selector (cases cs))
 
 -- name : comp
 unfoldable pub a_parameter : Rule AParameter
@@ -393,8 +393,8 @@ form_of at word_at head.Try = try_form at
 form_of at word_at head.Float = float_form at word_at
 
 -- a form that opens at this place: its word, and the rest
-unfoldable pub form : ℕ → Rule AnExpression
-form at = do
+unfoldable pub open_form : ℕ → Rule AnExpression
+open_form at = do
   w ← One (Both AToken AHead) (marked head_of)
   form_of at w.0.at w.1
 
@@ -425,7 +425,7 @@ datum_of t item.Global = do
   name ← a_token is_symbol_token
   give (tree.Global name.at (string_bytes name.text))
 datum_of t item.Float = do
-  a_token is_float
+  a_token is_float_token
   give tree.AFloat
 
 unfoldable pub a_data_item : Rule ADataItem

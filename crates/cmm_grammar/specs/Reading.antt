@@ -5,7 +5,7 @@ use Rattle.cmm_tree.specs.Tree.{Expression, Nothing, ItemTree}
 use Rattle.cmm_grammar.specs.Parts.{ItemPart, item_of}
 use Rattle.cmm_grammar.specs.Words.{is_open, is_open_bracket, is_close_bracket, is_name, leaf_of}
 use Rattle.cmm_grammar.specs.Rule.{Sort, Value, Rule, Give, One, Then, Expr, Inside, InsideOr, LabelledOr, Until, Maybe, Repeat}
-use Rattle.cmm_grammar.specs.Grammar.{form, an_item}
+use Rattle.cmm_grammar.specs.Grammar.{open_form, an_item}
 
 -- Why reading stops: no text goes on so, or a parenthesis is one level too deep.
 pub data Why : Type 0 where
@@ -14,19 +14,19 @@ pub data Why : Type 0 where
 
 -- What reading gives: a value and the tokens that are left, or, where it stops, the number of tokens from
 -- there on.
-pub data Outcome (A : Type 0) : Type 0 where
-  Read : (a : A) (rest : List TokenTree) → Outcome A
-  Stops : (why : Why) (left : ℕ) → Outcome A
+pub data ReadOutcome (A : Type 0) : Type 0 where
+  Read : (a : A) (rest : List TokenTree) → ReadOutcome A
+  Stops : (why : Why) (left : ℕ) → ReadOutcome A
 
 abbrev pub Reader : Type 0 → Type 0
-Reader A = List TokenTree → Outcome A
+Reader A = List TokenTree → ReadOutcome A
 
-abbrev pub bind : {A B : Type 0} → Outcome A → (A → Reader B) → Outcome B
+abbrev pub bind : {A B : Type 0} → ReadOutcome A → (A → Reader B) → ReadOutcome B
 bind (Read a rest) next = next a rest
 bind (Stops why left) next = Stops why left
 
 -- a token that gives a value, or none
-abbrev pub given : {A : Type 0} → Option A → List TokenTree → Outcome A
+abbrev pub given : {A : Type 0} → Option A → List TokenTree → ReadOutcome A
 given (Some a) ts = Read a ts
 given None ts = Stops Stuck (suc (length ts))
 
@@ -122,7 +122,7 @@ reading (Repeat s more r) d forms ts = some_of more (reading r d forms) (suc (le
 
 abbrev pub forms_below : ℕ → Forms
 forms_below zero j at ts = Stops Deep (suc (length ts))
-forms_below (suc d) zero at ts = reading (form at) d (forms_below d) ts
+forms_below (suc d) zero at ts = reading (open_form at) d (forms_below d) ts
 forms_below (suc d) (suc j) at ts = forms_below d j at ts
 
 abbrev pub reads : {s : Sort} → Rule s → ℕ → Reader (Value s)

@@ -5,7 +5,7 @@ use Rattle.cmm_tree.specs.Tree.{Expression, Nothing, ItemTree}
 use Rattle.cmm_grammar.specs.Parts.{ItemPart, item_of}
 use Rattle.cmm_grammar.specs.Words.{is_open, is_open_bracket, is_close_bracket, is_name, is_labelled, leaf_of}
 use Rattle.cmm_grammar.specs.Rule.{Sort, Value, AnExpression, AnItem, Listed, Rule, Give, One, Then, Expr, Inside, InsideOr, LabelledOr, Until, Maybe, Repeat}
-use Rattle.cmm_grammar.specs.Grammar.{form, an_item}
+use Rattle.cmm_grammar.specs.Grammar.{open_form, an_item}
 
 -- Tokens spell a value by a rule. Parentheses nest in them at most so deep.
 pub data Spells : (s : Sort) → ℕ → Rule s → Value s → List TokenTree → Type 0 where
@@ -29,7 +29,7 @@ pub data Spells : (s : Sort) → ℕ → Rule s → Value s → List TokenTree �
   -- a form in parentheses
   parenthesis : (d : ℕ) (o : TokenTree) (e : Expression) (xs : List TokenTree)
       → is_open o ≡ true
-      → Spells AnExpression d (form o.at) e xs
+      → Spells AnExpression d (open_form o.at) e xs
       → Spells AnExpression (suc d) Expr e (o ∷ xs)
   inside : (s : Sort) (d : ℕ) (r : ℕ → Rule s) (o : TokenTree) (a : Value s) (xs : List TokenTree)
       → is_open o ≡ true
@@ -93,8 +93,8 @@ pub data AreItems : ℕ → List ItemTree → List TokenTree → Type 0 where
       → AreItems d (item_of (length xs) i ∷ is) (xs ++ ys)
 
 -- Some text begins with these tokens, in which parentheses nest at most so deep.
-abbrev pub Begins : ℕ → List TokenTree → Type 0
-Begins d ts =
+abbrev pub BeginsText : ℕ → List TokenTree → Type 0
+BeginsText d ts =
     (items : List ItemTree) × (more_tokens : List TokenTree) × AreItems d items (ts ++ more_tokens)
 
 -- how deep parentheses nest at most

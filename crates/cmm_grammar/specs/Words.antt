@@ -87,8 +87,8 @@ is_name t = is_name_kind t.kind
 abbrev pub is_integer : TokenTree → Bool
 is_integer t = is_integer_kind t.kind
 
-abbrev pub is_float : TokenTree → Bool
-is_float t = is_float_kind t.kind
+abbrev pub is_float_token : TokenTree → Bool
+is_float_token t = is_float_kind t.kind
 
 abbrev pub is_string : TokenTree → Bool
 is_string t = is_string_kind t.kind
@@ -166,9 +166,9 @@ abbrev pub marked : {A : Type 0} → (TokenKind → Option A) → TokenTree → 
 marked of t = option_map (λ a. (t, a)) (of t.kind)
 
 -- the word of an integer; 0 where it is out of range
-abbrev pub word_of : Option ℕ → ℕ
-word_of None = 0
-word_of (Some w) = w
+abbrev pub word_or_zero : Option ℕ → ℕ
+word_or_zero None = 0
+word_or_zero (Some w) = w
 
 abbrev pub comp_of : TokenKind → Option Comp
 comp_of (kind.Keyword word.Int) = Some comp.Int
@@ -197,8 +197,8 @@ abbrev pub leaf_of : TokenTree → Option Expression
 leaf_of t = of_kind t.kind
   where
     of_kind : TokenKind → Option Expression
-    of_kind kind.Integer = Some (Integer t.at (word_of (integer_value t.text)))
-    of_kind kind.Pointer = Some (Pointer t.at (word_of (integer_value t.text)))
+    of_kind kind.Integer = Some (Integer t.at (word_or_zero (integer_value t.text)))
+    of_kind kind.Pointer = Some (Pointer t.at (word_or_zero (integer_value t.text)))
     of_kind kind.Float = Some (Float t.at t.at NoMore)
     of_kind kind.String =
         cond (is_symbol (string_bytes t.text)) (Some (Symbol t.at (string_bytes t.text))) None

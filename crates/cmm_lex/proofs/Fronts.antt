@@ -8,7 +8,7 @@ use Rattle.cmm_lex.specs.declared.state.Shape.{Shape}
 use Rattle.cmm_lex.specs.declared.state.State.TheVariants.{Start}
 use Rattle.cmm_lex.specs.declared.token.TokenKind.{TokenKind}
 use Rattle.cmm_lex.specs.declared.token.TokenKind.TheVariants as kind
-use Rattle.cmm_lex.specs.Automaton.{run, after, after_start, accepts, scan}
+use Rattle.cmm_lex.specs.Automaton.{run, state_after_byte, after_start, accepts, scan}
 use Rattle.cmm_lex.specs.Enclosed.{BeginsWith, Enclosed, AString, AComment, Braces, opening, EndsString, EndsComments, EndsBraces}
 use Rattle.cmm_lex.specs.Lexing.{separators, separator, comment, in_braces, IsFault, no_token, bad_escape, unclosed}
 use Rattle.cmm_lex.specs.Scanning.{behind_string, behind_comments, behind_braces, kind_of, IsFine, GapTo, TokenTo, Longer, is_separator, is_star_first, opening_of}
@@ -115,12 +115,12 @@ bad-within n bytes (past_escape m e bs is h) = let less = bad-within m bs h in o
 
 -- no other token begins with a quote
 quote-dead : (text rest bytes : List ℕ) (s : Shape) → 34 ∷ bytes ≡ text ++ rest → accepts (run Start text) ≡ Some s → ⊥
-unfolding accepts after after_start
+unfolding accepts state_after_byte after_start
 quote-dead [] rest bytes s whole accepted = cc
 quote-dead (b ∷ bs) rest bytes s whole accepted =
     let first : 34 ≡ b = cc in
-    let there : accepts (run (after Start 34) bs) ≡ Some s = subst (λ (v : ℕ). accepts (run (after Start v) bs) ≡ Some s) (sym first) accepted in
-    let dead : accepts (run (after Start 34) bs) ≡ None = run-dead bs in
+    let there : accepts (run (state_after_byte Start 34) bs) ≡ Some s = subst (λ (v : ℕ). accepts (run (state_after_byte Start v) bs) ≡ Some s) (sym first) accepted in
+    let dead : accepts (run (state_after_byte Start 34) bs) ≡ None = run-dead bs in
     cc
 
 string-rest : (bytes text rest : List ℕ) → IsString text → 34 ∷ bytes ≡ text ++ rest → behind_string bytes ≡ Some rest

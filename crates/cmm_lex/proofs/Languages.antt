@@ -3,7 +3,7 @@
 use Rattle.std.proofs.Common.{◌≡◌, ℕ, ◌<◌, suc, zero, Bool, true, false, cond, ◌&&◌, eqb, List, [], ◌∷◌, Option, Some, None, codes, Contains, lit<, ◌⊎◌, inl, inr, refl, sym, ap, subst, ◌∙◌, eqb-true, arith}
 use Rattle.std.proofs.lemmas.Bool.{false≢true, and_parts, cases_eq}
 use Rattle.cmm_lex.specs.Form.{Form, Nothing, Empty, Between, Then, Either, Many, Matches, one_of}
-use Rattle.cmm_lex.specs.Tokens.{name, integer, pointer, float}
+use Rattle.cmm_lex.specs.Tokens.{name, integer_form, pointer, float}
 use Rattle.cmm_lex.specs.Scanning.{sign_table}
 use Rattle.cmm_lex.specs.declared.state.Shape.{Shape}
 use Rattle.cmm_lex.specs.declared.state.Shape.TheVariants as shape
@@ -15,7 +15,7 @@ use Rattle.cmm_lex.specs.declared.state.OperatorPart.{OperatorPart}
 use Rattle.cmm_lex.specs.declared.state.OperatorPart.TheVariants.{Plus, Minus, Product, Less, Greater, Shift, Equal, Comparison}
 use Rattle.cmm_lex.specs.declared.state.State.{State}
 use Rattle.cmm_lex.specs.declared.state.State.TheVariants.{Start, Name, Number, Operator, Done, Dead}
-use Rattle.cmm_lex.specs.Automaton.{run, after, accepts, after_start, after_name, after_number, after_decimal, after_operator, accepts_name, accepts_number, accepts_operator}
+use Rattle.cmm_lex.specs.Automaton.{run, state_after_byte, accepts, after_start, after_name, after_number, after_decimal, after_operator, accepts_name, accepts_number, accepts_operator}
 use Rattle.cmm_lex.proofs.Behind.{behind, has_empty, behind-from, behind-to, empty-from, empty-to}
 
 abbrev pub same_shape : Shape → Shape → Bool
@@ -49,7 +49,7 @@ spellings (entry ∷ entries) = entry.0 ∷ spellings entries
 -- how the tokens of a shape are spelled
 abbrev pub form_of : Shape → Form
 form_of shape.Word = name
-form_of shape.Integer = integer
+form_of shape.Integer = integer_form
 form_of shape.Pointer = pointer
 form_of shape.Float = float
 form_of shape.Signs = one_of (spellings sign_table)
@@ -129,8 +129,8 @@ same_form-is _ _ e = absurd (false≢true e)
 
 -- from this state and by this byte the automaton goes where the forms of this kind go
 abbrev goes_for : State → ℕ → Shape → Bool
-unfolding after after_start after_name after_number after_decimal after_operator
-goes_for s b k = same_form (behind b (language s k)) (language (after s b) k)
+unfolding state_after_byte after_start after_name after_number after_decimal after_operator
+goes_for s b k = same_form (behind b (language s k)) (language (state_after_byte s b) k)
 
 abbrev for_each : List Shape → (Shape → Bool) → Bool
 for_each [] p = true
@@ -221,7 +221,7 @@ goes-is (Operator part) = goes-operator part
 goes-is (Done k) = goes-done k
 goes-is Dead = goes-dead
 
-language-after : (s : State) (b : ℕ) (k : Shape) → b < 256 → behind b (language s k) ≡ language (after s b) k
+language-after : (s : State) (b : ℕ) (k : Shape) → b < 256 → behind b (language s k) ≡ language (state_after_byte s b) k
 unfolding goes_for
 language-after s b k h =
     same_form-is _ _ (for_each_kind-at (goes_for s b) (all_below-at 256 (goes s) (goes-is s) b h) k)
@@ -304,12 +304,12 @@ accepts-language : (s : State) (k : Shape) (xs : List ℕ) → AreBytes xs → M
 accepts-language s k [] bytes m = says-to (accepts s) k (sym (has_empty-language s k) ∙ empty-from (language s k) m)
 accepts-language s k (b ∷ xs) bytes m =
     let rest = subst (λ (f : Form). Matches f xs) (language-after s b k bytes.0) (behind-from b (language s k) xs m) in
-    accepts-language (after s b) k xs bytes.1 rest
+    accepts-language (state_after_byte s b) k xs bytes.1 rest
 
 language-accepts : (s : State) (k : Shape) (xs : List ℕ) → AreBytes xs → accepts (run s xs) ≡ Some k → Matches (language s k) xs
 language-accepts s k [] bytes e = empty-to (language s k) (has_empty-language s k ∙ says-from (accepts s) k e)
 language-accepts s k (b ∷ xs) bytes e =
-    let rest = language-accepts (after s b) k xs bytes.1 e in
+    let rest = language-accepts (state_after_byte s b) k xs bytes.1 e in
     behind-to b (language s k) xs (subst (λ (f : Form). Matches f xs) (sym (language-after s b k bytes.0)) rest)
 
 -- what has a shape's form is accepted as it

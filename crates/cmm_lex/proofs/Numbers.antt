@@ -4,7 +4,7 @@ use Rattle.std.proofs.Math.Nat.{suc-mul}
 use Rattle.std.proofs.lemmas.Bool.{lt-leb, leb-false, cond-false}
 use Rattle.std.specs.Char.{is_ascii_digit}
 use Rattle.cmm_lex.specs.Integers.{digit_value, number_after, decimal_digits}
-use Rattle.cmm_lex.specs.Scanning.{if_fits, number_of, decimal_of, digit_onto}
+use Rattle.cmm_lex.specs.Scanning.{if_fits, number_in_base, decimal_of, digit_onto}
 
 -- more digits make no smaller number
 number-grows : (b n : ℕ) (digits : List ℕ) → n ≤ number_after (suc b) n digits
@@ -31,7 +31,7 @@ pub number-over : (base n d : ℕ) (rest tail digits : List ℕ)
     → number_after base n rest ≡ number_after base 0 digits
     → rest ≡ d ∷ tail
     → digit_onto base n d ≡ None
-    → None ≡ number_of base digits
+    → None ≡ number_in_base base digits
 number-over zero n d rest tail digits some same front none = absurd (omega arith)
 number-over (suc b) n d rest tail digits some same front none =
     let grows = number-grows b (suc b * n + digit_value d) tail in

@@ -3,7 +3,7 @@ use Rattle.std.proofs.Common.{◌≡◌, ℕ, ◌+◌, ◌<◌, ◌≤◌, suc, 
 use Rattle.cmm_lex.specs.declared.state.Shape.{Shape}
 use Rattle.cmm_lex.specs.declared.state.State.{State}
 use Rattle.cmm_lex.specs.declared.state.State.TheVariants.{Start, Name, Number, Operator, Done, Dead}
-use Rattle.cmm_lex.specs.Automaton.{run, after, accepts, is_dead, better, scan}
+use Rattle.cmm_lex.specs.Automaton.{run, state_after_byte, accepts, is_dead, better, scan}
 use Rattle.cmm_lex.proofs.Pairs.{some_pair}
 use Rattle.cmm_lex.proofs.Languages.{AreBytes}
 
@@ -20,7 +20,7 @@ abbrev Scanned : State → ℕ → Option (Shape × ℕ) → List ℕ → Option
 Scanned s n found bs r = ((r ≡ found) × NoneBeyond s 0 bs) ⊎ Found s n bs r
 
 pub run-dead : (xs : List ℕ) → accepts (run Dead xs) ≡ None
-unfolding accepts after
+unfolding accepts state_after_byte
 run-dead [] = refl
 run-dead (x ∷ xs) = run-dead xs
 
@@ -32,38 +32,38 @@ dead-is (Number part) e = cc
 dead-is (Operator part) e = cc
 dead-is (Done k) e = cc
 
-none_beyond-dead : (s : State) (b : ℕ) (bs : List ℕ) → is_dead (after s b) ≡ true → NoneBeyond s 0 (b ∷ bs)
+none_beyond-dead : (s : State) (b : ℕ) (bs : List ℕ) → is_dead (state_after_byte s b) ≡ true → NoneBeyond s 0 (b ∷ bs)
 none_beyond-dead s b bs dead [] ys k e a = omega arith
 none_beyond-dead s b bs dead (x ∷ xs) ys k e a =
     let same : b ≡ x = cc in
-    let at_dead : after s x ≡ Dead = ap (after s) (sym same) ∙ dead-is (after s b) dead in
-    let none : accepts (run (after s x) xs) ≡ None = ap (λ (t : State). accepts (run t xs)) at_dead ∙ run-dead xs in
+    let at_dead : state_after_byte s x ≡ Dead = ap (state_after_byte s) (sym same) ∙ dead-is (state_after_byte s b) dead in
+    let none : accepts (run (state_after_byte s x) xs) ≡ None = ap (λ (t : State). accepts (run t xs)) at_dead ∙ run-dead xs in
     cc
 
 -- one byte more
-none_beyond-more : (s : State) (n b : ℕ) (bs : List ℕ) → NoneBeyond (after s b) n bs → NoneBeyond s (suc n) (b ∷ bs)
+none_beyond-more : (s : State) (n b : ℕ) (bs : List ℕ) → NoneBeyond (state_after_byte s b) n bs → NoneBeyond s (suc n) (b ∷ bs)
 none_beyond-more s n b bs h [] ys k e a = omega arith
 none_beyond-more s n b bs h (x ∷ xs) ys k e a =
     let same : x ≡ b = cc in
     let rest : bs ≡ xs ++ ys = cc in
-    let shorter = h xs ys k rest (subst (λ (v : ℕ). accepts (run (after s v) xs) ≡ Some k) same a) in
+    let shorter = h xs ys k rest (subst (λ (v : ℕ). accepts (run (state_after_byte s v) xs) ≡ Some k) same a) in
     omega arith
 
-none_beyond-first : (s : State) (b : ℕ) (bs : List ℕ) → accepts (after s b) ≡ None → NoneBeyond (after s b) 0 bs → NoneBeyond s 0 (b ∷ bs)
+none_beyond-first : (s : State) (b : ℕ) (bs : List ℕ) → accepts (state_after_byte s b) ≡ None → NoneBeyond (state_after_byte s b) 0 bs → NoneBeyond s 0 (b ∷ bs)
 none_beyond-first s b bs none h [] ys k e a = omega arith
 none_beyond-first s b bs none h (x ∷ xs) ys k e a =
     let same : x ≡ b = cc in
     let rest : bs ≡ xs ++ ys = cc in
-    let a' : accepts (run (after s b) xs) ≡ Some k = subst (λ (v : ℕ). accepts (run (after s v) xs) ≡ Some k) same a in
+    let a' : accepts (run (state_after_byte s b) xs) ≡ Some k = subst (λ (v : ℕ). accepts (run (state_after_byte s v) xs) ≡ Some k) same a in
     absurd (no_end xs (h xs ys k rest a') a')
   where
-    no_end : (us : List ℕ) → length us ≤ 0 → accepts (run (after s b) us) ≡ Some k → ⊥
+    no_end : (us : List ℕ) → length us ≤ 0 → accepts (run (state_after_byte s b) us) ≡ Some k → ⊥
     no_end [] short a'' = cc
     no_end (u ∷ us) short a'' = absurd (omega arith)
 
 scanned-step : (s : State) (n b : ℕ) (found : Option (Shape × ℕ)) (bs : List ℕ) (r : Option (Shape × ℕ)) (o : Option Shape)
-    → accepts (after s b) ≡ o
-    → Scanned (after s b) (n + 1) (better o (n + 1) found) bs r
+    → accepts (state_after_byte s b) ≡ o
+    → Scanned (state_after_byte s b) (n + 1) (better o (n + 1) found) bs r
     → Scanned s n found (b ∷ bs) r
 scanned-step s n b found bs r None e (inl h) = inl (h.0, none_beyond-first s b bs e h.1)
 scanned-step s n b found bs r (Some k) e (inl h) =
@@ -81,13 +81,13 @@ scan-is s n found [] = inl (refl, λ xs ys k e a. at_end xs ys e)
     at_end [] ys e = omega arith
     at_end (x ∷ xs) ys e = cc
 scan-is s n found (b ∷ bs) =
-    at_test (is_dead (after s b)) refl (scan-is (after s b) (n + 1) (better (accepts (after s b)) (n + 1) found) bs)
+    at_test (is_dead (state_after_byte s b)) refl (scan-is (state_after_byte s b) (n + 1) (better (accepts (state_after_byte s b)) (n + 1) found) bs)
   where
-    at_test : (t : Bool) → is_dead (after s b) ≡ t
-        → Scanned (after s b) (n + 1) (better (accepts (after s b)) (n + 1) found) bs (scan (after s b) (n + 1) (better (accepts (after s b)) (n + 1) found) bs)
-        → Scanned s n found (b ∷ bs) (cond t found (scan (after s b) (n + 1) (better (accepts (after s b)) (n + 1) found) bs))
+    at_test : (t : Bool) → is_dead (state_after_byte s b) ≡ t
+        → Scanned (state_after_byte s b) (n + 1) (better (accepts (state_after_byte s b)) (n + 1) found) bs (scan (state_after_byte s b) (n + 1) (better (accepts (state_after_byte s b)) (n + 1) found) bs)
+        → Scanned s n found (b ∷ bs) (cond t found (scan (state_after_byte s b) (n + 1) (better (accepts (state_after_byte s b)) (n + 1) found) bs))
     at_test true dead h = inl (refl, none_beyond-dead s b bs dead)
-    at_test false alive h = scanned-step s n b found bs _ (accepts (after s b)) refl h
+    at_test false alive h = scanned-step s n b found bs _ (accepts (state_after_byte s b)) refl h
 
 pub AreBytes-from : (xs : List ℕ) → ((i : ℕ) → get_or xs i 0 < 256) → AreBytes xs
 AreBytes-from [] h = tt
@@ -146,23 +146,23 @@ scan-none bytes e = of_scanned (scan-is Start 0 None bytes)
 -- the steps of the loop
 pub scan-alive : (s t : State) (n b : ℕ) (found : Option (Shape × ℕ)) (xs tail : List ℕ) (o : Option Shape)
     → xs ≡ b ∷ tail
-    → t ≡ after s b
+    → t ≡ state_after_byte s b
     → is_dead t ≡ false
     → o ≡ accepts t
     → scan t (n + 1) (better o (n + 1) found) tail ≡ scan s n found xs
 unfolding scan
 scan-alive s t n b found xs tail o front goes alive said =
-    let dead : is_dead (after s b) ≡ false = subst (λ (v : State). is_dead v ≡ false) goes alive in
+    let dead : is_dead (state_after_byte s b) ≡ false = subst (λ (v : State). is_dead v ≡ false) goes alive in
     rw (front, said, goes, dead) refl
 
 pub scan-dead : (s t : State) (n b : ℕ) (found : Option (Shape × ℕ)) (xs tail : List ℕ)
     → xs ≡ b ∷ tail
-    → t ≡ after s b
+    → t ≡ state_after_byte s b
     → is_dead t ≡ true
     → found ≡ scan s n found xs
 unfolding scan
 scan-dead s t n b found xs tail front goes alive =
-    let dead : is_dead (after s b) ≡ true = subst (λ (v : State). is_dead v ≡ true) goes alive in
+    let dead : is_dead (state_after_byte s b) ≡ true = subst (λ (v : State). is_dead v ≡ true) goes alive in
     rw (front, dead) refl
 
 pub scan-empty : (s : State) (n : ℕ) (found : Option (Shape × ℕ)) (xs : List ℕ) → length xs ≡ 0 → found ≡ scan s n found xs

@@ -13,7 +13,7 @@ use Rattle.cmm_lex.specs.declared.token.Keyword.{Keyword}
 use Rattle.cmm_lex.specs.declared.token.Keyword.TheVariants as word
 use Rattle.cmm_lex.specs.declared.token.Sign.{Sign}
 use Rattle.cmm_lex.specs.declared.token.Sign.TheVariants as sign
-use Rattle.cmm_lex.specs.Automaton.{run, after, accepts, after_start, after_name, after_operator, accepts_name, accepts_operator}
+use Rattle.cmm_lex.specs.Automaton.{run, state_after_byte, accepts, after_start, after_name, after_operator, accepts_name, accepts_operator}
 use Rattle.cmm_lex.specs.Form.{Matches, spelled, one_of}
 use Rattle.cmm_lex.specs.Scanning.{find_spelled, keyword_table, sign_table, kind_of}
 use Rattle.cmm_lex.specs.Strings.{IsString}
@@ -338,7 +338,7 @@ keyword-found word.Function = refl
 keyword-found _ = refl
 
 keyword-accepted : (k : Keyword) → accepts (run Start (keyword_text k)) ≡ Some shape.Word
-unfolding accepts after after_start after_name accepts_name
+unfolding accepts state_after_byte after_start after_name accepts_name
 keyword-accepted word.Function = refl
 keyword-accepted _ = refl
 
@@ -347,13 +347,13 @@ sign-found sign.Open = refl
 sign-found _ = refl
 
 sign-accepted : (s : Sign) → accepts (run Start (sign_text s)) ≡ Some shape.Signs
-unfolding accepts after after_start
+unfolding accepts state_after_byte after_start
 sign-accepted sign.Open = refl
 sign-accepted _ = refl
 
 -- an operator is accepted and found
 abbrev IsSpelled : TokenKind → List ℕ → Type 0
-unfolding accepts after after_start after_operator accepts_operator
+unfolding accepts state_after_byte after_start after_operator accepts_operator
 IsSpelled k text = (accepts (run Start text) ≡ Some shape.Signs) × (find_spelled sign_table text ≡ Some k)
 
 operators-are : Each (λ (e : IntOp × List ℕ). IsSpelled (kind.Operator e.0) e.1) operators

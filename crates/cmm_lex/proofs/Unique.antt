@@ -11,7 +11,7 @@ use Rattle.cmm_lex.specs.declared.state.State.{State}
 use Rattle.cmm_lex.specs.declared.state.State.TheVariants.{Start, Dead}
 use Rattle.cmm_lex.specs.declared.token.TokenKind.{TokenKind}
 use Rattle.cmm_lex.specs.declared.token.TokenKind.TheVariants as kind
-use Rattle.cmm_lex.specs.Automaton.{run, after, after_start, accepts, scan}
+use Rattle.cmm_lex.specs.Automaton.{run, state_after_byte, after_start, accepts, scan}
 use Rattle.cmm_lex.specs.Enclosed.{BeginsWith, Enclosed, AString, AComment, Braces, opening, Ends, EndsString, EndsComments, EndsBraces}
 use Rattle.cmm_lex.specs.Lexing.{separators, IsGap, separator, comment, in_braces, IsFault, no_token, bad_escape, unclosed, Splits, ended, gap, token, stopped}
 use Rattle.cmm_lex.specs.Scanning.{behind_string, behind_comments, behind_braces, kind_of, opening_of, is_letter_escape}
@@ -176,7 +176,7 @@ string-move at inside rest ends =
 
 -- a text that begins with a byte of this kind begins with no other token
 dead-first : (b : ℕ) (bs text rest : List ℕ) (s : Shape)
-    → after Start b ≡ Dead
+    → state_after_byte Start b ≡ Dead
     → b ∷ bs ≡ text ++ rest
     → accepts (run Start text) ≡ Some s
     → ⊥
@@ -184,25 +184,25 @@ unfolding accepts
 dead-first b bs [] rest s dead whole accepted = cc
 dead-first b bs (c ∷ cs) rest s dead whole accepted =
     let first : c ≡ b = cc in
-    let at_b : after Start c ≡ Dead = ap (after Start) first ∙ dead in
-    let none : accepts (run (after Start c) cs) ≡ None = ap (λ (t : State). accepts (run t cs)) at_b ∙ run-dead cs in
+    let at_b : state_after_byte Start c ≡ Dead = ap (state_after_byte Start) first ∙ dead in
+    let none : accepts (run (state_after_byte Start c) cs) ≡ None = ap (λ (t : State). accepts (run t cs)) at_b ∙ run-dead cs in
     cc
 
-separator-dead : (b : ℕ) → Contains separators b → after Start b ≡ Dead
-unfolding after after_start
-separator-dead b (zero, h, e) = subst (λ (v : ℕ). after Start v ≡ Dead) e refl
-separator-dead b (suc zero, h, e) = subst (λ (v : ℕ). after Start v ≡ Dead) e refl
-separator-dead b (suc (suc zero), h, e) = subst (λ (v : ℕ). after Start v ≡ Dead) e refl
-separator-dead b (suc (suc (suc zero)), h, e) = subst (λ (v : ℕ). after Start v ≡ Dead) e refl
-separator-dead b (suc (suc (suc (suc zero))), h, e) = subst (λ (v : ℕ). after Start v ≡ Dead) e refl
+separator-dead : (b : ℕ) → Contains separators b → state_after_byte Start b ≡ Dead
+unfolding state_after_byte after_start
+separator-dead b (zero, h, e) = subst (λ (v : ℕ). state_after_byte Start v ≡ Dead) e refl
+separator-dead b (suc zero, h, e) = subst (λ (v : ℕ). state_after_byte Start v ≡ Dead) e refl
+separator-dead b (suc (suc zero), h, e) = subst (λ (v : ℕ). state_after_byte Start v ≡ Dead) e refl
+separator-dead b (suc (suc (suc zero)), h, e) = subst (λ (v : ℕ). state_after_byte Start v ≡ Dead) e refl
+separator-dead b (suc (suc (suc (suc zero))), h, e) = subst (λ (v : ℕ). state_after_byte Start v ≡ Dead) e refl
 separator-dead b (suc (suc (suc (suc (suc n)))), h, e) = absurd (omega arith)
 
-quote-dead : after Start 34 ≡ Dead
-unfolding after after_start
+quote-dead : state_after_byte Start 34 ≡ Dead
+unfolding state_after_byte after_start
 quote-dead = refl
 
-brace-dead : after Start 123 ≡ Dead
-unfolding after after_start
+brace-dead : state_after_byte Start 123 ≡ Dead
+unfolding state_after_byte after_start
 brace-dead = refl
 
 -- nothing else opens where a token is that is no string

@@ -145,13 +145,13 @@ after_start b =
     else Dead)))))))))))))))
 
 -- the state when a byte follows
-unfoldable pub after : State → ℕ → State
-after Start b = after_start b
-after (Name part) b = after_name part b
-after (Number part) b = after_number part b
-after (Operator part) b = after_operator part b
-after (Done k) b = Dead
-after Dead b = Dead
+unfoldable pub state_after_byte : State → ℕ → State
+state_after_byte Start b = after_start b
+state_after_byte (Name part) b = after_name part b
+state_after_byte (Number part) b = after_number part b
+state_after_byte (Operator part) b = after_operator part b
+state_after_byte (Done k) b = Dead
+state_after_byte Dead b = Dead
 
 -- what the bytes read are, if they are a token
 unfoldable pub accepts : State → Option Shape
@@ -173,7 +173,7 @@ is_dead Dead = true
 -- the state after these bytes
 abbrev pub run : State → List ℕ → State
 run s [] = s
-run s (b ∷ bs) = run (after s b) bs
+run s (b ∷ bs) = run (state_after_byte s b) bs
 
 -- the token of n bytes where one ends there, else the one found before
 abbrev pub better : Option Shape → ℕ → Option (Shape × ℕ) → Option (Shape × ℕ)
@@ -184,4 +184,4 @@ better (Some k) n found = Some (k, n)
 unfoldable pub scan : State → ℕ → Option (Shape × ℕ) → List ℕ → Option (Shape × ℕ)
 scan s n found [] = found
 scan s n found (b ∷ bs) =
-    if is_dead (after s b) then found else scan (after s b) (n + 1) (better (accepts (after s b)) (n + 1) found) bs
+    if is_dead (state_after_byte s b) then found else scan (state_after_byte s b) (n + 1) (better (accepts (state_after_byte s b)) (n + 1) found) bs

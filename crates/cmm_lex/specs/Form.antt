@@ -45,8 +45,8 @@ one_of [] = Nothing
 one_of (word ∷ words) = Either (spelled word) (one_of words)
 
 -- a form, or nothing
-abbrev pub maybe : Form → Form
-maybe f = Either Empty f
+abbrev pub optional_form : Form → Form
+optional_form f = Either Empty f
 
 -- a form once or more
 abbrev pub some : Form → Form

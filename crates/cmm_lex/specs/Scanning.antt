@@ -218,8 +218,8 @@ if_fits n = cond (nat_le n (2 ^ 64 - 1)) (Some n) None
 abbrev pub digit_onto : ℕ → ℕ → ℕ → Option ℕ
 digit_onto base n d = if_fits (base * n + digit_value d)
 
-abbrev pub number_of : ℕ → List ℕ → Option ℕ
-number_of base digits = if_fits (number_after base 0 digits)
+abbrev pub number_in_base : ℕ → List ℕ → Option ℕ
+number_in_base base digits = if_fits (number_after base 0 digits)
 
 abbrev pub decimal_of : List ℕ → Option ℕ
 decimal_of text = if_fits (number_after 10 0 (decimal_digits text))

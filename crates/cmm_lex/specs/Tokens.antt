@@ -10,7 +10,7 @@ use Rattle.cmm_lex.specs.declared.token.Keyword.TheVariants as word
 use Rattle.cmm_lex.specs.declared.token.Sign.{Sign}
 use Rattle.cmm_lex.specs.declared.token.Sign.TheVariants as sign
 use Rattle.cmm_lex.specs.Strings.{IsString}
-use Rattle.cmm_lex.specs.Form.{Form, Between, Then, Either, Many, Matches, this, maybe, some}
+use Rattle.cmm_lex.specs.Form.{Form, Between, Then, Either, Many, Matches, this, optional_form, some}
 
 -- ---- forms
 
@@ -27,18 +27,18 @@ word_byte = Either letter (Either digit (Either (this 39) (Either (this 46) (thi
 
 -- a letter, bytes of a word, and then `/` and digits or nothing
 abbrev pub name : Form
-name = Then letter (Then (Many word_byte) (maybe (Then (this 47) (some digit))))
+name = Then letter (Then (Many word_byte) (optional_form (Then (this 47) (some digit))))
 
 -- `-` or nothing
 abbrev pub minus : Form
-minus = maybe (this 45)
+minus = optional_form (this 45)
 
 abbrev pub hexadecimal : Form
 hexadecimal = some (Either digit (Either (Between 97 102) (Between 65 70)))
 
 -- decimal digits, or `0x`, `0o` or `0b` and digits of that base
-abbrev pub integer : Form
-integer =
+abbrev pub integer_form : Form
+integer_form =
     Then minus
     (Either (some digit)
     (Then (this 48)
@@ -51,11 +51,11 @@ pointer = Then minus (Then (some digit) (this 97))
 
 -- `e` or `E`, a sign or nothing, and digits
 abbrev pub exponent : Form
-exponent = Then (Either (this 101) (this 69)) (Then (maybe (Either (this 43) (this 45))) (some digit))
+exponent = Then (Either (this 101) (this 69)) (Then (optional_form (Either (this 43) (this 45))) (some digit))
 
 -- digits, and then `.` with digits or none, an exponent, or both in this order
 abbrev pub float : Form
-float = Then minus (Then (some digit) (Either (Then (this 46) (Then (Many digit) (maybe exponent))) exponent))
+float = Then minus (Then (some digit) (Either (Then (this 46) (Then (Many digit) (optional_form exponent))) exponent))
 
 -- ---- words and signs
 
@@ -153,7 +153,7 @@ pub data IsToken : TokenKind → List ℕ → Type 0 where
   -- a word that is no keyword
   is_name : (text : List ℕ) → Matches name text → ((k : Keyword) → text ≡ keyword_text k → ⊥) → IsToken kind.Name text
   is_keyword : (k : Keyword) (text : List ℕ) → text ≡ keyword_text k → IsToken (kind.Keyword k) text
-  is_integer : (text : List ℕ) → Matches integer text → IsToken kind.Integer text
+  is_integer : (text : List ℕ) → Matches integer_form text → IsToken kind.Integer text
   is_pointer : (text : List ℕ) → Matches pointer text → IsToken kind.Pointer text
   is_float : (text : List ℕ) → Matches float text → IsToken kind.Float text
   is_string : (text : List ℕ) → IsString text → IsToken kind.String text

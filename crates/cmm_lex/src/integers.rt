@@ -1,7 +1,7 @@
 //! The words that integers and pointers stand for.
 ghost use Rattle.std.specs.Prelude.{◌≡◌, ◌≤◌};
 ghost use Rattle.cmm_lex.specs.Integers.{digit_value, word_up_to, based_word, decimal_word, unsigned_value, integer_value};
-ghost use Rattle.cmm_lex.specs.Scanning.{number_of, decimal_of, digit_onto};
+ghost use Rattle.cmm_lex.specs.Scanning.{number_in_base, decimal_of, digit_onto};
 
 /// What a digit counts: `a` and `A` are ten.
 fn digit_value(digit: u8) -> u8
@@ -28,7 +28,7 @@ fn digit_onto(base: u64, number: u64, digit: u8) -> Option<u64>
 /// The number that digits of a base spell; `None` past 64 bits.
 fn number(base: u64, digits: &[u8]) -> Option<u64>
     requires { 1 ≤ base }
-    ensures { result ≡ number_of base digits.now }
+    ensures { result ≡ number_in_base base digits.now }
 {
     let mut number: u64 = 0;
     let mut rest = digits;

@@ -2,7 +2,7 @@
 ghost use Rattle.std.specs.Prelude.{◌≡◌};
 ghost use Rattle.cmm_lex.specs.Automaton.{is_digit, is_hexadecimal, is_octal, is_binary, is_letter, is_word_byte};
 ghost use Rattle.cmm_lex.specs.Automaton.{after_name, accepts_name, after_decimal, if_digit, after_number};
-ghost use Rattle.cmm_lex.specs.Automaton.{accepts_number, after_operator, accepts_operator, after_start, after};
+ghost use Rattle.cmm_lex.specs.Automaton.{accepts_number, after_operator, accepts_operator, after_start, state_after_byte};
 ghost use Rattle.cmm_lex.specs.Automaton.{accepts, is_dead};
 
 /// What a token is by its bytes' classes: words may be names or keywords.
@@ -347,9 +347,9 @@ fn after_start(byte: u8) -> State
 
 impl State {
     /// What was read when `byte` follows.
-    #[tactic(auto, unfolding(crate::specs::Automaton::after))]
+    #[tactic(auto, unfolding(crate::specs::Automaton::state_after_byte))]
     pub fn after(self, byte: u8) -> State
-        ensures { result ≡ after self byte }
+        ensures { result ≡ state_after_byte self byte }
     {
         match self {
             State::Start => after_start(byte),

@@ -7,8 +7,8 @@ use Rattle.bs_fault.specs.declared.fault.Fault.TheVariants.{TooLong, BadToken, U
 use Rattle.bs_fault.specs.declared.fault.Fault.TheVariants as fault
 use Rattle.cmm_tree.specs.Tree.{Expression, Integer, Pointer, Symbol, Name, Nothing, Float, Let, Assign, Operator, Load, Store, Alloc, App, Extcall, Checkbound, Raise, Seq, If, Switch, Catch, Exit, Try, Expressions, NoMore, More, Bindings, NoBinding, Bind, Cases, NoCase, Choose, Handlers, NoHandler, Handle, Index, ItemTree, AFunction, AData, FileTree}
 use Rattle.bs_fault.specs.Order.{fault_number, Precedes}
-use Rattle.bs_fault.specs.Reported.{Faults, NoFault, One, Both, Among, here, first, second, one_if, one_of, IsFirst}
-use Rattle.cmm_limits.specs.Limits.{too_many_at, index_faults, faults_in, row_faults, binding_faults, case_faults, handler_faults, items_faults, limit_faults}
+use Rattle.bs_fault.specs.Reported.{Faults, NoFault, One, Both, Among, here, first, second, one_if, faults_of_option, IsFirst}
+use Rattle.cmm_limits.specs.Limits.{too_many_at, index_faults, faults_in, row_faults, binding_faults, case_faults, handler_faults, items_limit_faults, limit_faults}
 
 -- a fault of one place
 abbrev pub Plain : Fault → Type 0
@@ -91,7 +91,7 @@ mutual
   handlers-plain NoHandler = plain-none
   handlers-plain (Handle at label params body rest) = plain-both _ _ (faults-plain body) (handlers-plain rest)
 
-items-plain : (items : List ItemTree) → AllPlain (items_faults items)
+items-plain : (items : List ItemTree) → AllPlain (items_limit_faults items)
 items-plain [] = plain-none
 items-plain (AFunction f ∷ items) =
     plain-both _ _
@@ -103,7 +103,7 @@ items-plain (AData d ∷ items) = plain-both _ _ plain-none (items-plain items)
 pub limits-plain : (file : FileTree) → AllPlain (limit_faults file)
 limits-plain file = items-plain file.items
 
-pub plain-of : (o : Option Fault) → ((f : Fault) → o ≡ Some f → Plain f) → AllPlain (one_of o)
+pub plain-of : (o : Option Fault) → ((f : Fault) → o ≡ Some f → Plain f) → AllPlain (faults_of_option o)
 plain-of None h = plain-none
 plain-of (Some f) h = plain-one f (h f refl)
 

@@ -85,19 +85,19 @@ abbrev mutual
   handler_faults NoHandler = NoFault
   handler_faults (Handle at label params body rest) = Both (faults_in body) (handler_faults rest)
 
-abbrev pub function_faults : FunctionTree → Faults
-function_faults f =
+abbrev pub function_limit_faults : FunctionTree → Faults
+function_limit_faults f =
     Both (too_many (parameter_places f.params))
     (Both (one_if (not (nat_le f.tokens most_tokens)) (FunctionTooLong f.at)) (faults_in f.body))
 
-abbrev pub item_faults : ItemTree → Faults
-item_faults (AFunction f) = function_faults f
-item_faults (AData d) = NoFault
+abbrev pub item_limit_faults : ItemTree → Faults
+item_limit_faults (AFunction f) = function_limit_faults f
+item_limit_faults (AData d) = NoFault
 
-abbrev pub items_faults : List ItemTree → Faults
-items_faults [] = NoFault
-items_faults (i ∷ items) = Both (item_faults i) (items_faults items)
+abbrev pub items_limit_faults : List ItemTree → Faults
+items_limit_faults [] = NoFault
+items_limit_faults (i ∷ items) = Both (item_limit_faults i) (items_limit_faults items)
 
 -- where a file passes a limit
 abbrev pub limit_faults : FileTree → Faults
-limit_faults file = items_faults file.items
+limit_faults file = items_limit_faults file.items

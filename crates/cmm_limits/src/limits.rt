@@ -3,9 +3,9 @@ ghost use Rattle.std.specs.Prelude.{◌≡◌, map, None, slice_get, option_copi
 ghost use Rattle.cmm_tree.specs.View.{expr_view, index_view, params_view, function_view, item_view, file_view};
 ghost use Rattle.bs_fault.specs.Reported.{noted_all, IsReported};
 ghost use Rattle.cmm_limits.specs.Limits.{too_many, places, parameter_places, index_faults, size_faults, faults_in};
-ghost use Rattle.cmm_limits.specs.Limits.{row_faults, binding_faults, case_faults, handler_faults, function_faults};
-ghost use Rattle.cmm_limits.specs.Limits.{item_faults, limit_faults};
-ghost use Rattle.cmm_tree.specs.Rows.{row_of, bindings_of, cases_of, handlers_of};
+ghost use Rattle.cmm_limits.specs.Limits.{row_faults, binding_faults, case_faults, handler_faults, function_limit_faults};
+ghost use Rattle.cmm_limits.specs.Limits.{item_limit_faults, limit_faults};
+ghost use Rattle.cmm_tree.specs.Rows.{expressions_of, bindings_of, cases_of, handlers_of};
 
 use bs_fault::{Fault, noted, noted_if};
 use cmm_tree::{Binding, Case, CaseIndex, Expr, File, Form, Function, Handler, Item, Param};
@@ -31,7 +31,7 @@ fn nth<T>(items: &[T], index: usize) -> Option<&T>
 
 /// An argument more than a call may have.
 fn in_arguments(arguments: &[Expr], found: Option<Fault>) -> Option<Fault>
-    ensures { result ≡ noted_all (too_many (places (row_of arguments.now))) found }
+    ensures { result ≡ noted_all (too_many (places (expressions_of arguments.now))) found }
 {
     match nth(arguments, MOST_PARAMS) {
         Some(argument) => noted(Fault::TooManyParams { at: argument.at }, found),
@@ -119,7 +119,7 @@ fn in_expr(expr: &Expr, found: Option<Fault>) -> Option<Fault>
 
 #[cycle(limits)]
 fn in_row(exprs: &[Expr], found: Option<Fault>) -> Option<Fault>
-    ensures { result ≡ noted_all (row_faults (row_of exprs.now)) found }
+    ensures { result ≡ noted_all (row_faults (expressions_of exprs.now)) found }
 {
     let mut reported = found;
     for expr in exprs {
@@ -165,7 +165,7 @@ fn in_handlers(handlers: &[Handler], found: Option<Fault>) -> Option<Fault>
 }
 
 fn in_function(function: &Function, found: Option<Fault>) -> Option<Fault>
-    ensures { result ≡ noted_all (function_faults (function_view function.now)) found }
+    ensures { result ≡ noted_all (function_limit_faults (function_view function.now)) found }
 {
     let reported = in_params(function.params.as_slice(), found);
     let fits = function.tokens <= MOST_TOKENS;
@@ -174,7 +174,7 @@ fn in_function(function: &Function, found: Option<Fault>) -> Option<Fault>
 }
 
 fn in_item(item: &Item, found: Option<Fault>) -> Option<Fault>
-    ensures { result ≡ noted_all (item_faults (item_view item.now)) found }
+    ensures { result ≡ noted_all (item_limit_faults (item_view item.now)) found }
 {
     match item {
         Item::Function(function) => in_function(function, found),

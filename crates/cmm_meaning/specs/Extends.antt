@@ -11,12 +11,12 @@ abbrev pub shape_of : HeapBlock → Shape
 shape_of block = record { header = block.header; cells = length block.cells }
 
 -- Where a list of static data lies, its bytes, and how many cells it has.
-pub record Extent : Type 0 where
+pub record StaticExtent : Type 0 where
   pub start : ℕ
   pub size : ℕ
   pub cells : ℕ
 
-abbrev pub extent_of : StaticList → Extent
+abbrev pub extent_of : StaticList → StaticExtent
 extent_of statics =
     record { start = statics.start; size = statics.size; cells = length statics.cells }
 

@@ -59,14 +59,14 @@ activated s frame (Some f) arguments below w =
     evaluated s f.body true here (deepened (below + frame) w)
 
 -- a call is made, and leaves these answers
-abbrev pub made : Made → List ℕ → World → World
-made call answers w = record w { made = w.made ++ call ∷ []; answers = answers }
+abbrev pub with_call_made : Made → List ℕ → World → World
+with_call_made call answers w = record w { made = w.made ++ call ∷ []; answers = answers }
 
 -- of the calls that are no frame calls one without a result takes no answer, and each other one the next
 abbrev pub answered : Ret → Made → List ℕ → World → Evaluation
-answered ret.Unit call answers w = Gives None nobody (made call answers w)
+answered ret.Unit call answers w = Gives None nobody (with_call_made call answers w)
 answered (ret.Comp c) call [] w = Stops (NoAnswer call) w
-answered (ret.Comp c) call (a ∷ answers) w = Gives (Some (Word a)) nobody (made call answers w)
+answered (ret.Comp c) call (a ∷ answers) w = Gives (Some (Word a)) nobody (with_call_made call answers w)
 
 -- what a frame call gives of its second answer: with no result, nothing
 abbrev pub given_back : Ret → ℕ → Option Value
@@ -77,9 +77,9 @@ given_back (ret.Comp c) a = Some (Word a)
 -- must fit val
 abbrev pub frame_answered : ℕ → Ret → Made → List ℕ → World → Evaluation
 frame_answered end result call (zero ∷ a ∷ answers) w =
-    Gives (given_back result a) nobody (made call answers w)
+    Gives (given_back result a) nobody (with_call_made call answers w)
 frame_answered end result call (suc n ∷ a ∷ answers) w =
-    tested end ty.Val (Word a) (made call answers w) (Raises (Word a) nobody (made call answers w))
+    tested end ty.Val (Word a) (with_call_made call answers w) (Raises (Word a) nobody (with_call_made call answers w))
 frame_answered end result call _ w = Stops (NoAnswer call) w
 
 abbrev pub answered_as : Bool → ℕ → Ret → Made → List ℕ → World → Evaluation

@@ -4,7 +4,7 @@ use Rattle.std.specs.List.{insert}
 use Rattle.cmm_tree.specs.Tree.{Expression, Expressions, NoMore, More, LabelTree, Bindings, Bind}
 use Rattle.cmm_tree.specs.Tree as tree
 use Rattle.cmm_tree.specs.View.{expr_view, form_view, declared_view, label_view}
-use Rattle.cmm_tree.specs.Rows.{row_of, bindings_of, cases_of, handlers_of}
+use Rattle.cmm_tree.specs.Rows.{expressions_of, bindings_of, cases_of, handlers_of}
 use Rattle.cmm_tree.proofs.Rows.{seq_view, exit_view, alloc_view, float_view, extcall_view, app_view, let_view, switch_view, catch_view}
 use Rattle.cmm_tree.specs.declared.expr.Expr.{Expr}
 use Rattle.cmm_tree.specs.declared.expr.Binding.{Binding}
@@ -13,7 +13,7 @@ use Rattle.cmm_grammar.specs.Rewriting.{exit_to}
 use Rattle.cmm_grammar.specs.Parts.{expressions, bindings, sequence_at}
 use Rattle.cmm_nodes.specs.Nodes.{binding_part}
 
-expressions_are : (es : List Expr) → row_of es ≡ expressions (map expr_view es)
+expressions_are : (es : List Expr) → expressions_of es ≡ expressions (map expr_view es)
 expressions_are [] = refl
 expressions_are (e ∷ es) = ap (More (expr_view e)) (expressions_are es)
 

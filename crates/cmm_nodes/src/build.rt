@@ -6,7 +6,7 @@ ghost use Rattle.std.specs.Prelude.{◌≡◌, IfOk, IfErr, map};
 ghost use Rattle.cmm_tree.specs.Tree.{Let, Assign, Alloc, App, Extcall, Raise, Float, Switch, Catch, Exit, Try};
 ghost use Rattle.cmm_tree.specs.View.{expr_view, label_view};
 ghost use Rattle.cmm_grammar.specs.Parts.{expressions, bindings};
-ghost use Rattle.cmm_grammar.specs.Grammar.{loaded, stored, bare_catch};
+ghost use Rattle.cmm_grammar.specs.Grammar.{load_expression, store_expression, bare_catch};
 ghost use Rattle.cmm_nodes.specs.Nodes.{binding_part};
 ghost use Rattle.cmm_tree.specs.Rows.{cases_of, handlers_of};
 ghost use Rattle.cmm_nodes.specs.declared.stop.Stop.TheVariants.{OutOfMemory};
@@ -115,7 +115,7 @@ pub struct PlacedChunk {
 /// `Stop::OutOfMemory` alone.
 pub fn loaded(alloc: Global, at: u32, placed: PlacedChunk, address: Box<Expr>) -> Result<Expr, Stop>
     ensures expr { IfOk result (λ e. expr_view e
-        ≡ loaded at placed.chunk placed.at (expr_view address.value)) }
+        ≡ load_expression at placed.chunk placed.at (expr_view address.value)) }
     ensures error { IfErr result (λ e. e ≡ OutOfMemory) }
 {
     match placed.chunk {
@@ -141,7 +141,7 @@ pub fn stored(
     value: Box<Expr>,
 ) -> Result<Expr, Stop>
     ensures expr { IfOk result (λ e. expr_view e
-        ≡ stored at placed.chunk placed.at (expr_view address.value) (expr_view value.value)) }
+        ≡ store_expression at placed.chunk placed.at (expr_view address.value) (expr_view value.value)) }
     ensures error { IfErr result (λ e. e ≡ OutOfMemory) }
 {
     match placed.chunk {

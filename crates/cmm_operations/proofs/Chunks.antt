@@ -5,7 +5,7 @@ use Rattle.cmm_lex.specs.Token.{TokenTree}
 use Rattle.cmm_grammar.specs.Words.{marked, chunk_word_of, width_of, unsigned_chunk, signed_chunk}
 use Rattle.cmm_grammar.specs.Rule.{Rule, AToken, AnExpression, AChunkWord, Both, maybe}
 use Rattle.cmm_grammar.specs.Grammar.{chunked, chunk_rest, load_form, load_rest, store_form, store_rest}
-use Rattle.cmm_grammar.specs.Reading.{Outcome, Read, Reader, Forms, bind, one_by, maybe_given, reading, forms_below, reads}
+use Rattle.cmm_grammar.specs.Reading.{ReadOutcome, Read, Reader, Forms, bind, one_by, maybe_given, reading, forms_below, reads}
 use Rattle.cmm_grammar.specs.declared.word.ChunkWord.{ChunkWord}
 use Rattle.cmm_grammar.specs.declared.word.ChunkWord.TheVariants as starts
 use Rattle.cmm_grammar.proofs.Basics.{bind_bind}
@@ -49,16 +49,16 @@ pub load-read : (at d : ℕ) (tokens : List TokenTree) (c : Option Chunk × ℕ)
     → chunk_at tokens ≡ Read c rest
     → reads (load_form at) d tokens ≡ reads (load_rest at c.0 c.1) d rest
 load-read at d tokens c rest e =
-    load-reads at d tokens ∙ ap (λ (o : Outcome (Option Chunk × ℕ)). bind o (λ c rest. reads (load_rest at c.0 c.1) d rest)) e
+    load-reads at d tokens ∙ ap (λ (o : ReadOutcome (Option Chunk × ℕ)). bind o (λ c rest. reads (load_rest at c.0 c.1) d rest)) e
 
 pub store-read : (at d : ℕ) (tokens : List TokenTree) (c : Option Chunk × ℕ) (rest : List TokenTree)
     → chunk_at tokens ≡ Read c rest
     → reads (store_form at) d tokens ≡ reads (store_rest at c.0 c.1) d rest
 store-read at d tokens c rest e =
-    store-reads at d tokens ∙ ap (λ (o : Outcome (Option Chunk × ℕ)). bind o (λ c rest. reads (store_rest at c.0 c.1) d rest)) e
+    store-reads at d tokens ∙ ap (λ (o : ReadOutcome (Option Chunk × ℕ)). bind o (λ c rest. reads (store_rest at c.0 c.1) d rest)) e
 
 -- where the first part fails, both do
-pub bind-fails : {A B : Type 0} (s : Stop) (o : Outcome A) (next : A → Reader B) → Fails s o → Fails s (bind o next)
+pub bind-fails : {A B : Type 0} (s : Stop) (o : ReadOutcome A) (next : A → Reader B) → Fails s o → Fails s (bind o next)
 bind-fails (Unexpected left) o next h = ap (λ v. bind v next) h
 bind-fails (TooDeep left) o next h = ap (λ v. bind v next) h
 bind-fails OutOfMemory o next h = tt

@@ -3,7 +3,7 @@ ghost use Rattle.std.specs.Prelude.{map};
 ghost use Rattle.cmm_grammar.specs.Rule as rule;
 ghost use Rattle.cmm_grammar.specs.Grammar.{operands, sequence_to_close, sequence_to_with};
 ghost use Rattle.cmm_tree.specs.View.{expr_view};
-ghost use Rattle.cmm_parts.specs.Results.{trees, Gives, ReadsBy, many_of, test_of};
+ghost use Rattle.cmm_parts.specs.Results.{trees, GivesReading, ReadsBy, many_of, test_of};
 ghost use Rattle.cmm_operations.specs.Forms.{MayRead, ReadsForms};
 
 use cmm_lex::Token;
@@ -75,7 +75,7 @@ pub fn list<'t, F: Fn(&'t [Token], u32, u32) -> Result<(Expr, &'t [Token]), Stop
 ) -> Result<(Vec<Expr>, &'t [Token]), Stop>
     requires callable { MayRead (F.pre forms.now) depth }
     requires forms_read { ReadsForms (F.post forms.now) source.now depth }
-    ensures { Gives (λ x. map expr_view x.0.items) (λ x. trees source.now x.1.now) result
+    ensures { GivesReading (λ x. map expr_view x.0.items) (λ x. trees source.now x.1.now) result
         (many_of (test_of stop) rule.Expr depth (trees source.now tokens.now)) }
 {
     let mut expressions = Vec::new(alloc);

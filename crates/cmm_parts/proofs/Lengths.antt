@@ -4,26 +4,26 @@ use Rattle.cmm_lex.specs.Token.{TokenTree}
 use Rattle.cmm_tree.specs.Tree.{Expression}
 use Rattle.cmm_grammar.specs.Words.{is_open, is_open_bracket, is_close_bracket, is_name, leaf_of}
 use Rattle.cmm_grammar.specs.Rule.{Sort, Value, AnExpression, Rule, Give, One, Then, Expr, Inside, InsideOr, LabelledOr, Until, Maybe, Repeat}
-use Rattle.cmm_grammar.specs.Grammar.{form}
-use Rattle.cmm_grammar.specs.Reading.{Outcome, Read, Stops, Reader, Forms, bind, given, bracket_at, expression_by, many, some_of, maybe_given, form_below, reading, forms_below}
+use Rattle.cmm_grammar.specs.Grammar.{open_form}
+use Rattle.cmm_grammar.specs.Reading.{ReadOutcome, Read, Stops, Reader, Forms, bind, given, bracket_at, expression_by, many, some_of, maybe_given, form_below, reading, forms_below}
 
 -- at most so many tokens are left
-abbrev pub Leaves : {A : Type 0} → ℕ → Outcome A → Type 0
+abbrev pub Leaves : {A : Type 0} → ℕ → ReadOutcome A → Type 0
 Leaves n (Read a rest) = length rest ≤ n
 Leaves n (Stops why left) = Unit {0}
 
-pub leaves-up : {A : Type 0} (o : Outcome A) (n m : ℕ) → Leaves n o → n ≤ m → Leaves m o
+pub leaves-up : {A : Type 0} (o : ReadOutcome A) (n m : ℕ) → Leaves n o → n ≤ m → Leaves m o
 leaves-up (Read a rest) n m h l = omega arith
 leaves-up (Stops why left) n m h l = tt
 
-pub bind-leaves : {A B : Type 0} (o : Outcome A) (next : A → Reader B) (n m : ℕ)
+pub bind-leaves : {A B : Type 0} (o : ReadOutcome A) (next : A → Reader B) (n m : ℕ)
     → Leaves n o
     → ((a : A) (rest : List TokenTree) → length rest ≤ n → Leaves m (next a rest))
     → Leaves m (bind o next)
 bind-leaves (Read a rest) next n m h f = f a rest h
 bind-leaves (Stops why left) next n m h f = tt
 
-cond-leaves : {A : Type 0} (b : Bool) (x y : Outcome A) (n : ℕ) → Leaves n x → Leaves n y → Leaves n (cond b x y)
+cond-leaves : {A : Type 0} (b : Bool) (x y : ReadOutcome A) (n : ℕ) → Leaves n x → Leaves n y → Leaves n (cond b x y)
 cond-leaves true x y n h g = h
 cond-leaves false x y n h g = g
 
@@ -122,7 +122,7 @@ reading-leaves _ (Repeat s more r) d forms h ts = some-leaves more (reading r d 
 
 pub forms-leave : (d : ℕ) → FormsLeave (forms_below d)
 forms-leave zero j at ts = tt
-forms-leave (suc d) zero at ts = reading-leaves AnExpression (form at) d (forms_below d) (forms-leave d) ts
+forms-leave (suc d) zero at ts = reading-leaves AnExpression (open_form at) d (forms_below d) (forms-leave d) ts
 forms-leave (suc d) (suc j) at ts = forms-leave d j at ts
 
 -- rules that begin with a token that they always take
@@ -160,5 +160,5 @@ pub shorter : (s : Sort) (r : Rule s) → Takes r → (d : ℕ) (t : TokenTree) 
     → reading r d (forms_below d) (t ∷ ts) ≡ Read a rest
     → length rest ≤ length ts
 shorter s r h d t ts a rest e =
-    let P : Outcome (Value s) → Type 0 = Leaves (length ts) in
+    let P : ReadOutcome (Value s) → Type 0 = Leaves (length ts) in
     subst P e (taking-leaves s r h d (forms_below d) (forms-leave d) (length ts) (t ∷ ts) (omega arith))

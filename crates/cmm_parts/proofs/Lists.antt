@@ -1,27 +1,27 @@
 -- Lists that are read one by one: what was read so far comes before what the rest gives.
 use Rattle.std.proofs.Common.{◌≡◌, ℕ, ◌≤◌, zero, suc, Bool, true, false, cond, List, [], ◌∷◌, ◌++◌, length, refl, sym, ap, ◌∙◌, arith, append-nil, append_assoc}
 use Rattle.cmm_lex.specs.Token.{TokenTree}
-use Rattle.cmm_grammar.specs.Reading.{Outcome, Read, Stops, Why, Stuck, Reader, bind, many}
+use Rattle.cmm_grammar.specs.Reading.{ReadOutcome, Read, Stops, Why, Stuck, Reader, bind, many}
 use Rattle.cmm_nodes.specs.declared.stop.Stop.{Stop}
 use Rattle.cmm_nodes.specs.declared.stop.Stop.TheVariants.{Unexpected, TooDeep, OutOfMemory}
 use Rattle.cmm_parts.specs.Results.{Fails}
 
 -- a list whose front was read before
-abbrev pub with_front : {A : Type 0} → List A → Outcome (List A) → Outcome (List A)
+abbrev pub with_front : {A : Type 0} → List A → ReadOutcome (List A) → ReadOutcome (List A)
 with_front xs (Read more rest) = Read (xs ++ more) rest
 with_front xs (Stops why left) = Stops why left
 
-pub front-none : {A : Type 0} (o : Outcome (List A)) → with_front [] o ≡ o
+pub front-none : {A : Type 0} (o : ReadOutcome (List A)) → with_front [] o ≡ o
 front-none (Read more rest) = refl
 front-none (Stops why left) = refl
 
-pub front-more : {A : Type 0} (xs : List A) (a : A) (o : Outcome (List A))
+pub front-more : {A : Type 0} (xs : List A) (a : A) (o : ReadOutcome (List A))
     → with_front xs (bind o (λ more final. Read (a ∷ more) final)) ≡ with_front (xs ++ a ∷ []) o
 front-more xs a (Read more rest) = ap (λ v. Read v rest) (sym (append_assoc xs (a ∷ []) more))
 front-more xs a (Stops why left) = refl
 
 -- where the rest stops, the whole does
-pub fails-along : {A B : Type 0} (e : Stop) (o : Outcome A) (whole : Outcome B)
+pub fails-along : {A B : Type 0} (e : Stop) (o : ReadOutcome A) (whole : ReadOutcome B)
     → ((why : Why) (left : ℕ) → o ≡ Stops why left → whole ≡ Stops why left)
     → Fails e o
     → Fails e whole

@@ -3,9 +3,9 @@ use Rattle.std.specs.Prelude.{◌≡◌, ℕ, Bool, List, length, map, Result, O
 use Rattle.std.specs.Borrow.{Bor}
 use Rattle.cmm_lex.specs.Token.{TokenTree, token_view}
 use Rattle.cmm_lex.specs.declared.token.Token as declared
-use Rattle.cmm_grammar.specs.Words.{is_alloc, is_close, is_colon, is_name, is_integer, is_float, is_string, is_with, is_case, is_no_case, is_ret, ends_case, ends_handler}
+use Rattle.cmm_grammar.specs.Words.{is_alloc, is_close, is_colon, is_name, is_integer, is_float_token, is_string, is_with, is_case, is_no_case, is_ret, ends_case, ends_handler}
 use Rattle.cmm_grammar.specs.Rule.{Sort, Value, Rule}
-use Rattle.cmm_grammar.specs.Reading.{Outcome, Read, Stops, Stuck, Deep, Reader, many, reading, forms_below, reads}
+use Rattle.cmm_grammar.specs.Reading.{ReadOutcome, Read, Stops, Stuck, Deep, Reader, many, reading, forms_below, reads}
 use Rattle.cmm_nodes.specs.declared.stop.Stop.{Stop}
 use Rattle.cmm_nodes.specs.declared.stop.Stop.TheVariants.{Unexpected, TooDeep, OutOfMemory}
 use Rattle.cmm_parts.specs.declared.front.Test.{Test}
@@ -16,27 +16,27 @@ abbrev pub trees : List ℕ → List declared.Token → List TokenTree
 trees source tokens = map (token_view source) tokens
 
 -- where a function stops, reading stops, unless memory ran out
-abbrev pub Fails : {A : Type 0} → Stop → Outcome A → Type 0
+abbrev pub Fails : {A : Type 0} → Stop → ReadOutcome A → Type 0
 Fails (Unexpected left) read = read ≡ Stops Stuck left
 Fails (TooDeep left) read = read ≡ Stops Deep left
 Fails OutOfMemory read = Unit {0}
 
 -- what a function returned, seen by view, is what reading gives
-abbrev pub Gives : {X A : Type 0}
-    → (X → A) → (X → List TokenTree) → Result X Stop → Outcome A → Type 0
-Gives view rest (Ok x) read = read ≡ Read (view x) (rest x)
-Gives view rest (Err stop) read = Fails stop read
+abbrev pub GivesReading : {X A : Type 0}
+    → (X → A) → (X → List TokenTree) → Result X Stop → ReadOutcome A → Type 0
+GivesReading view rest (Ok x) read = read ≡ Read (view x) (rest x)
+GivesReading view rest (Err stop) read = Fails stop read
 
 -- a value, seen by view, and the tokens that follow it
-abbrev pub Part : Type 0 → Type 0
-Part X = X × Bor (List declared.Token)
+abbrev pub ReadPart : Type 0 → Type 0
+ReadPart X = X × Bor (List declared.Token)
 
 -- a function that returned such a part: it is what the rule reads at the front of the tokens, where
 -- parentheses may nest so deep
 abbrev pub ReadsBy : {X : Type 0} {s : Sort}
-    → Rule s → (X → Value s) → ℕ → List ℕ → List declared.Token → Result (Part X) Stop → Type 0
+    → Rule s → (X → Value s) → ℕ → List ℕ → List declared.Token → Result (ReadPart X) Stop → Type 0
 ReadsBy rule view depth source tokens result =
-    Gives (λ x. view x.0) (λ x. trees source x.1.now) result
+    GivesReading (λ x. view x.0) (λ x. trees source x.1.now) result
     (reads rule depth (trees source tokens))
 
 -- any number by the rule, up to a token that passes the test
@@ -50,7 +50,7 @@ test_of test.Close = is_close
 test_of test.Colon = is_colon
 test_of test.Name = is_name
 test_of test.Integer = is_integer
-test_of test.Float = is_float
+test_of test.Float = is_float_token
 test_of test.String = is_string
 test_of test.With = is_with
 test_of test.Case = is_case

@@ -2,11 +2,11 @@
 ghost use Rattle.std.specs.Prelude.{◌≡◌, IfOk, IfErr};
 ghost use Rattle.cmm_lex.specs.Token.{token_view};
 ghost use Rattle.cmm_lex.specs.Integers.{integer_value};
-ghost use Rattle.cmm_grammar.specs.Words.{passing, marked, word_of, comp_of, ret_of, head_of};
+ghost use Rattle.cmm_grammar.specs.Words.{passing, marked, word_or_zero, comp_of, ret_of, head_of};
 ghost use Rattle.cmm_grammar.specs.Grammar.{a_comp, a_result};
 ghost use Rattle.cmm_grammar.specs.Reading.{one_by, reads};
 ghost use Rattle.cmm_tree.specs.View.{declared_view};
-ghost use Rattle.cmm_parts.specs.Results.{trees, Gives, ReadsBy, test_of};
+ghost use Rattle.cmm_parts.specs.Results.{trees, GivesReading, ReadsBy, test_of};
 ghost use Rattle.cmm_parts.specs.Parts.{result_part, symbol_in};
 ghost use Rattle.cmm_nodes.specs.declared.stop.Stop.TheVariants.{OutOfMemory};
 
@@ -81,7 +81,7 @@ pub fn token<'t>(
     tokens: &'t [Token],
     test: Test,
 ) -> Result<(Token, &'t [Token]), Stop>
-    ensures { Gives (λ x. token_view source.now x.0) (λ x. trees source.now x.1.now) result
+    ensures { GivesReading (λ x. token_view source.now x.0) (λ x. trees source.now x.1.now) result
         (one_by (passing (test_of test)) (trees source.now tokens.now)) }
 {
     match tokens.split_first() {
@@ -129,7 +129,7 @@ pub fn call_result<'t>(
     tokens: &'t [Token],
     depth: u32,
 ) -> Result<(u32, Ret, &'t [Token]), Stop>
-    ensures { Gives (λ x. result_part x.0 x.1) (λ x. trees source.now x.2.now) result
+    ensures { GivesReading (λ x. result_part x.0 x.1) (λ x. trees source.now x.2.now) result
         (reads a_result depth (trees source.now tokens.now)) }
 {
     let Some((first, rest)) = tokens.split_first() else {
@@ -147,7 +147,7 @@ pub fn call_result<'t>(
 ///
 /// `Stop::Unexpected` where another token is there, or none.
 pub fn head<'t>(source: &[u8], tokens: &'t [Token]) -> Result<(Token, Head, &'t [Token]), Stop>
-    ensures { Gives (λ x. (token_view source.now x.0, x.1)) (λ x. trees source.now x.2.now) result
+    ensures { GivesReading (λ x. (token_view source.now x.0, x.1)) (λ x. trees source.now x.2.now) result
         (one_by (marked head_of) (trees source.now tokens.now)) }
 {
     let Some((first, rest)) = tokens.split_first() else {
@@ -173,7 +173,7 @@ pub fn name_of(alloc: Global, source: &[u8], token: &Token) -> Result<Name, Stop
 
 /// The word of an integer or a pointer; 0 where it is out of range.
 pub fn word(source: &[u8], token: &Token) -> u64
-    ensures { result ≡ word_of (integer_value (token_view source.now token.now).text) }
+    ensures { result ≡ word_or_zero (integer_value (token_view source.now token.now).text) }
 {
     integer_word(source, token).unwrap_or(0)
 }

@@ -4,7 +4,7 @@ ghost use Rattle.cmm_lex.specs.Token.{token_view};
 ghost use Rattle.cmm_grammar.specs.Words.{leaf_of};
 ghost use Rattle.cmm_grammar.specs.Reading.{bracket_at};
 ghost use Rattle.cmm_tree.specs.View.{expr_view};
-ghost use Rattle.cmm_parts.specs.Results.{trees, Gives};
+ghost use Rattle.cmm_parts.specs.Results.{trees, GivesReading};
 ghost use Rattle.cmm_parts.specs.Parts.{symbol_leaf, simple_at};
 ghost use Rattle.cmm_nodes.specs.declared.stop.Stop.TheVariants.{OutOfMemory};
 
@@ -53,7 +53,7 @@ fn leaf_of(alloc: Global, source: &[u8], token: &Token) -> Result<Option<Expr>, 
 
 /// The second of two brackets.
 fn bracket<'t>(source: &[u8], tokens: &'t [Token], at: u32) -> Result<(Expr, &'t [Token]), Stop>
-    ensures { Gives (λ x. expr_view x.0) (λ x. trees source.now x.1.now) result
+    ensures { GivesReading (λ x. expr_view x.0) (λ x. trees source.now x.1.now) result
         (bracket_at at (trees source.now tokens.now)) }
 {
     match tokens.split_first() {
@@ -75,7 +75,7 @@ pub fn simple<'t>(
     first: &Token,
     rest: &'t [Token],
 ) -> Result<(Expr, &'t [Token]), Stop>
-    ensures { Gives (λ x. expr_view x.0) (λ x. trees source.now x.1.now) result
+    ensures { GivesReading (λ x. expr_view x.0) (λ x. trees source.now x.1.now) result
         (simple_at (token_view source.now first.now) (trees source.now rest.now)) }
 {
     if matches!(first.kind, TokenKind::Sign(Sign::OpenBracket)) {

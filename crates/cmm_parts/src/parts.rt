@@ -7,7 +7,7 @@ ghost use Rattle.cmm_grammar.specs.Words.{is_open_kind, is_name_kind, is_symbol_
 ghost use Rattle.cmm_grammar.specs.Grammar.{case_number, another_number, a_parameter, parameters, label_rest, a_label};
 ghost use Rattle.cmm_grammar.specs.Reading.{one_by};
 ghost use Rattle.cmm_tree.specs.View.{index_view, param_view};
-ghost use Rattle.cmm_parts.specs.Results.{trees, Gives, ReadsBy, many_of};
+ghost use Rattle.cmm_parts.specs.Results.{trees, GivesReading, ReadsBy, many_of};
 ghost use Rattle.cmm_parts.specs.Parts.{label_part, opened_label, chunk_part, chunk_at};
 
 use crate::front::{Test, component, name_of, passes, symbol_of, token, word};
@@ -29,7 +29,7 @@ pub fn symbol<'t>(
     source: &[u8],
     tokens: &'t [Token],
 ) -> Result<(Token, Name, &'t [Token]), Stop>
-    ensures read { Gives (λ x. token_view source.now x.0) (λ x. trees source.now x.2.now) result
+    ensures read { GivesReading (λ x. token_view source.now x.0) (λ x. trees source.now x.2.now) result
         (one_by (passing is_symbol_token) (trees source.now tokens.now)) }
     ensures name { IfOk result (λ x. x.1 ≡ string_bytes (token_view source.now x.0).text) }
 {
@@ -44,7 +44,7 @@ pub fn symbol<'t>(
 
 /// The width at the front.
 fn width<'t>(source: &[u8], tokens: &'t [Token]) -> Result<(Width, &'t [Token]), Stop>
-    ensures { Gives (λ x. x.0) (λ x. trees source.now x.1.now) result
+    ensures { GivesReading (λ x. x.0) (λ x. trees source.now x.1.now) result
         (one_by (λ t. width_of t.kind) (trees source.now tokens.now)) }
 {
     let Some((first, rest)) = tokens.split_first() else {
@@ -69,7 +69,7 @@ fn placed(chunk: Option<Chunk>, at: u32) -> PlacedChunk
 ///
 /// `Stop::Unexpected` where the text ends, or where no width follows `signed` or `unsigned`.
 pub fn chunk<'t>(source: &[u8], tokens: &'t [Token]) -> Result<(PlacedChunk, &'t [Token]), Stop>
-    ensures { Gives (λ x. chunk_part x.0) (λ x. trees source.now x.1.now) result
+    ensures { GivesReading (λ x. chunk_part x.0) (λ x. trees source.now x.1.now) result
         (chunk_at (trees source.now tokens.now)) }
 {
     let Some((first, rest)) = tokens.split_first() else {
@@ -136,7 +136,7 @@ pub fn more_numbers<'t>(
     tokens: &'t [Token],
     depth: u32,
 ) -> Result<(Vec<CaseIndex>, &'t [Token]), Stop>
-    ensures { Gives (λ x. map index_view x.0.items) (λ x. trees source.now x.1.now) result
+    ensures { GivesReading (λ x. map index_view x.0.items) (λ x. trees source.now x.1.now) result
         (many_of is_no_case another_number depth (trees source.now tokens.now)) }
 {
     let mut indexes = Vec::new(alloc);
@@ -181,7 +181,7 @@ fn parameter_list<'t>(
     tokens: &'t [Token],
     depth: u32,
 ) -> Result<(Vec<Param>, &'t [Token]), Stop>
-    ensures { Gives (λ x. map param_view x.0.items) (λ x. trees source.now x.1.now) result
+    ensures { GivesReading (λ x. map param_view x.0.items) (λ x. trees source.now x.1.now) result
         (many_of is_close a_parameter depth (trees source.now tokens.now)) }
 {
     let mut params = Vec::new(alloc);
@@ -268,7 +268,7 @@ pub fn opened_label<'t>(
     depth: u32,
     name: &Token,
 ) -> Result<(LabelHead, &'t [Token]), Stop>
-    ensures { Gives (λ x. label_part x.0) (λ x. trees source.now x.1.now) result
+    ensures { GivesReading (λ x. label_part x.0) (λ x. trees source.now x.1.now) result
         (opened_label depth (token_view source.now name.now) (trees source.now tokens.now)) }
 {
     if depth == 0 {

@@ -10,7 +10,7 @@ use Rattle.cmm_tree.specs.Tree.{ItemTree, FileTree}
 use Rattle.cmm_data.specs.Placement.{PlacedItem, placed_items}
 use Rattle.cmm_data.specs.Faults.{data_fault_of, first_fault, or_later, fault_on, passes_limit, keeps_rule}
 use Rattle.cmm_limits.proofs.Plain.{Plain, AllPlain, plain-both, plain-of, limits-plain, one-leftmost}
-use Rattle.cmm_grammar.specs.Reading.{Outcome, Read, Stops, items_at}
+use Rattle.cmm_grammar.specs.Reading.{ReadOutcome, Read, Stops, items_at}
 use Rattle.cmm_grammar.specs.Spelling.{nesting}
 use Rattle.cmm_reader.specs.Text.{read_file_faults, ReadsAs}
 use Rattle.cmm_reader.specs.Telling.{TellsFile, TellsItems, Tells, IsReading, too_long, by_tokens}
@@ -70,7 +70,7 @@ items-same : (tokens : List TokenTree) (lexing : Option Fault) (items : List Ite
 items-same tokens (Some f) items r s h k = h ∙ sym k
 items-same tokens None items r s h k = file-same tokens (record { items = items }) r s h k
 
-tells-same : (size : ℕ) (tokens : List TokenTree) (lexing : Option Fault) (o : Outcome (List ItemTree)) (r s : Result FileTree Fault)
+tells-same : (size : ℕ) (tokens : List TokenTree) (lexing : Option Fault) (o : ReadOutcome (List ItemTree)) (r s : Result FileTree Fault)
     → Tells size tokens lexing o r
     → Tells size tokens lexing o s
     → r ≡ s

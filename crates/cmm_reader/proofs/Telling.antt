@@ -11,9 +11,9 @@ use Rattle.cmm_lex.specs.Lexing.{Splits, first_range}
 use Rattle.cmm_tree.specs.Tree.{ItemTree, FileTree}
 use Rattle.cmm_tree.specs.View.{file_view}
 use Rattle.cmm_tree.specs.declared.file.File.{File}
-use Rattle.cmm_grammar.specs.Faults.{Unexpected, TooDeep, Stands}
-use Rattle.cmm_grammar.specs.Reading.{Outcome, Read, Stops, Why, Stuck, Deep, items_at}
-use Rattle.cmm_grammar.specs.Spelling.{AreItems, Begins, nesting}
+use Rattle.cmm_grammar.specs.Faults.{Unexpected, TooDeep, HasBadToken}
+use Rattle.cmm_grammar.specs.Reading.{ReadOutcome, Read, Stops, Why, Stuck, Deep, items_at}
+use Rattle.cmm_grammar.specs.Spelling.{AreItems, BeginsText, nesting}
 use Rattle.cmm_grammar.proofs.Apart.{unexpected_stops, deep_stops, inside_stops}
 use Rattle.cmm_grammar.proofs.Places.{begins_less, items_begin, read_items, items_read, stuck_end, stuck_token, deep_token}
 use Rattle.cmm_reader.specs.Text as said
@@ -53,13 +53,13 @@ module _ (text : List ℕ) (tokens : List TokenTree) (short : length text ≤ lo
   at_end None cut p = said.ends_inside tokens short cut (stuck_end tokens p)
   at_end (Some f) cut p = said.no_token tokens f short cut (stuck_end tokens p).so_far
 
-  at_token : (lexing : Option Fault) (left : ℕ) → Splits 0 text tokens lexing → Stands Unexpected tokens left → ReadsAs text (Err (stop_fault (place_with left tokens) Stuck lexing (length text)))
+  at_token : (lexing : Option Fault) (left : ℕ) → Splits 0 text tokens lexing → HasBadToken Unexpected tokens left → ReadsAs text (Err (stop_fault (place_with left tokens) Stuck lexing (length text)))
   at_token lexing left cut y =
       subst (λ (o : Option ℕ). ReadsAs text (Err (stop_fault o Stuck lexing (length text))))
       (sym (place_at tokens y.before y.behind y.bad left y.whole y.is_left))
       (said.unexpected tokens y.before y.behind y.bad lexing short cut y.whole y.holds)
 
-  at_deep : (lexing : Option Fault) (left : ℕ) → Splits 0 text tokens lexing → Stands TooDeep tokens left → ReadsAs text (Err (stop_fault (place_with left tokens) Deep lexing (length text)))
+  at_deep : (lexing : Option Fault) (left : ℕ) → Splits 0 text tokens lexing → HasBadToken TooDeep tokens left → ReadsAs text (Err (stop_fault (place_with left tokens) Deep lexing (length text)))
   at_deep lexing left cut y =
       subst (λ (o : Option ℕ). ReadsAs text (Err (stop_fault o Deep lexing (length text))))
       (sym (place_at tokens y.before y.behind y.bad left y.whole y.is_left))
@@ -86,7 +86,7 @@ module _ (text : List ℕ) (tokens : List TokenTree) (short : length text ≤ lo
   some_items (Some f) items result cut are tells =
       subst (λ (v : Result FileTree Fault). ReadsAs text v) (sym tells) (said.no_token tokens f short cut (items_begin nesting items tokens are))
 
-  by_outcome : (lexing : Option Fault) (o : Outcome (List ItemTree)) (result : Result FileTree Fault) → Splits 0 text tokens lexing → items_at nesting tokens ≡ o
+  by_outcome : (lexing : Option Fault) (o : ReadOutcome (List ItemTree)) (result : Result FileTree Fault) → Splits 0 text tokens lexing → items_at nesting tokens ≡ o
       → Tells (length text) tokens lexing o result → ReadsAs text result
   by_outcome lexing (Stops why left) result cut p tells =
       subst (λ (v : Result FileTree Fault). ReadsAs text v) (sym tells) (stopped lexing why left cut p)
@@ -107,13 +107,13 @@ result_said text (Err error.OutOfMemory) h = tt
 -- ---- from what is said to reading
 
 -- where a text begins with the tokens, reading stops at none of them
-not_barred : (tokens before behind : List TokenTree) (bad : TokenTree) → tokens ≡ before ++ (bad ∷ behind) → (Begins nesting (before ++ (bad ∷ [])) → ⊥) → Begins nesting tokens → ⊥
+not_barred : (tokens before behind : List TokenTree) (bad : TokenTree) → tokens ≡ before ++ (bad ∷ behind) → (BeginsText nesting (before ++ (bad ∷ [])) → ⊥) → BeginsText nesting tokens → ⊥
 not_barred tokens before behind bad whole barred begins =
     barred
     (begins_less nesting (before ++ (bad ∷ [])) behind
-    (subst (λ (v : List TokenTree). Begins nesting v) (whole ∙ sym (append_assoc before (bad ∷ []) behind)) begins))
+    (subst (λ (v : List TokenTree). BeginsText nesting v) (whole ∙ sym (append_assoc before (bad ∷ []) behind)) begins))
 
-broken_tells : (size : ℕ) (tokens : List TokenTree) (f : Fault) → Begins nesting tokens → (o : Outcome (List ItemTree)) → items_at nesting tokens ≡ o → Tells size tokens (Some f) o (Err f)
+broken_tells : (size : ℕ) (tokens : List TokenTree) (f : Fault) → BeginsText nesting tokens → (o : ReadOutcome (List ItemTree)) → items_at nesting tokens ≡ o → Tells size tokens (Some f) o (Err f)
 broken_tells size tokens f begins (Read items rest) p = refl
 broken_tells size tokens f begins (Stops Stuck zero) p =
     let made : Option ℕ → Result FileTree Fault = λ o. Err (stop_fault o Stuck (Some f) size) in
@@ -126,7 +126,7 @@ broken_tells size tokens f begins (Stops Deep n) p =
     absurd (not_barred tokens y.before y.behind y.bad y.whole y.holds.no_further begins)
 
 -- reading reports this where its outcome is known
-by_known : (text : List ℕ) (tokens : List TokenTree) (lexing : Option Fault) (o : Outcome (List ItemTree)) (result : Result FileTree Fault)
+by_known : (text : List ℕ) (tokens : List TokenTree) (lexing : Option Fault) (o : ReadOutcome (List ItemTree)) (result : Result FileTree Fault)
     → length text ≤ longest_text
     → Splits 0 text tokens lexing
     → items_at nesting tokens ≡ o
@@ -134,7 +134,7 @@ by_known : (text : List ℕ) (tokens : List TokenTree) (lexing : Option Fault) (
     → IsReading text result
 by_known text tokens lexing o result short cut p tells =
     telling.by_tokens tokens lexing result short cut
-    (subst (λ (v : Outcome (List ItemTree)). Tells (length text) tokens lexing v result) (sym p) tells)
+    (subst (λ (v : ReadOutcome (List ItemTree)). Tells (length text) tokens lexing v result) (sym p) tells)
 
 pub said_reading : (text : List ℕ) (result : Result FileTree Fault) → ReadsAs text result → IsReading text result
 said_reading text _ (said.too_long h) = telling.too_long h

@@ -18,7 +18,7 @@ use Rattle.cmm_tree.specs.Tree.{ItemTree}
 use Rattle.cmm_tree.specs.View.{file_view}
 use Rattle.cmm_tree.specs.declared.file.File.{File}
 use Rattle.bs_fault.specs.Reported.{IsFirst, Faultless}
-use Rattle.cmm_grammar.specs.Reading.{Outcome, Read, Stops, Why, Stuck, Deep, items_at}
+use Rattle.cmm_grammar.specs.Reading.{ReadOutcome, Read, Stops, Why, Stuck, Deep, items_at}
 use Rattle.cmm_nodes.specs.declared.stop.Stop.{Stop}
 use Rattle.cmm_nodes.specs.declared.stop.Stop.TheVariants as stop
 use Rattle.cmm_parts.specs.Results.{trees, Fails}
@@ -60,7 +60,7 @@ pub refused-lexing : (text : List ℕ) (tokens : List TokenTree) (f : Fault) (it
     → items_at nesting tokens ≡ Read items []
     → IsReading text (Err f)
 refused-lexing text tokens f items short cut e =
-    let P : Outcome (List ItemTree) → Type 0 = λ o. Tells (length text) tokens (Some f) o (Err f) in
+    let P : ReadOutcome (List ItemTree) → Type 0 = λ o. Tells (length text) tokens (Some f) o (Err f) in
     by_tokens tokens (Some f) (Err f) short cut (subst P (sym e) refl)
 
 pub read-finished : (text : List ℕ) (tokens : List TokenTree) (range : Option Fault) (items : List ItemTree) (result : Result File FrontError)
@@ -71,11 +71,11 @@ pub read-finished : (text : List ℕ) (tokens : List TokenTree) (range : Option 
     → IsFinished range (record { items = items }) result
     → MatchResult result (λ file. IsReading text (Ok (file_view file))) (IsStopOf text)
 read-finished text tokens range items (Ok file) short cut e r h =
-    let P : Outcome (List ItemTree) → Type 0 = λ o. Tells (length text) tokens None o (Ok (file_view file)) in
+    let P : ReadOutcome (List ItemTree) → Type 0 = λ o. Tells (length text) tokens None o (Ok (file_view file)) in
     let Q : Option Fault → Type 0 = λ v. (file_view file ≡ record { items = items }) × Faultless (read_file_faults v (record { items = items })) in
     by_tokens tokens None (Ok (file_view file)) short cut (subst P (sym e) (subst Q r h))
 read-finished text tokens range items (Err (error.Fault told)) short cut e r h =
-    let P : Outcome (List ItemTree) → Type 0 = λ o. Tells (length text) tokens None o (Err told) in
+    let P : ReadOutcome (List ItemTree) → Type 0 = λ o. Tells (length text) tokens None o (Err told) in
     let Q : Option Fault → Type 0 = λ v. IsFirst (read_file_faults v (record { items = items })) told in
     by_tokens tokens None (Err told) short cut (subst P (sym e) (subst Q r h))
 read-finished text tokens range items (Err error.OutOfMemory) short cut e r h = absurd h
@@ -87,7 +87,7 @@ stopped-by : (text : List ℕ) (tokens : List declared.Token) (lexing : Option F
     → IsReading text (Err (stop_fault (token_place left tokens) why lexing (length text)))
 stopped-by text tokens lexing why left short cut h =
     let result = Err (stop_fault (token_place left tokens) why lexing (length text)) in
-    let P : Outcome (List ItemTree) → Type 0 = λ o. Tells (length text) (trees text tokens) lexing o result in
+    let P : ReadOutcome (List ItemTree) → Type 0 = λ o. Tells (length text) (trees text tokens) lexing o result in
     by_tokens (trees text tokens) lexing result short cut
     (subst P (sym h) (ap (λ p. Err (stop_fault p why lexing (length text))) (sym (place-of-view text tokens left))))
 

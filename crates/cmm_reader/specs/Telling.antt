@@ -15,7 +15,7 @@ use Rattle.cmm_nodes.specs.declared.stop.Stop.TheVariants as stop
 use Rattle.cmm_lex.specs.Lexing.{Splits, first_range}
 use Rattle.cmm_tree.specs.Tree.{ItemTree, FileTree}
 use Rattle.bs_fault.specs.Reported.{IsFirst, Faultless}
-use Rattle.cmm_grammar.specs.Reading.{Outcome, Read, Stops, Why, Stuck, Deep, items_at}
+use Rattle.cmm_grammar.specs.Reading.{ReadOutcome, Read, Stops, Why, Stuck, Deep, items_at}
 use Rattle.cmm_grammar.specs.Spelling.{nesting}
 use Rattle.cmm_reader.specs.Text.{read_file_faults}
 use Rattle.bs_fault.specs.Limits.{longest_text}
@@ -48,7 +48,7 @@ TellsItems tokens None items result =
 
 -- What is reported of the tokens of a text of this size, which end at a fault of the lexer, or at its
 -- end.
-abbrev pub Tells : ℕ → List TokenTree → Option Fault → Outcome (List ItemTree)
+abbrev pub Tells : ℕ → List TokenTree → Option Fault → ReadOutcome (List ItemTree)
     → Result FileTree Fault → Type 0
 Tells size tokens lexing (Stops why left) result =
     result ≡ Err (stop_fault (place_with left tokens) why lexing size)

@@ -9,16 +9,16 @@ use Rattle.cmm_lex.specs.Lexing.{Splits, first_range}
 use Rattle.cmm_tree.specs.Tree.{ItemTree, FileTree}
 use Rattle.cmm_data.specs.Faults.{data_fault_of}
 use Rattle.bs_fault.specs.Limits.{longest_text}
-use Rattle.bs_fault.specs.Reported.{Faults, Both, one_of, IsFirst, Faultless}
+use Rattle.bs_fault.specs.Reported.{Faults, Both, faults_of_option, IsFirst, Faultless}
 use Rattle.cmm_limits.specs.Limits.{limit_faults}
-use Rattle.cmm_grammar.specs.Spelling.{AreItems, Begins, nesting}
+use Rattle.cmm_grammar.specs.Spelling.{AreItems, BeginsText, nesting}
 use Rattle.cmm_grammar.specs.Faults as places
 
 -- the faults of a file that was read of tokens: integers out of range, of which the first one counts,
 -- limits on sizes, and its static data
 abbrev pub read_file_faults : Option Fault → FileTree → Faults
 read_file_faults range file =
-    Both (limit_faults file) (Both (one_of range) (one_of (data_fault_of file)))
+    Both (limit_faults file) (Both (faults_of_option range) (faults_of_option (data_fault_of file)))
 
 -- What reading a text gives. A text is cut into tokens, up to its end or to what is wrong there.
 pub data ReadsAs (text : List ℕ) : Result FileTree Fault → Type 0 where
@@ -27,7 +27,7 @@ pub data ReadsAs (text : List ℕ) : Result FileTree Fault → Type 0 where
   no_token : (tokens : List TokenTree) (reported : Fault)
       → length text ≤ longest_text
       → Splits 0 text tokens (Some reported)
-      → Begins nesting tokens
+      → BeginsText nesting tokens
       → ReadsAs text (Err reported)
   -- a text of the grammar begins with the tokens before, and none goes on with this one
   unexpected : (tokens before behind : List TokenTree) (bad : TokenTree) (broken : Option Fault)

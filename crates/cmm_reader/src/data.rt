@@ -9,7 +9,7 @@ ghost use Rattle.cmm_tree.specs.Tree.{Val};
 ghost use Rattle.cmm_grammar.specs.Grammar.{a_data_integer, datum_of, a_data_item, data_items, data_list};
 ghost use Rattle.cmm_grammar.specs.Reading.{reads};
 ghost use Rattle.cmm_tree.specs.View.{datum_view, data_item_view};
-ghost use Rattle.cmm_parts.specs.Results.{trees, Gives, many_of};
+ghost use Rattle.cmm_parts.specs.Results.{trees, GivesReading, many_of};
 ghost use Rattle.cmm_reader.specs.ItemParts.{number_datum, item_part, marked_with};
 ghost use Rattle.cmm_nodes.specs.declared.stop.Stop.TheVariants.{OutOfMemory};
 
@@ -69,7 +69,7 @@ fn number_item<'t>(
     depth: u32,
     word: DataWord,
 ) -> Result<(Datum, &'t [Token]), Stop>
-    ensures { Gives (λ x. datum_view x.0) (λ x. trees source.now x.1.now) result
+    ensures { GivesReading (λ x. datum_view x.0) (λ x. trees source.now x.1.now) result
         (reads (a_data_integer (number_datum word)) depth (trees source.now tokens.now)) }
 {
     let (number, rest) = token(source, tokens, Test::Integer)?;
@@ -108,7 +108,7 @@ fn definition<'t>(
     depth: u32,
     first: &Token,
 ) -> Result<(Datum, &'t [Token]), Stop>
-    ensures { Gives (λ x. datum_view x.0) (λ x. trees source.now x.1.now) result
+    ensures { GivesReading (λ x. datum_view x.0) (λ x. trees source.now x.1.now) result
         (reads (datum_of (token_view source.now first.now) DataWord.Define) depth
         (trees source.now tokens.now)) }
 {
@@ -126,7 +126,7 @@ fn value_item<'t>(
     depth: u32,
     word: &Token,
 ) -> Result<(Datum, &'t [Token]), Stop>
-    ensures { Gives (λ x. datum_view x.0) (λ x. trees source.now x.1.now) result
+    ensures { GivesReading (λ x. datum_view x.0) (λ x. trees source.now x.1.now) result
         (reads (datum_of (token_view source.now word.now) DataWord.Val) depth
         (trees source.now tokens.now)) }
 {
@@ -148,7 +148,7 @@ fn address_item<'t>(
     depth: u32,
     word: &Token,
 ) -> Result<(Datum, &'t [Token]), Stop>
-    ensures { Gives (λ x. datum_view x.0) (λ x. trees source.now x.1.now) result
+    ensures { GivesReading (λ x. datum_view x.0) (λ x. trees source.now x.1.now) result
         (reads (datum_of (token_view source.now word.now) DataWord.Addr) depth
         (trees source.now tokens.now)) }
 {
@@ -170,7 +170,7 @@ fn global_item<'t>(
     depth: u32,
     word: &Token,
 ) -> Result<(Datum, &'t [Token]), Stop>
-    ensures { Gives (λ x. datum_view x.0) (λ x. trees source.now x.1.now) result
+    ensures { GivesReading (λ x. datum_view x.0) (λ x. trees source.now x.1.now) result
         (reads (datum_of (token_view source.now word.now) DataWord.Global) depth
         (trees source.now tokens.now)) }
 {
@@ -191,7 +191,7 @@ fn text_item<'t>(
     depth: u32,
     word: &Token,
 ) -> Result<(Datum, &'t [Token]), Stop>
-    ensures { Gives (λ x. datum_view x.0) (λ x. trees source.now x.1.now) result
+    ensures { GivesReading (λ x. datum_view x.0) (λ x. trees source.now x.1.now) result
         (reads (datum_of (token_view source.now word.now) DataWord.Text) depth
         (trees source.now tokens.now)) }
 {
@@ -207,7 +207,7 @@ fn float_item<'t>(
     depth: u32,
     word: &Token,
 ) -> Result<(Datum, &'t [Token]), Stop>
-    ensures { Gives (λ x. datum_view x.0) (λ x. trees source.now x.1.now) result
+    ensures { GivesReading (λ x. datum_view x.0) (λ x. trees source.now x.1.now) result
         (reads (datum_of (token_view source.now word.now) DataWord.Float) depth
         (trees source.now tokens.now)) }
 {
@@ -225,7 +225,7 @@ fn datum<'t>(
     first: &Token,
     word: DataWord,
 ) -> Result<(Datum, &'t [Token]), Stop>
-    ensures { Gives (λ x. datum_view x.0) (λ x. trees source.now x.1.now) result
+    ensures { GivesReading (λ x. datum_view x.0) (λ x. trees source.now x.1.now) result
         (reads (datum_of (token_view source.now first.now) word) depth
         (trees source.now tokens.now)) }
 {
@@ -252,7 +252,7 @@ fn data_item<'t>(
     tokens: &'t [Token],
     depth: u32,
 ) -> Result<(DataItem, &'t [Token]), Stop>
-    ensures { Gives (λ x. data_item_view x.0) (λ x. trees source.now x.1.now) result
+    ensures { GivesReading (λ x. data_item_view x.0) (λ x. trees source.now x.1.now) result
         (reads a_data_item depth (trees source.now tokens.now)) }
 {
     let Some((first, rest)) = tokens.split_first() else {
@@ -280,7 +280,7 @@ fn data_item_list<'t>(
     tokens: &'t [Token],
     depth: u32,
 ) -> Result<(Vec<DataItem>, &'t [Token]), Stop>
-    ensures { Gives (λ x. map data_item_view x.0.items) (λ x. trees source.now x.1.now) result
+    ensures { GivesReading (λ x. map data_item_view x.0.items) (λ x. trees source.now x.1.now) result
         (many_of is_close a_data_item depth (trees source.now tokens.now)) }
 {
     let mut items = Vec::new(alloc);
@@ -305,7 +305,7 @@ fn data_items<'t>(
     depth: u32,
     at: u32,
 ) -> Result<(Item, &'t [Token]), Stop>
-    ensures { Gives (λ x. item_part x.0) (λ x. trees source.now x.1.now) result
+    ensures { GivesReading (λ x. item_part x.0) (λ x. trees source.now x.1.now) result
         (reads (data_items at) depth (trees source.now tokens.now)) }
 {
     let (items, rest) = data_item_list(alloc, source, tokens, depth)?;
@@ -330,7 +330,7 @@ pub fn data_list<'t>(
     depth: u32,
     at: u32,
 ) -> Result<(Item, &'t [Token]), Stop>
-    ensures { Gives (λ x. item_part x.0) (λ x. trees source.now x.1.now) result
+    ensures { GivesReading (λ x. item_part x.0) (λ x. trees source.now x.1.now) result
         (reads (data_list at) depth (trees source.now tokens.now)) }
 {
     let Some((first, rest)) = tokens.split_first() else {

@@ -6,7 +6,7 @@ ghost use Rattle.cmm_grammar.specs.Words.{is_function, passing};
 ghost use Rattle.cmm_grammar.specs.Grammar.{parameters, a_function, item_rest, an_item};
 ghost use Rattle.cmm_grammar.specs.Reading.{reads, items_at};
 ghost use Rattle.cmm_tree.specs.View.{param_view, item_view};
-ghost use Rattle.cmm_parts.specs.Results.{trees, Gives};
+ghost use Rattle.cmm_parts.specs.Results.{trees, GivesReading};
 ghost use Rattle.cmm_reader.specs.ItemParts.{item_part};
 
 use crate::data::data_list;
@@ -25,7 +25,7 @@ fn inner_parameters<'t>(
     tokens: &'t [Token],
     depth: u32,
 ) -> Result<(Vec<Param>, &'t [Token]), Stop>
-    ensures { Gives (λ x. map param_view x.0.items) (λ x. trees source.now x.1.now) result
+    ensures { GivesReading (λ x. map param_view x.0.items) (λ x. trees source.now x.1.now) result
         (reads (Inside (Listed AParameter) (λ _. parameters)) depth (trees source.now tokens.now)) }
 {
     let Some((first, rest)) = tokens.split_first() else {
@@ -49,7 +49,7 @@ fn function<'t>(
     depth: u32,
     at: u32,
 ) -> Result<(Item, &'t [Token]), Stop>
-    ensures { Gives (λ x. item_part x.0) (λ x. trees source.now x.1.now) result
+    ensures { GivesReading (λ x. item_part x.0) (λ x. trees source.now x.1.now) result
         (reads (a_function at) depth (trees source.now tokens.now)) }
 {
     let (token, name, rest) = symbol(alloc, source, tokens)?;
@@ -75,7 +75,7 @@ fn item_inside<'t>(
     depth: u32,
     at: u32,
 ) -> Result<(Item, &'t [Token]), Stop>
-    ensures { Gives (λ x. item_part x.0) (λ x. trees source.now x.1.now) result
+    ensures { GivesReading (λ x. item_part x.0) (λ x. trees source.now x.1.now) result
         (reads (maybe AToken (passing is_function) (item_rest at)) depth
         (trees source.now tokens.now)) }
 {
@@ -97,7 +97,7 @@ fn item<'t>(
     tokens: &'t [Token],
     depth: u32,
 ) -> Result<(Item, &'t [Token]), Stop>
-    ensures { Gives (λ x. item_part x.0) (λ x. trees source.now x.1.now) result
+    ensures { GivesReading (λ x. item_part x.0) (λ x. trees source.now x.1.now) result
         (reads an_item depth (trees source.now tokens.now)) }
 {
     let Some((first, rest)) = tokens.split_first() else {
@@ -132,7 +132,7 @@ fn counted(item: Item, tokens: u32) -> Item
 /// Where reading stops, and why; or `Stop::OutOfMemory`.
 pub fn items(alloc: Global, source: &[u8], tokens: &[Token], depth: u32) -> Result<Vec<Item>, Stop>
     requires { length tokens.now < 2 ^ 32 }
-    ensures { Gives (λ v. map item_view v.items) (λ _. []) result
+    ensures { GivesReading (λ v. map item_view v.items) (λ _. []) result
         (items_at depth (trees source.now tokens.now)) }
 {
     let mut items = Vec::new(alloc);

@@ -12,7 +12,7 @@ use Rattle.cmm_tree.specs.declared.expr.Form as form
 use Rattle.cmm_tree.specs.Tree as tree
 use Rattle.cmm_tree.specs.Place.{place_of}
 use Rattle.cmm_tree.specs.View.{expr_view, form_view, row_view, bindings_view, cases_view, handlers_view, declared_view, index_view, label_view, params_view}
-use Rattle.cmm_tree.specs.Rows.{row_of, bindings_of, cases_of, handlers_of}
+use Rattle.cmm_tree.specs.Rows.{expressions_of, bindings_of, cases_of, handlers_of}
 
 -- a form begins where its node does
 pub place_view : (at : ℕ) (f : Form) → place_of (form_view at f) ≡ at
@@ -41,7 +41,7 @@ place_view at (form.Try' p body_at body_ty body name_at name q handler_at handle
 
 -- ---- a row of the tree and the list of its items
 
-pub row_items : (n : Count) (k : form.Row_of-Expr n) → row_view k ≡ row_of (form.items-the_row-Expr n k)
+pub row_items : (n : Count) (k : form.Row_of-Expr n) → row_view k ≡ expressions_of (form.items-the_row-Expr n k)
 row_items n form.end_of-Expr = refl
 row_items n (form.more_of-Expr at ty f rest) = ap (tree.More (form_view at f)) (row_items _ rest)
 
@@ -79,25 +79,25 @@ handlers_in (form.Catch' p at ty f _ row) = (_, row)
 handlers_in _ = (_, form.end_of-Handler)
 
 -- the row of a vector, by its items
-pub row-is : (v : Vec Expr Global) → row_view (row_in (form.Seq v)).1 ≡ row_of v.items
-row-is v = row_items (row_in (form.Seq v)).0 (row_in (form.Seq v)).1 ∙ ap row_of (form.items_hidden-the_row-Expr-0 v)
+pub row-is : (v : Vec Expr Global) → row_view (row_in (form.Seq v)).1 ≡ expressions_of v.items
+row-is v = row_items (row_in (form.Seq v)).0 (row_in (form.Seq v)).1 ∙ ap expressions_of (form.items_hidden-the_row-Expr-0 v)
 
-pub seq_view : (at : ℕ) (v : Vec Expr Global) → form_view at (form.Seq v) ≡ tree.Seq at (row_of v.items)
+pub seq_view : (at : ℕ) (v : Vec Expr Global) → form_view at (form.Seq v) ≡ tree.Seq at (expressions_of v.items)
 seq_view at v = ap (tree.Seq at) (row-is v)
 
-pub exit_view : (at label_at : ℕ) (label : Label) (v : Vec Expr Global) → form_view at (form.Exit label_at label v) ≡ tree.Exit at label_at (label_view label) (row_of v.items)
+pub exit_view : (at label_at : ℕ) (label : Label) (v : Vec Expr Global) → form_view at (form.Exit label_at label v) ≡ tree.Exit at label_at (label_view label) (expressions_of v.items)
 exit_view at label_at label v = ap (tree.Exit at label_at (label_view label)) (row-is v)
 
-pub alloc_view : (at header_at header : ℕ) (v : Vec Expr Global) → form_view at (form.Alloc header_at header v) ≡ tree.Alloc at header_at header (row_of v.items)
+pub alloc_view : (at header_at header : ℕ) (v : Vec Expr Global) → form_view at (form.Alloc header_at header v) ≡ tree.Alloc at header_at header (expressions_of v.items)
 alloc_view at header_at header v = ap (tree.Alloc at header_at header) (row-is v)
 
-pub float_view : (at word_at : ℕ) (v : Vec Expr Global) → form_view at (form.Float word_at v) ≡ tree.Float at word_at (row_of v.items)
+pub float_view : (at word_at : ℕ) (v : Vec Expr Global) → form_view at (form.Float word_at v) ≡ tree.Float at word_at (expressions_of v.items)
 float_view at word_at v = ap (tree.Float at word_at) (row-is v)
 
-pub extcall_view : (at : ℕ) (frame : Bool) (name : List ℕ) (v : Vec Expr Global) (result : Ret) (result_at : ℕ) → form_view at (form.Extcall frame name v result result_at) ≡ tree.Extcall at frame name (row_of v.items) result result_at
+pub extcall_view : (at : ℕ) (frame : Bool) (name : List ℕ) (v : Vec Expr Global) (result : Ret) (result_at : ℕ) → form_view at (form.Extcall frame name v result result_at) ≡ tree.Extcall at frame name (expressions_of v.items) result result_at
 extcall_view at frame name v result result_at = ap (λ (r : tree.Expressions). tree.Extcall at frame name r result result_at) (row-is v)
 
-pub app_view : (at : ℕ) (b : Box Expr Global) (v : Vec Expr Global) (result : Ret) (result_at : ℕ) → form_view at (form.App b v result result_at) ≡ tree.App at (expr_view b.value) (row_of v.items) result result_at
+pub app_view : (at : ℕ) (b : Box Expr Global) (v : Vec Expr Global) (result : Ret) (result_at : ℕ) → form_view at (form.App b v result result_at) ≡ tree.App at (expr_view b.value) (expressions_of v.items) result result_at
 app_view at b v result result_at = ap (λ (r : tree.Expressions). tree.App at (expr_view b.value) r result result_at) (row-is v)
 
 pub bindings-is : (v : Vec Binding Global) (b : Box Expr Global) → bindings_view (bindings_in (form.Let v b)).1 ≡ bindings_of v.items

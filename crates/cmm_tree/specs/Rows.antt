@@ -7,9 +7,9 @@ use Rattle.cmm_tree.specs.declared.expr.Binding.{Binding}
 use Rattle.cmm_tree.specs.declared.expr.Case.{Case}
 use Rattle.cmm_tree.specs.declared.expr.Handler.{Handler}
 
-abbrev pub row_of : List Expr → Expressions
-row_of [] = NoMore
-row_of (e ∷ rest) = More (expr_view e) (row_of rest)
+abbrev pub expressions_of : List Expr → Expressions
+expressions_of [] = NoMore
+expressions_of (e ∷ rest) = More (expr_view e) (expressions_of rest)
 
 abbrev pub bindings_of : List Binding → Bindings
 bindings_of [] = NoBinding

@@ -18,7 +18,7 @@ use Rattle.cmm_tree.specs.Symbols.{DefinedSymbol}
 use Rattle.cmm_types.specs.Faults.{row_length}
 use Rattle.cmm_types.specs.Gathered.{faults_in}
 use Rattle.bs_fault.specs.Reported.{noted_all}
-use Rattle.cmm_tree.specs.Rows.{row_of, bindings_of, cases_of, handlers_of}
+use Rattle.cmm_tree.specs.Rows.{expressions_of, bindings_of, cases_of, handlers_of}
 use Rattle.cmm_types.specs.Annotated.{IsAnnotated, PartsTyped}
 use Rattle.cmm_types.specs.Lists.{AreAnnotated, AreBindingsAnnotated, AreCasesAnnotated, AreHandlersAnnotated}
 use Rattle.cmm_tree.proofs.Rows.{seq_view, exit_view, alloc_view, float_view, extcall_view, app_view, let_view, switch_view, catch_view}
@@ -38,8 +38,8 @@ float_by float e is = is ∙ sym (ap holds_float e)
 
 -- ---- rows, by their vectors
 
-pub row_same : {v w : Vec Expr Global} → v ≡ w → row_of v.items ≡ row_of w.items
-row_same e = ap (λ (v : Vec Expr Global). row_of v.items) e
+pub row_same : {v w : Vec Expr Global} → v ≡ w → expressions_of v.items ≡ expressions_of w.items
+row_same e = ap (λ (v : Vec Expr Global). expressions_of v.items) e
 
 pub bindings_same : {v w : Vec Binding Global} → v ≡ w → bindings_of v.items ≡ bindings_of w.items
 bindings_same e = ap (λ (v : Vec Binding Global). bindings_of v.items) e
@@ -54,54 +54,54 @@ handlers_same e = ap (λ (v : Vec Handler Global). handlers_of v.items) e
 pub lent_same : {e : Expr} {b c : Box Expr Global} → e ≡ b.value → b ≡ c → expr_view e ≡ expr_view c.value
 lent_same v s = ap (λ (x : Expr). expr_view x) (v ∙ ap (λ (b : Box Expr Global). b.value) s)
 
-pub row_length_of : (xs : List Expr) → row_length (row_of xs) ≡ length xs
+pub row_length_of : (xs : List Expr) → row_length (expressions_of xs) ≡ length xs
 row_length_of xs = by xs
   where
-    by : (xs : List Expr) → row_length (row_of xs) ≡ length xs
+    by : (xs : List Expr) → row_length (expressions_of xs) ≡ length xs
     by [] = refl
     by (x ∷ rest) = let more = by rest in omega (arith, more)
 
 -- ---- views that stay
 
-pub float_kept : (at w0 w : ℕ) (v old new : Vec Expr Global) → w0 ≡ w → old ≡ v → row_of new.items ≡ row_of old.items → form_view at (form.Float w0 new) ≡ form_view at (form.Float w v)
+pub float_kept : (at w0 w : ℕ) (v old new : Vec Expr Global) → w0 ≡ w → old ≡ v → expressions_of new.items ≡ expressions_of old.items → form_view at (form.Float w0 new) ≡ form_view at (form.Float w v)
 float_kept at w0 w v old new hw same view =
-    float_view at w0 new ∙ ap (λ p. tree.Float at p (row_of new.items)) hw ∙ ap (tree.Float at w) (view ∙ row_same same) ∙ sym (float_view at w v)
+    float_view at w0 new ∙ ap (λ p. tree.Float at p (expressions_of new.items)) hw ∙ ap (tree.Float at w) (view ∙ row_same same) ∙ sym (float_view at w v)
 
-pub alloc_kept : (at a0 a h0 h : ℕ) (v old new : Vec Expr Global) → a0 ≡ a → h0 ≡ h → old ≡ v → row_of new.items ≡ row_of old.items → form_view at (form.Alloc a0 h0 new) ≡ form_view at (form.Alloc a h v)
+pub alloc_kept : (at a0 a h0 h : ℕ) (v old new : Vec Expr Global) → a0 ≡ a → h0 ≡ h → old ≡ v → expressions_of new.items ≡ expressions_of old.items → form_view at (form.Alloc a0 h0 new) ≡ form_view at (form.Alloc a h v)
 alloc_kept at a0 a h0 h v old new ha hh same view =
     alloc_view at a0 h0 new
-    ∙ ap (λ p. tree.Alloc at p h0 (row_of new.items)) ha
-    ∙ ap (λ p. tree.Alloc at a p (row_of new.items)) hh
+    ∙ ap (λ p. tree.Alloc at p h0 (expressions_of new.items)) ha
+    ∙ ap (λ p. tree.Alloc at a p (expressions_of new.items)) hh
     ∙ ap (tree.Alloc at a h) (view ∙ row_same same)
     ∙ sym (alloc_view at a h v)
 
-pub seq_kept : (at : ℕ) (v old new : Vec Expr Global) → old ≡ v → row_of new.items ≡ row_of old.items → form_view at (form.Seq new) ≡ form_view at (form.Seq v)
+pub seq_kept : (at : ℕ) (v old new : Vec Expr Global) → old ≡ v → expressions_of new.items ≡ expressions_of old.items → form_view at (form.Seq new) ≡ form_view at (form.Seq v)
 seq_kept at v old new same view = seq_view at new ∙ ap (tree.Seq at) (view ∙ row_same same) ∙ sym (seq_view at v)
 
-pub exit_kept : (at a0 a : ℕ) (label0 label : Label) (v old new : Vec Expr Global) → a0 ≡ a → label0 ≡ label → old ≡ v → row_of new.items ≡ row_of old.items → form_view at (form.Exit a0 label0 new) ≡ form_view at (form.Exit a label v)
+pub exit_kept : (at a0 a : ℕ) (label0 label : Label) (v old new : Vec Expr Global) → a0 ≡ a → label0 ≡ label → old ≡ v → expressions_of new.items ≡ expressions_of old.items → form_view at (form.Exit a0 label0 new) ≡ form_view at (form.Exit a label v)
 exit_kept at a0 a label0 label v old new ha hl same view =
     exit_view at a0 label0 new
-    ∙ ap (λ p. tree.Exit at p (label_view label0) (row_of new.items)) ha
-    ∙ ap (λ (p : Label). tree.Exit at a (label_view p) (row_of new.items)) hl
+    ∙ ap (λ p. tree.Exit at p (label_view label0) (expressions_of new.items)) ha
+    ∙ ap (λ (p : Label). tree.Exit at a (label_view p) (expressions_of new.items)) hl
     ∙ ap (tree.Exit at a (label_view label)) (view ∙ row_same same)
     ∙ sym (exit_view at a label v)
 
-pub extcall_kept : (at : ℕ) (f0 f : Bool) (name0 name : List ℕ) (g0 g : Ret) (a0 a : ℕ) (v old new : Vec Expr Global) → f0 ≡ f → name0 ≡ name → g0 ≡ g → a0 ≡ a → old ≡ v → row_of new.items ≡ row_of old.items → form_view at (form.Extcall f0 name0 new g0 a0) ≡ form_view at (form.Extcall f name v g a)
+pub extcall_kept : (at : ℕ) (f0 f : Bool) (name0 name : List ℕ) (g0 g : Ret) (a0 a : ℕ) (v old new : Vec Expr Global) → f0 ≡ f → name0 ≡ name → g0 ≡ g → a0 ≡ a → old ≡ v → expressions_of new.items ≡ expressions_of old.items → form_view at (form.Extcall f0 name0 new g0 a0) ≡ form_view at (form.Extcall f name v g a)
 extcall_kept at f0 f name0 name g0 g a0 a v old new hf hn hg ha same view =
     extcall_view at f0 name0 new g0 a0
-    ∙ ap (λ p. tree.Extcall at p name0 (row_of new.items) g0 a0) hf
-    ∙ ap (λ p. tree.Extcall at f p (row_of new.items) g0 a0) hn
-    ∙ ap (λ p. tree.Extcall at f name (row_of new.items) p a0) hg
-    ∙ ap (λ p. tree.Extcall at f name (row_of new.items) g p) ha
+    ∙ ap (λ p. tree.Extcall at p name0 (expressions_of new.items) g0 a0) hf
+    ∙ ap (λ p. tree.Extcall at f p (expressions_of new.items) g0 a0) hn
+    ∙ ap (λ p. tree.Extcall at f name (expressions_of new.items) p a0) hg
+    ∙ ap (λ p. tree.Extcall at f name (expressions_of new.items) g p) ha
     ∙ ap (λ (r : Expressions). tree.Extcall at f name r g a) (view ∙ row_same same)
     ∙ sym (extcall_view at f name v g a)
 
-pub app_kept : (at : ℕ) (g0 g : Ret) (a0 a : ℕ) (b : Box Expr Global) (e : Expr) (v old new : Vec Expr Global) → g0 ≡ g → a0 ≡ a → expr_view e ≡ expr_view b.value → old ≡ v → row_of new.items ≡ row_of old.items → form_view at (form.App (record b { value = e }) new g0 a0) ≡ form_view at (form.App b v g a)
+pub app_kept : (at : ℕ) (g0 g : Ret) (a0 a : ℕ) (b : Box Expr Global) (e : Expr) (v old new : Vec Expr Global) → g0 ≡ g → a0 ≡ a → expr_view e ≡ expr_view b.value → old ≡ v → expressions_of new.items ≡ expressions_of old.items → form_view at (form.App (record b { value = e }) new g0 a0) ≡ form_view at (form.App b v g a)
 app_kept at g0 g a0 a b e v old new hg ha first same view =
     app_view at (record b { value = e }) new g0 a0
-    ∙ ap (λ p. tree.App at (expr_view e) (row_of new.items) p a0) hg
-    ∙ ap (λ p. tree.App at (expr_view e) (row_of new.items) g p) ha
-    ∙ ap (λ (w : Expression). tree.App at w (row_of new.items) g a) first
+    ∙ ap (λ p. tree.App at (expr_view e) (expressions_of new.items) p a0) hg
+    ∙ ap (λ p. tree.App at (expr_view e) (expressions_of new.items) g p) ha
+    ∙ ap (λ (w : Expression). tree.App at w (expressions_of new.items) g a) first
     ∙ ap (λ (r : Expressions). tree.App at (expr_view b.value) r g a) (view ∙ row_same same)
     ∙ sym (app_view at b v g a)
 

@@ -14,10 +14,10 @@ use Rattle.cmm_tree.specs.Symbols.{DefinedSymbol}
 use Rattle.cmm_types.specs.Faults.{row_length, is_header}
 use Rattle.cmm_types.specs.Gathered.{call_faults, exit_faults, result_faults, repeated_faults, used_as, faults_in, row_faults, bindings_faults, cases_faults, handlers_faults}
 use Rattle.bs_fault.specs.Reported.{noted, noted_all, one_if}
-use Rattle.cmm_tree.specs.Rows.{row_of}
+use Rattle.cmm_tree.specs.Rows.{expressions_of}
 use Rattle.cmm_types.proofs.Arms.{row_length_of}
 
-pub count_is : (v : Vec Expr Global) → vec_len v ≡ row_length (row_of v.items)
+pub count_is : (v : Vec Expr Global) → vec_len v ≡ row_length (expressions_of v.items)
 count_is v = omega (arith, v.ok.0, row_length_of v.items)
 
 module _ (d : List ℕ → Option DefinedSymbol) (n : List Scoped) (l : List Visible) (f0 : Option Fault) (at : ℕ) where

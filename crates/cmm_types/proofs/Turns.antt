@@ -20,7 +20,7 @@ use Rattle.cmm_types.proofs.Loops.{Noting, last_or}
 use Rattle.cmm_types.proofs.Joining.{join_assoc}
 use Rattle.std.proofs.Math.Bool.{or_assoc}
 use Rattle.cmm_types.specs.Annotated.{IsAnnotated}
-use Rattle.cmm_tree.specs.Rows.{row_of, bindings_of, cases_of, handlers_of}
+use Rattle.cmm_tree.specs.Rows.{expressions_of, bindings_of, cases_of, handlers_of}
 use Rattle.cmm_types.specs.Lists.{AreAnnotated, AreBindingsAnnotated, AreCasesAnnotated, AreHandlersAnnotated, with_binding}
 use Rattle.bs_words.proofs.Lists.{drop_step}
 
@@ -31,9 +31,9 @@ drop_behind xs i y = drop-set-lt (i + 1) xs i y (omega arith)
 
 -- ---- expressions
 
-pub row_of-set : (xs : List Expr) (i : ℕ) (x e : Expr) → i < length xs → x ≡ get_or xs i x → expr_view e ≡ expr_view x → row_of (set xs i e) ≡ row_of xs
+pub row_of-set : (xs : List Expr) (i : ℕ) (x e : Expr) → i < length xs → x ≡ get_or xs i x → expr_view e ≡ expr_view x → expressions_of (set xs i e) ≡ expressions_of xs
 row_of-set [] i x e lt at v = absurd (omega arith)
-row_of-set (y ∷ ys) zero x e lt at v = ap (λ w. More w (row_of ys)) (v ∙ ap (λ (p : Expr). expr_view p) at)
+row_of-set (y ∷ ys) zero x e lt at v = ap (λ w. More w (expressions_of ys)) (v ∙ ap (λ (p : Expr). expr_view p) at)
 row_of-set (y ∷ ys) (suc i) x e lt at v = ap (More (expr_view y)) (row_of-set ys i x e (omega arith) at v)
 
 annotated_push : (names : List Scoped) (xs : List Expr) (e : Expr) → AreAnnotated names xs → IsAnnotated names e → AreAnnotated names (xs ++ e ∷ [])
@@ -115,10 +115,10 @@ names-set names xs i e lt = ap (λ (l : List Binding). with_bindings names (bind
 -- ---- what is noted, and what the nodes come to
 
 pub row_turn : (role : Role) (d : List ℕ → Option DefinedSymbol) (xs : List Expr) (i : ℕ) (x : Expr) (before now after : Checker) (all : Faults) → i < length xs → x ≡ get_or xs i x
-    → Noting before now (row_faults role d before.names before.labels (row_of (drop i xs))) all
+    → Noting before now (row_faults role d before.names before.labels (expressions_of (drop i xs))) all
     → after.names ≡ now.names → after.labels ≡ now.labels
     → after.found ≡ noted_all (used_as role now.names (expr_view x) (faults_in d now.names now.labels (expr_view x))) now.found
-    → Noting before after (row_faults role d before.names before.labels (row_of (drop (i + 1) xs))) all
+    → Noting before after (row_faults role d before.names before.labels (expressions_of (drop (i + 1) xs))) all
 row_turn role d xs i x before now after all lt at noting names labels found =
     let n = before.names in
     let l = before.labels in
@@ -126,24 +126,24 @@ row_turn role d xs i x before now after all lt at noting names labels found =
       names = names ∙ noting.names;
       labels = labels ∙ noting.labels;
       found =
-          ap (noted_all (row_faults role d n l (row_of (drop (i + 1) xs))))
+          ap (noted_all (row_faults role d n l (expressions_of (drop (i + 1) xs))))
           (found
           ∙ ap (λ p. noted_all (used_as role p (expr_view x) (faults_in d p now.labels (expr_view x))) now.found) noting.names
           ∙ ap (λ q. noted_all (used_as role n (expr_view x) (faults_in d n q (expr_view x))) now.found) noting.labels)
-          ∙ sym (ap (λ k. noted_all (row_faults role d n l (row_of k)) now.found) (drop_step xs i x lt at))
+          ∙ sym (ap (λ k. noted_all (row_faults role d n l (expressions_of k)) now.found) (drop_step xs i x lt at))
           ∙ noting.found;
     }
 
-pub row_float_turn : (xs : List Expr) (i : ℕ) (x : Expr) (float held : Bool) → i < length xs → x ≡ get_or xs i x → held ≡ holds_float (expr_view x) → ((float || held) || row_holds_float (row_of (drop (i + 1) xs))) ≡ (float || row_holds_float (row_of (drop i xs)))
+pub row_float_turn : (xs : List Expr) (i : ℕ) (x : Expr) (float held : Bool) → i < length xs → x ≡ get_or xs i x → held ≡ holds_float (expr_view x) → ((float || held) || row_holds_float (expressions_of (drop (i + 1) xs))) ≡ (float || row_holds_float (expressions_of (drop i xs)))
 row_float_turn xs i x float held lt at is =
-    ap (λ h. (float || h) || row_holds_float (row_of (drop (i + 1) xs))) is
-    ∙ or_assoc float (holds_float (expr_view x)) (row_holds_float (row_of (drop (i + 1) xs)))
-    ∙ sym (ap (λ k. float || row_holds_float (row_of k)) (drop_step xs i x lt at))
+    ap (λ h. (float || h) || row_holds_float (expressions_of (drop (i + 1) xs))) is
+    ∙ or_assoc float (holds_float (expr_view x)) (row_holds_float (expressions_of (drop (i + 1) xs)))
+    ∙ sym (ap (λ k. float || row_holds_float (expressions_of k)) (drop_step xs i x lt at))
 
-pub last_turn : (names : List Scoped) (xs : List Expr) (i : ℕ) (x : Expr) (before plain : Ty) → i < length xs → x ≡ get_or xs i x → plain ≡ type_without_float names (expr_view x) → last_or names plain (row_of (drop (i + 1) xs)) ≡ last_or names before (row_of (drop i xs))
+pub last_turn : (names : List Scoped) (xs : List Expr) (i : ℕ) (x : Expr) (before plain : Ty) → i < length xs → x ≡ get_or xs i x → plain ≡ type_without_float names (expr_view x) → last_or names plain (expressions_of (drop (i + 1) xs)) ≡ last_or names before (expressions_of (drop i xs))
 last_turn names xs i x before plain lt at is =
-    ap (λ p. last_or names p (row_of (drop (i + 1) xs))) is
-    ∙ sym (ap (λ k. last_or names before (row_of k)) (drop_step xs i x lt at))
+    ap (λ p. last_or names p (expressions_of (drop (i + 1) xs))) is
+    ∙ sym (ap (λ k. last_or names before (expressions_of k)) (drop_step xs i x lt at))
 
 pub last_is : (names : List Scoped) (row : Expressions) → last_or names NoValue row ≡ type_of_last names row
 last_is names NoMore = refl

@@ -1,10 +1,10 @@
 -- Forms that are checked alike.
 use Rattle.cmm_tree.specs.declared.expr.Form.{Form}
 use Rattle.cmm_tree.specs.declared.expr.Form as form
-use Rattle.cmm_types.specs.declared.group.Group.{Group}
-use Rattle.cmm_types.specs.declared.group.Group.TheVariants.{Leaf, Operation, Row, Call, Branch, Scope}
+use Rattle.cmm_types.specs.declared.group.FormGroup.{FormGroup}
+use Rattle.cmm_types.specs.declared.group.FormGroup.TheVariants.{Leaf, Operation, Row, Call, Branch, Scope}
 
-abbrev pub group_of : Form → Group
+abbrev pub group_of : Form → FormGroup
 group_of (form.Integer word) = Leaf
 group_of (form.Pointer word) = Leaf
 group_of (form.Symbol name) = Leaf

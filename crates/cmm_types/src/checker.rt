@@ -11,7 +11,7 @@ ghost use Rattle.cmm_types.specs.Gathered.{comp_faults, result_faults, params_fa
 ghost use Rattle.cmm_types.specs.Gathered.{repeated_faults};
 ghost use Rattle.bs_fault.specs.Reported.{noted, noted_all, one_if};
 
-use crate::labels::Labels;
+use crate::labels::LabelScope;
 use crate::names::{Meaning, Names};
 use crate::role::Role;
 use crate::seen::is_float;
@@ -27,7 +27,7 @@ pub struct Checker {
     /// The names that are visible.
     pub names: Names,
     /// The labels that are visible.
-    pub labels: Labels,
+    pub labels: LabelScope,
     /// The fault that is reported so far, if there is one.
     pub found: Option<Fault>,
 }

@@ -6,7 +6,7 @@ use cmm_tree::Form;
 
 /// Forms that are checked alike.
 #[derive(Clone, Copy)]
-pub enum Group {
+pub enum FormGroup {
     /// No part.
     Leaf,
     /// One or two parts, whose values are taken.
@@ -22,67 +22,67 @@ pub enum Group {
 }
 
 /// The rule by which a form is typed, for forms that share one.
-pub fn group_of_form(form: &Form) -> Group
+pub fn group_of_form(form: &Form) -> FormGroup
     ensures { result ≡ group_of form.now }
 {
     match form {
-        Form::Integer(_) => Group::Leaf,
-        Form::Pointer(_) => Group::Leaf,
-        Form::Symbol(_) => Group::Leaf,
-        Form::Name(_) => Group::Leaf,
-        Form::Nothing => Group::Leaf,
+        Form::Integer(_) => FormGroup::Leaf,
+        Form::Pointer(_) => FormGroup::Leaf,
+        Form::Symbol(_) => FormGroup::Leaf,
+        Form::Name(_) => FormGroup::Leaf,
+        Form::Nothing => FormGroup::Leaf,
         Form::Float {
             word_at: _,
             operands: _,
-        } => Group::Row,
-        Form::Let(_, _) => Group::Scope,
+        } => FormGroup::Row,
+        Form::Let(_, _) => FormGroup::Scope,
         Form::Assign {
             name_at: _,
             name: _,
             value: _,
-        } => Group::Operation,
-        Form::Operator(_, _, _) => Group::Operation,
-        Form::Load(_, _) => Group::Operation,
-        Form::Store(_, _, _) => Group::Operation,
+        } => FormGroup::Operation,
+        Form::Operator(_, _, _) => FormGroup::Operation,
+        Form::Load(_, _) => FormGroup::Operation,
+        Form::Store(_, _, _) => FormGroup::Operation,
         Form::Alloc {
             header_at: _,
             header: _,
             operands: _,
-        } => Group::Row,
+        } => FormGroup::Row,
         Form::App {
             callee: _,
             arguments: _,
             result: _,
             result_at: _,
-        } => Group::Call,
+        } => FormGroup::Call,
         Form::Extcall {
             frame: _,
             name: _,
             arguments: _,
             result: _,
             result_at: _,
-        } => Group::Call,
-        Form::Checkbound(_, _) => Group::Operation,
-        Form::Raise(_) => Group::Operation,
-        Form::Seq(_) => Group::Row,
-        Form::If(_, _, _) => Group::Branch,
+        } => FormGroup::Call,
+        Form::Checkbound(_, _) => FormGroup::Operation,
+        Form::Raise(_) => FormGroup::Operation,
+        Form::Seq(_) => FormGroup::Row,
+        Form::If(_, _, _) => FormGroup::Branch,
         Form::Switch {
             size_at: _,
             size: _,
             selector: _,
             cases: _,
-        } => Group::Branch,
-        Form::Catch(_, _) => Group::Scope,
+        } => FormGroup::Branch,
+        Form::Catch(_, _) => FormGroup::Scope,
         Form::Exit {
             label_at: _,
             label: _,
             arguments: _,
-        } => Group::Row,
+        } => FormGroup::Row,
         Form::Try {
             body: _,
             name_at: _,
             name: _,
             handler: _,
-        } => Group::Scope,
+        } => FormGroup::Scope,
     }
 }

@@ -20,11 +20,11 @@ struct VisibleLabel {
 /// The labels that are visible, with the numbers of parameters of their handlers. Contracts see them as a
 /// list, the innermost first.
 #[derive(Drop)]
-pub struct Labels {
+pub struct LabelScope {
     visible: Vec<VisibleLabel>,
 }
 
-impl Model for Labels {
+impl Model for LabelScope {
     ghost use Rattle.std.specs.Prelude.{List, map, reverse};
     ghost use Rattle.cmm_types.specs.Standing.{Visible};
     ghost use Rattle.cmm_types.specs.VisibleLabels.{visible_view};
@@ -50,12 +50,12 @@ fn innermost(visible: &[VisibleLabel], label: &Label) -> Option<usize>
     None
 }
 
-impl Labels {
+impl LabelScope {
     /// No labels. It takes no memory.
     pub fn new(alloc: Global) -> Self
         ensures { result ≡ [] }
     {
-        Labels {
+        LabelScope {
             visible: Vec::new(alloc),
         }
     }

@@ -4,9 +4,9 @@ ghost use Rattle.cmm_tree.specs.View.{expr_view, form_view, params_view, declare
 ghost use Rattle.cmm_types.specs.Annotated.{IsAnnotated, PartsTyped};
 ghost use Rattle.cmm_types.specs.declared.role.Role.TheVariants as roles;
 ghost use Rattle.cmm_types.specs.Groups.{group_of};
-ghost use Rattle.cmm_types.specs.declared.group.Group.TheVariants as groups;
+ghost use Rattle.cmm_types.specs.declared.group.FormGroup.TheVariants as groups;
 ghost use Rattle.cmm_types.specs.Lists.{AreAnnotated, AreBindingsAnnotated, AreCasesAnnotated, AreHandlersAnnotated, with_binding};
-ghost use Rattle.cmm_tree.specs.Rows.{row_of, bindings_of, cases_of, handlers_of};
+ghost use Rattle.cmm_tree.specs.Rows.{expressions_of, bindings_of, cases_of, handlers_of};
 ghost use Rattle.cmm_tree.specs.Symbols.{definition_of};
 ghost use Rattle.cmm_types.specs.Types.{with_bindings, with_parameters, type_without_float, holds_float};
 ghost use Rattle.cmm_types.specs.Types.{row_holds_float, type_of_last, bindings_hold_float, is_declared_float};
@@ -16,7 +16,7 @@ ghost use Rattle.cmm_types.specs.Gathered.{faults_in, used_as, row_faults, decla
 ghost use Rattle.bs_fault.specs.Reported.{noted_all};
 
 use crate::checker::Checker;
-use crate::group::{Group, group_of_form};
+use crate::group::{FormGroup, group_of_form};
 use crate::names::Meaning;
 use crate::role::Role;
 use crate::seen::{
@@ -76,12 +76,12 @@ impl Checker {
         ensures float { IfOk result (λ seen. seen.float ≡ holds_float (form_view at form.old)) }
     {
         match group_of_form(form) {
-            Group::Leaf => Ok(self.visit_leaf(symbols, at, form)),
-            Group::Operation => self.visit_operation(alloc, symbols, at, form),
-            Group::Row => self.visit_row(alloc, symbols, at, form),
-            Group::Call => self.visit_call(alloc, symbols, at, form),
-            Group::Branch => self.visit_branch(alloc, symbols, at, form),
-            Group::Scope => self.visit_scope(alloc, symbols, at, form),
+            FormGroup::Leaf => Ok(self.visit_leaf(symbols, at, form)),
+            FormGroup::Operation => self.visit_operation(alloc, symbols, at, form),
+            FormGroup::Row => self.visit_row(alloc, symbols, at, form),
+            FormGroup::Call => self.visit_call(alloc, symbols, at, form),
+            FormGroup::Branch => self.visit_branch(alloc, symbols, at, form),
+            FormGroup::Scope => self.visit_scope(alloc, symbols, at, form),
         }
     }
 
@@ -566,17 +566,17 @@ impl Checker {
         role: Role,
         exprs: &mut Vec<Expr>,
     ) -> Result<Seen, AllocError>
-        ensures view { OnOk result (row_of exprs.new.items ≡ row_of exprs.old.items) }
+        ensures view { OnOk result (expressions_of exprs.new.items ≡ expressions_of exprs.old.items) }
         ensures typed { OnOk result (AreAnnotated self.old.names exprs.new.items) }
         ensures names { OnOk result (self.new.names ≡ self.old.names) }
         ensures labels { OnOk result (self.new.labels ≡ self.old.labels) }
         ensures found { OnOk result (self.new.found ≡ noted_all (row_faults role
             (definition_of symbols.now) self.old.names self.old.labels
-            (row_of exprs.old.items)) self.old.found) }
+            (expressions_of exprs.old.items)) self.old.found) }
         ensures plain { IfOk result (λ seen.
-            seen.plain ≡ type_of_last self.old.names (row_of exprs.old.items)) }
+            seen.plain ≡ type_of_last self.old.names (expressions_of exprs.old.items)) }
         ensures float { IfOk result (λ seen.
-            seen.float ≡ row_holds_float (row_of exprs.old.items)) }
+            seen.float ≡ row_holds_float (expressions_of exprs.old.items)) }
     {
         let seen = self.operands(alloc, symbols, role, exprs.as_mut_slice())?;
         Ok(seen)
@@ -592,16 +592,16 @@ impl Checker {
         role: Role,
         exprs: &mut [Expr],
     ) -> Result<Seen, AllocError>
-        ensures view { OnOk result (row_of exprs.new ≡ row_of exprs.old) }
+        ensures view { OnOk result (expressions_of exprs.new ≡ expressions_of exprs.old) }
         ensures typed { OnOk result (AreAnnotated self.old.names exprs.new) }
         ensures names { OnOk result (self.new.names ≡ self.old.names) }
         ensures labels { OnOk result (self.new.labels ≡ self.old.labels) }
         ensures found { OnOk result (self.new.found ≡ noted_all (row_faults role
             (definition_of symbols.now) self.old.names self.old.labels
-            (row_of exprs.old)) self.old.found) }
+            (expressions_of exprs.old)) self.old.found) }
         ensures plain { IfOk result (λ seen.
-            seen.plain ≡ type_of_last self.old.names (row_of exprs.old)) }
-        ensures float { IfOk result (λ seen. seen.float ≡ row_holds_float (row_of exprs.old)) }
+            seen.plain ≡ type_of_last self.old.names (expressions_of exprs.old)) }
+        ensures float { IfOk result (λ seen. seen.float ≡ row_holds_float (expressions_of exprs.old)) }
     {
         let mut plain = Ty::NoValue;
         let mut float = false;

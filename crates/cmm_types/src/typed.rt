@@ -12,7 +12,7 @@ ghost use Rattle.cmm_types.specs.Typing.{IsFunctionAnnotated, IsItemAnnotated, A
 use crate::bound::is_address;
 use crate::checker::Checker;
 use crate::gathering::gather;
-use crate::labels::Labels;
+use crate::labels::LabelScope;
 use crate::names::Names;
 use crate::symbols::Symbols;
 use bs_fault::{Fault, FrontError};
@@ -88,7 +88,7 @@ pub fn check_types(alloc: Global, file: File) -> Result<Typed, FrontError>
     let symbols = all.symbols;
     let mut checker = Checker {
         names: Names::new(alloc),
-        labels: Labels::new(alloc),
+        labels: LabelScope::new(alloc),
         found: all.found,
     };
     checker.check_items(alloc, &symbols, items.as_mut_slice())?;

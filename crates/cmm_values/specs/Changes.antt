@@ -10,6 +10,6 @@ IsStored (Ok _) old new due = due ≡ Ok new
 IsStored (Err kind) old new due = (due ≡ Err kind) × (new ≡ old)
 
 -- so does an allocation, which gives the pointer to the block
-abbrev pub IsAllocated : Result Value Kind → Memory → Memory → Result Memory Kind → Type 0
-IsAllocated (Ok pointer) old new due = (due ≡ Ok new) × (pointer ≡ next_block old)
-IsAllocated (Err kind) old new due = (due ≡ Err kind) × (new ≡ old)
+abbrev pub IsBlockAllocated : Result Value Kind → Memory → Memory → Result Memory Kind → Type 0
+IsBlockAllocated (Ok pointer) old new due = (due ≡ Ok new) × (pointer ≡ next_block old)
+IsBlockAllocated (Err kind) old new due = (due ≡ Err kind) × (new ≡ old)

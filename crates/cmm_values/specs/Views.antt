@@ -18,8 +18,8 @@ cell_view (cell.Header serial) = InHeader serial
 cell_view (cell.Block serial index) = InBlock serial index
 cell_view (cell.Static list index) = InStatic list index
 
-abbrev pub header_at : memory.Memory → ℕ → ℕ
-header_at m serial = (slice_index_or m.blocks serial (record { header = 0; cells = [] })).header
+abbrev pub header_of_block : memory.Memory → ℕ → ℕ
+header_of_block m serial = (slice_index_or m.blocks serial (record { header = 0; cells = [] })).header
 
 abbrev pub start_at : memory.Memory → ℕ → ℕ
 start_at m list = (slice_index_or m.statics list (record { start = 0; size = 0; cells = [] })).start

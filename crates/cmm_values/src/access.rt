@@ -1,7 +1,7 @@
 //! The cells of the memory, and where an access lies.
 ghost use Rattle.std.specs.Prelude.{◌≡◌, ◌+◌, ◌-◌, ◌*◌, ◌/◌, ◌%◌, ◌^◌, ◌<◌, ◌==◌, ◌&&◌, Some, None, map, nat_le};
 ghost use Rattle.std.specs.Prelude.{option_map, slice_index_or, slice_set, []};
-ghost use Rattle.bs_words.specs.Memory.{width, cell_of_block, in_block, in_statics, offset_in_cell, part, replaced, extended, of_type, loaded_as, IsWidth};
+ghost use Rattle.bs_words.specs.Memory.{width, cell_of_block, in_block, in_statics, offset_in_cell, part, replaced, extended, value_of_type, loaded_as, IsWidth};
 ghost use Rattle.cmm_values.specs.Views.{block_view, list_view, cell_view};
 
 use crate::fit::{fits, misfit};
@@ -136,7 +136,7 @@ pub(crate) fn loaded_as(chunk: Chunk, end: u64, offset: u64, value: Value) -> Re
 }
 
 fn of_type(end: u64, ty: Ty, value: Value) -> Result<Value, Kind>
-    ensures { result ≡ of_type end ty value }
+    ensures { result ≡ value_of_type end ty value }
 {
     if fits(end, ty, value) {
         Ok(value)

@@ -3,16 +3,16 @@ ghost use Rattle.std.specs.Prelude.{◌≡◌, ◌+◌, ◌*◌, ◌%◌, ◌<�
 ghost use Rattle.std.specs.Prelude.{length, map, option_map, option_copied, slice_get, slice_index, IfOk, ◌^◌};
 ghost use Rattle.bs_words.specs.Fits.{data_start};
 ghost use Rattle.bs_words.specs.Memory.{InBlock, InStatic, end_of_statics, sizes, heap_need, end_of_data, width, IsWidth};
-ghost use Rattle.bs_words.specs.Memory.{stored_in, stored_as, put_whole, put_part, cell_at, value_in, type_in};
-ghost use Rattle.bs_words.specs.Memory.{type_of_cells, type_of_static, is_root, with_value, loaded, stored, put_in};
+ghost use Rattle.bs_words.specs.Memory.{stored_in, stored_as, put_whole, put_part, cell_at, value_in_cell, type_in};
+ghost use Rattle.bs_words.specs.Memory.{type_of_cells, type_of_static, is_root, with_cell_value, loaded, stored, put_in};
 ghost use Rattle.bs_words.specs.Memory.{all_fit, allocated};
 ghost use Rattle.cmm_tree.specs.Tree.{functions};
 ghost use Rattle.cmm_tree.specs.View.{file_view};
 ghost use Rattle.cmm_data.specs.Contents.{first_memory};
 ghost use Rattle.cmm_data.specs.Faults.{data_fault_of};
 ghost use Rattle.cmm_data.specs.Map.{cells_view};
-ghost use Rattle.cmm_values.specs.Views.{block_view, list_view, cell_view, header_at, start_at};
-ghost use Rattle.cmm_values.specs.Changes.{IsStored, IsAllocated};
+ghost use Rattle.cmm_values.specs.Views.{block_view, list_view, cell_view, header_of_block, start_at};
+ghost use Rattle.cmm_values.specs.Changes.{IsStored, IsBlockAllocated};
 
 use crate::access::{
     Cell, HeapCells, StaticCells, in_cells, in_statics, is_aligned, loaded_as, offset_in_cell,
@@ -166,7 +166,7 @@ impl Memory {
     }
 
     fn value_in(&self, cell: Cell) -> Value
-        ensures { result ≡ value_in self.now (cell_view cell) }
+        ensures { result ≡ value_in_cell self.now (cell_view cell) }
     {
         match cell {
             Cell::Header { serial } => Value::Word(self.header_of(serial)),
@@ -177,7 +177,7 @@ impl Memory {
 
     #[tactic(auto, using(crate::proofs::AtPlaces::read_none))]
     fn block_value(&self, serial: u64, index: u64) -> Value
-        ensures { result ≡ value_in self.now (InBlock serial index) }
+        ensures { result ≡ value_in_cell self.now (InBlock serial index) }
     {
         match self.block_of(serial) {
             Some(block) => value_at(block.cells.as_slice(), index),
@@ -187,7 +187,7 @@ impl Memory {
 
     #[tactic(auto, using(crate::proofs::AtPlaces::read_none))]
     fn static_value(&self, number: u64, index: u64) -> Value
-        ensures { result ≡ value_in self.now (InStatic number index) }
+        ensures { result ≡ value_in_cell self.now (InStatic number index) }
     {
         match self.list_of(number) {
             Some(list) => value_at(list.cells.as_slice(), index),
@@ -197,7 +197,7 @@ impl Memory {
 
     #[tactic(auto, using(crate::proofs::AtPlaces::read_none))]
     fn header_of(&self, serial: u64) -> u64
-        ensures { result ≡ header_at self.now serial }
+        ensures { result ≡ header_of_block self.now serial }
     {
         match self.block_of(serial) {
             Some(block) => block.header,
@@ -324,7 +324,7 @@ impl Memory {
         requires offset { offset < 8 }
         requires aligned { offset % bytes ≡ 0 }
         ensures { IsStored result self.old self.new (put_part (end_of_data self.old) self.old
-            (cell_view cell) offset bytes (value_in self.old (cell_view cell)) value) }
+            (cell_view cell) offset bytes (value_in_cell self.old (cell_view cell)) value) }
     {
         match (self.value_in(cell), value) {
             (Value::Word(old), Value::Word(new)) => {
@@ -349,7 +349,7 @@ impl Memory {
     }
 
     fn set(&mut self, cell: Cell, value: Value)
-        ensures { self.new ≡ with_value self.old (cell_view cell) value }
+        ensures { self.new ≡ with_cell_value self.old (cell_view cell) value }
     {
         match cell {
             Cell::Header { .. } => {}
@@ -370,7 +370,7 @@ impl Memory {
         header: u64,
         cells: Vec<Value>,
     ) -> Result<Result<Value, Kind>, AllocError>
-        ensures { IfOk result (λ r. IsAllocated r self.old self.new
+        ensures { IfOk result (λ r. IsBlockAllocated r self.old self.new
             (allocated self.old header cells.items)) }
     {
         let ty = type_of_cells(header);

@@ -7,42 +7,42 @@ use Rattle.std.proofs.lemmas.List.{length-append, length-set, length-map, map-se
 use Rattle.std.proofs.lemmas.List.Elements.{Contains-append_left, Contains-push, Contains-push_cases}
 use Rattle.walk_tables.specs.Table.{step_at, next_at, next_cells, slot_below, IsNode, IsLinked, AreLinked, AreNodes}
 use Rattle.cmm_walks.specs.Groups.{members, Added, NamesSlot, HasSlotAdded, AreBefore, AreMentions}
-use Rattle.cmm_walks.specs.declared.groups.Group as group
+use Rattle.cmm_walks.specs.declared.groups.NodeGroup as group
 use Rattle.walk_tables.specs.declared.node.Step.{Step}
 use Rattle.walk_tables.specs.declared.node.Step.TheVariants as step
 use Rattle.walk_tables.specs.declared.node.Node as node
 use Rattle.walk_tables.proofs.Elements.{no_element}
 
-pub members_same : (gs : List group.Group) (k : ℕ) (g : group.Group) → k < length gs → members (set gs k g) k ≡ g.members.items
+pub members_same : (gs : List group.NodeGroup) (k : ℕ) (g : group.NodeGroup) → k < length gs → members (set gs k g) k ≡ g.members.items
 members_same gs k g within =
-    let f : group.Group → List ℕ = λ x. x.members.items in
+    let f : group.NodeGroup → List ℕ = λ x. x.members.items in
     let w : k < length (map f gs) = omega (arith, length-map gs f, within) in
     ap (λ (l : List (List ℕ)). get_or l k []) (map-set f gs k g) ∙ get_or-set_same (map f gs) k (f g) [] w
 
-pub members_other : (gs : List group.Group) (k j : ℕ) (g : group.Group) → j ≢ k → members (set gs k g) j ≡ members gs j
+pub members_other : (gs : List group.NodeGroup) (k j : ℕ) (g : group.NodeGroup) → j ≢ k → members (set gs k g) j ≡ members gs j
 members_other gs k j g ne =
-    let f : group.Group → List ℕ = λ x. x.members.items in
+    let f : group.NodeGroup → List ℕ = λ x. x.members.items in
     ap (λ (l : List (List ℕ)). get_or l j []) (map-set f gs k g) ∙ get_or-set_other (map f gs) k j (f g) [] ne
 
-pub members_read : (gs : List group.Group) (k : ℕ) (g : group.Group) → k < length gs → g ≡ get_or gs k g → members gs k ≡ g.members.items
+pub members_read : (gs : List group.NodeGroup) (k : ℕ) (g : group.NodeGroup) → k < length gs → g ≡ get_or gs k g → members gs k ≡ g.members.items
 members_read gs k g within read =
-    let f : group.Group → List ℕ = λ x. x.members.items in
+    let f : group.NodeGroup → List ℕ = λ x. x.members.items in
     get_or-map f gs k g [] within ∙ ap f (sym read)
 
-pub members_empty : (gs : List group.Group) (g : group.Group) → g.members.items ≡ [] → ((k : ℕ) → members gs k ≡ []) → (k : ℕ) → members (gs ++ g ∷ []) k ≡ []
+pub members_empty : (gs : List group.NodeGroup) (g : group.NodeGroup) → g.members.items ≡ [] → ((k : ℕ) → members gs k ≡ []) → (k : ℕ) → members (gs ++ g ∷ []) k ≡ []
 members_empty [] g none all zero = none
 members_empty [] g none all (suc k) = refl
 members_empty (h ∷ gs) g none all zero = all zero
 members_empty (h ∷ gs) g none all (suc k) = members_empty gs g none (λ j. all (suc j)) k
 
-pub added : (old new : List group.Group) (k member : ℕ) (g g' : group.Group) → k < length old → g ≡ get_or old k g → g'.members.items ≡ g.members.items ++ member ∷ [] → new ≡ set old k g'
+pub added : (old new : List group.NodeGroup) (k member : ℕ) (g g' : group.NodeGroup) → k < length old → g ≡ get_or old k g → g'.members.items ≡ g.members.items ++ member ∷ [] → new ≡ set old k g'
     → Added old new k member
 added old new k member g g' within read more is = record {
   len = ap length is ∙ length-set old k g';
   exact = λ j x.
       let here : members new k ≡ members old k ++ member ∷ [] =
-      ap (λ (l : List group.Group). members l k) is ∙ (members_same old k g' within ∙ (more ∙ ap (λ (l : List ℕ). l ++ member ∷ []) (sym (members_read old k g within read)))) in
-      let other : (j ≢ k) → members new j ≡ members old j = λ ne. ap (λ (l : List group.Group). members l j) is ∙ members_other old k j g' ne in
+      ap (λ (l : List group.NodeGroup). members l k) is ∙ (members_same old k g' within ∙ (more ∙ ap (λ (l : List ℕ). l ++ member ∷ []) (sym (members_read old k g within read)))) in
+      let other : (j ≢ k) → members new j ≡ members old j = λ ne. ap (λ (l : List group.NodeGroup). members l j) is ∙ members_other old k j g' ne in
       let C : List ℕ → Type 0 = λ l. Contains l x in
       let O : ℕ → Type 0 = λ n. Contains (members old n) x in
       let N : ℕ → Type 0 = λ n. Contains (members new n) x in (
@@ -67,17 +67,17 @@ added old new k member g g' within read more is = record {
 
 -- ---- a member of several groups
 
-pub record AddingToAll (old now : List group.Group) (member : ℕ) (tried : List ℕ) : Type 0 where
+pub record AddingToAll (old now : List group.NodeGroup) (member : ℕ) (tried : List ℕ) : Type 0 where
   pub len : length now ≡ length old
   pub exact : (j x : ℕ) → Contains (members now j) x ↔ (Contains (members old j) x ⊎ (Contains tried j × (member ≡ x)))
 
-pub adding_none : (old : List group.Group) (member : ℕ) (tried : List ℕ) → AddingToAll old old member (take 0 tried)
+pub adding_none : (old : List group.NodeGroup) (member : ℕ) (tried : List ℕ) → AddingToAll old old member (take 0 tried)
 adding_none old member tried = record {
   len = refl;
   exact = λ j x. (λ h. inl h, λ h. elim h [ inl before ↦ before | inr (none, e) ↦ absurd (no_element j none) ]);
 }
 
-pub adding_more : (old now new : List group.Group) (member : ℕ) (targets : List ℕ) (i k : ℕ) → i < length targets → k ≡ get_or targets i 0
+pub adding_more : (old now new : List group.NodeGroup) (member : ℕ) (targets : List ℕ) (i k : ℕ) → i < length targets → k ≡ get_or targets i 0
     → AddingToAll old now member (take i targets) → Added now new k member → AddingToAll old new member (take (i + 1) targets)
 adding_more old now new member targets i k below read a b = record {
   len = b.len ∙ a.len;
@@ -107,7 +107,7 @@ adding_more old now new member targets i k below read a b = record {
       );
 }
 
-pub adding_all : (old now : List group.Group) (member : ℕ) (targets : List ℕ) (i : ℕ) → length targets ≤ i → AddingToAll old now member (take i targets)
+pub adding_all : (old now : List group.NodeGroup) (member : ℕ) (targets : List ℕ) (i : ℕ) → length targets ≤ i → AddingToAll old now member (take i targets)
     → (j x : ℕ) → Contains (members now j) x ↔ (Contains (members old j) x ⊎ (Contains targets j × (member ≡ x)))
 adding_all old now member targets i done a =
     let P : List ℕ → Type 0 = λ l. AddingToAll old now member l in
@@ -144,12 +144,12 @@ slot_here nodes bound i count n are within read len =
     let R : ℕ → Type 0 = λ k. slot_below k n.step in
     subst R (sym len) (subst P (sym read) here.slot)
 
-pub record Turning (nodes : List node.Node) (i number : ℕ) (now : List group.Group) : Type 0 where
+pub record Turning (nodes : List node.Node) (i number : ℕ) (now : List group.NodeGroup) : Type 0 where
   pub numbered : number ≡ i
   pub len : length now ≡ length nodes
   pub exact : (p q : ℕ) → Contains (members now p) q ↔ ((q < i) × Contains (next_at nodes q) p)
 
-pub turning_none : (nodes : List node.Node) (now : List group.Group) → length now ≡ length nodes → ((k : ℕ) → members now k ≡ []) → Turning nodes 0 0 now
+pub turning_none : (nodes : List node.Node) (now : List group.NodeGroup) → length now ≡ length nodes → ((k : ℕ) → members now k ≡ []) → Turning nodes 0 0 now
 turning_none nodes now len empty = record {
   numbered = refl;
   len = len;
@@ -158,7 +158,7 @@ turning_none nodes now len empty = record {
       (λ h. absurd (no_element q (subst C (empty p) h)), λ h. absurd (omega (arith, h.0)));
 }
 
-pub turning_more : (nodes : List node.Node) (i number number' : ℕ) (n : node.Node) (now new : List group.Group) (next : List ℕ) → i < length nodes → n ≡ get_or nodes i n → number' ≡ suc number
+pub turning_more : (nodes : List node.Node) (i number number' : ℕ) (n : node.Node) (now new : List group.NodeGroup) (next : List ℕ) → i < length nodes → n ≡ get_or nodes i n → number' ≡ suc number
     → next ≡ next_cells n.next
     → Turning nodes i number now → length new ≡ length now → ((j x : ℕ) → Contains (members new j) x ↔ (Contains (members now j) x ⊎ (Contains next j × (number ≡ x))))
     → Turning nodes (i + 1) number' new
@@ -180,7 +180,7 @@ turning_more nodes i number number' n now new next within read up listed t len e
       );
 }
 
-pub turned : (nodes : List node.Node) (i number : ℕ) (now : List group.Group) → length nodes ≤ i → Turning nodes i number now → AreBefore nodes now
+pub turned : (nodes : List node.Node) (i number : ℕ) (now : List group.NodeGroup) → length nodes ≤ i → Turning nodes i number now → AreBefore nodes now
 turned nodes i number now done t = record {
   len = t.len;
   exact = λ p q. (λ h. ((t.exact p q).0 h).1, λ h. (t.exact p q).1 (let w : q < length nodes = next_within nodes q p h in omega (arith, w, done), h));
@@ -193,15 +193,15 @@ step_within [] slot p h = absurd h
 step_within (n ∷ nodes) slot zero h = omega arith
 step_within (n ∷ nodes) slot (suc p) h = let r : p < length nodes = step_within nodes slot p h in omega (arith, r)
 
-pub record Sorting (nodes : List node.Node) (bound i number : ℕ) (now : List group.Group) : Type 0 where
+pub record Sorting (nodes : List node.Node) (bound i number : ℕ) (now : List group.NodeGroup) : Type 0 where
   pub numbered : number ≡ i
   pub len : length now ≡ bound
   pub named : (slot p : ℕ) → p < i → NamesSlot slot (step_at nodes p) → Contains (members now slot) p
 
-pub sorting_none : (nodes : List node.Node) (bound : ℕ) (now : List group.Group) → length now ≡ bound → Sorting nodes bound 0 0 now
+pub sorting_none : (nodes : List node.Node) (bound : ℕ) (now : List group.NodeGroup) → length now ≡ bound → Sorting nodes bound 0 0 now
 sorting_none nodes bound now len = record { numbered = refl; len = len; named = λ slot p less h. absurd (omega (arith, less)) }
 
-pub sorting_more : (nodes : List node.Node) (bound i number number' : ℕ) (n : node.Node) (now new : List group.Group) → i < length nodes → n ≡ get_or nodes i n → number' ≡ suc number
+pub sorting_more : (nodes : List node.Node) (bound i number number' : ℕ) (n : node.Node) (now new : List group.NodeGroup) → i < length nodes → n ≡ get_or nodes i n → number' ≡ suc number
     → Sorting nodes bound i number now → HasSlotAdded now new n.step number → Sorting nodes bound (i + 1) number' new
 sorting_more nodes bound i number number' n now new within read up t a = record {
   numbered = omega (arith, up, t.numbered);
@@ -216,20 +216,20 @@ sorting_more nodes bound i number number' n now new within read up t a = record 
   ];
 }
 
-pub sorted_out : (nodes : List node.Node) (bound i number : ℕ) (now : List group.Group) → length nodes ≤ i → Sorting nodes bound i number now → AreMentions nodes now
+pub sorted_out : (nodes : List node.Node) (bound i number : ℕ) (now : List group.NodeGroup) → length nodes ≤ i → Sorting nodes bound i number now → AreMentions nodes now
 sorted_out nodes bound i number now done t = record { named = λ slot p h. t.named slot p (let w : p < length nodes = step_within nodes slot p h in omega (arith, w, done)) h }
 
-pub one_longer : (old new : List group.Group) (g : group.Group) (n : ℕ) → length old ≡ n → new ≡ old ++ (g ∷ []) → length new ≡ suc n
+pub one_longer : (old new : List group.NodeGroup) (g : group.NodeGroup) (n : ℕ) → length old ≡ n → new ≡ old ++ (g ∷ []) → length new ≡ suc n
 one_longer old new g n len is = omega (arith, len, ap length is, length-append old (g ∷ []))
 
-pub slot_added : (old new : List group.Group) (slot at number : ℕ) (address : Bool) → Added old new slot number → HasSlotAdded old new (step.Binds slot address at) number
+pub slot_added : (old new : List group.NodeGroup) (slot at number : ℕ) (address : Bool) → Added old new slot number → HasSlotAdded old new (step.Binds slot address at) number
 slot_added old new slot at number address a = record {
   len = a.len;
   kept = λ j x h. (a.exact j x).1 (inl h);
   here = λ other e. (a.exact other number).1 (inr (sym e, refl));
 }
 
-pub use_added : (old new : List group.Group) (slot at number : ℕ) → Added old new slot number → HasSlotAdded old new (step.Uses slot at) number
+pub use_added : (old new : List group.NodeGroup) (slot at number : ℕ) → Added old new slot number → HasSlotAdded old new (step.Uses slot at) number
 use_added old new slot at number a = record {
   len = a.len;
   kept = λ j x h. (a.exact j x).1 (inl h);

@@ -20,12 +20,12 @@ use Rattle.walk_tables.specs.declared.node.Step.{Step}
 use Rattle.walk_tables.specs.declared.node.Step.TheVariants as step
 use Rattle.walk_tables.specs.declared.node.Node as node
 use Rattle.cmm_walks.specs.declared.labels.Seed.{Seed}
-use Rattle.cmm_walks.specs.declared.labels.Labels.{Labels}
+use Rattle.cmm_walks.specs.declared.labels.NodeLabels.{NodeLabels}
 use Rattle.cmm_walks.specs.declared.limits.Limits.{Limits}
 use Rattle.cmm_walks.specs.declared.limits.Part.{Part}
 use Rattle.cmm_walks.specs.declared.limits.Part.TheVariants as part
 use Rattle.cmm_walks.specs.declared.seeds.Goal.{Goal}
-use Rattle.cmm_walks.specs.declared.groups.Group as group
+use Rattle.cmm_walks.specs.declared.groups.NodeGroup as group
 use Rattle.walk_tables.proofs.Elements.{no_element, only, first_or_rest, unbound_rest}
 use Rattle.cmm_walks.proofs.Grouped.{step_within}
 use Rattle.cmm_walks.proofs.Spreads.{leads_on}
@@ -279,7 +279,7 @@ pub record Tells (Leading : Limits → ℕ → Type 0) (goal : Goal) (labels : L
   pub from : (p x : ℕ) → label_at labels p < unlabelled → label_at labels p ≤ x → Leading (up_to goal x) p × (label_at labels p ≤ own_limit goal)
   pub to : (p x : ℕ) → x ≤ own_limit goal → Leading (up_to goal x) p → label_at labels p ≤ x
 
-pub uses_told : (nodes : List node.Node) (mentions : List group.Group) (goal : Goal) (slot : ℕ) (places : List ℕ) (seeds : List Seed) (l : Labels) → AreMentions nodes mentions → places ≡ members mentions slot
+pub uses_told : (nodes : List node.Node) (mentions : List group.NodeGroup) (goal : Goal) (slot : ℕ) (places : List ℕ) (seeds : List Seed) (l : NodeLabels) → AreMentions nodes mentions → places ≡ members mentions slot
     → seeds ≡ filter_map (λ (p : ℕ). use_seed goal slot p (step_at nodes p)) places
     → FirstLabels nodes slot seeds l → Tells (UsesUpTo nodes slot) goal l.of.items
 uses_told nodes mentions goal slot places seeds l m at is f =
@@ -352,7 +352,7 @@ before_point nodes slot used point p n is next l =
     let r = leads_on nodes slot p n l.use_node next free (record { events = l.events; way = l.way; unbound = l.unbound }) in
     record { use_node = l.use_node; events = r.events; way = r.way; unbound = r.unbound; uses = l.uses }
 
-pub points_told : (nodes : List node.Node) (goal : Goal) (slot : ℕ) (first : Labels) (seeds : List Seed) (l : Labels)
+pub points_told : (nodes : List node.Node) (goal : Goal) (slot : ℕ) (first : NodeLabels) (seeds : List Seed) (l : NodeLabels)
     → own_limit goal < unlabelled
     → ((p : ℕ) → label_at first.of.items p < unlabelled → Contains first.queue.items p)
     → Tells (UsesUpTo nodes slot) goal first.of.items
@@ -389,7 +389,7 @@ points_told nodes goal slot first seeds l fits queued t is f =
           omega (arith, k, w.below);
     }
 
-pub points_within : (nodes : List node.Node) (goal : Goal) (first : Labels) (seeds : List Seed) → seeds ≡ filter_map (λ (p : ℕ). point_seed goal first.of.items p (step_at nodes p)) first.queue.items
+pub points_within : (nodes : List node.Node) (goal : Goal) (first : NodeLabels) (seeds : List Seed) → seeds ≡ filter_map (λ (p : ℕ). point_seed goal first.of.items p (step_at nodes p)) first.queue.items
     → ((p : ℕ) → Contains first.queue.items p → p < length nodes)
     → (s : Seed) → Contains seeds s → s.place < length nodes
 points_within nodes goal first seeds is queued s h =

@@ -16,10 +16,10 @@ use Rattle.walk_tables.specs.declared.node.Step.{Step}
 use Rattle.walk_tables.specs.declared.node.Step.TheVariants as step
 use Rattle.walk_tables.specs.declared.node.Node as node
 use Rattle.cmm_walks.specs.declared.labels.Seed.{Seed}
-use Rattle.cmm_walks.specs.declared.labels.Labels.{Labels}
+use Rattle.cmm_walks.specs.declared.labels.NodeLabels.{NodeLabels}
 use Rattle.cmm_walks.specs.declared.limits.Limits.{Limits}
 use Rattle.cmm_walks.specs.declared.seeds.Goal.{Goal}
-use Rattle.cmm_walks.specs.declared.groups.Group as group
+use Rattle.cmm_walks.specs.declared.groups.NodeGroup as group
 use Rattle.walk_tables.proofs.Elements.{no_element, first_or_rest, only, unbound_none, unbound_both}
 use Rattle.cmm_walks.proofs.Grouped.{step_within}
 use Rattle.cmm_walks.proofs.Levels.{kept_from, kept_to, all_from, all_to, guarded, seed_from, seed_to, Both, UpTo, later_from, later_up, known_from, known_to, bound_down, bound_up, whole, uses_told, uses_within, points_told, points_within, PointUpTo, Tells}
@@ -50,7 +50,7 @@ binding_from nodes goal labels slot p n s (step.Binds own address at) is e =
     }
 
 -- what a node binds and where it leads, from the label of a node after it
-binding_here : (nodes : List node.Node) (goal : Goal) (slot : ℕ) (l : Labels) (p : ℕ) (s : Seed) → Tells (PointUpTo nodes slot) goal l.of.items
+binding_here : (nodes : List node.Node) (goal : Goal) (slot : ℕ) (l : NodeLabels) (p : ℕ) (s : Seed) → Tells (PointUpTo nodes slot) goal l.of.items
     → Contains (binding_seeds goal l.of.items nodes slot p) s → (s.label ≤ own_limit goal) × BindsWithin nodes slot (up_to goal s.label) s.place
 binding_here nodes goal slot l p s t h =
     let seed_of : ℕ → Option Seed = λ n. binding_seed goal l.of.items slot p (step_at nodes p) n in
@@ -76,7 +76,7 @@ binding_here nodes goal slot l p s t h =
       },
     )
 
-binding_there : (nodes : List node.Node) (goal : Goal) (slot : ℕ) (l : Labels) (p x : ℕ) → own_limit goal < unlabelled → Tells (PointUpTo nodes slot) goal l.of.items
+binding_there : (nodes : List node.Node) (goal : Goal) (slot : ℕ) (l : NodeLabels) (p x : ℕ) → own_limit goal < unlabelled → Tells (PointUpTo nodes slot) goal l.of.items
     → x ≤ own_limit goal → BindsWithin nodes slot (up_to goal x) p → Seeded (binding_seeds goal l.of.items nodes slot p) p x
 binding_there nodes goal slot l p x fits t top b =
     let seed_of : ℕ → Option Seed = λ n. binding_seed goal l.of.items slot p (step_at nodes p) n in
@@ -95,7 +95,7 @@ binding_there nodes goal slot l p x fits t top b =
 
 -- ---- one slot
 
-pub slot_seeds : (nodes : List node.Node) (mentions : List group.Group) (goal : Goal) (slot : ℕ) (places : List ℕ) (l : Labels) (old new : List Seed) → own_limit goal < unlabelled → AreMentions nodes mentions → places ≡ members mentions slot
+pub slot_seeds : (nodes : List node.Node) (mentions : List group.NodeGroup) (goal : Goal) (slot : ℕ) (places : List ℕ) (l : NodeLabels) (old new : List Seed) → own_limit goal < unlabelled → AreMentions nodes mentions → places ≡ members mentions slot
     → Tells (PointUpTo nodes slot) goal l.of.items → new ≡ old ++ flat_map (binding_seeds goal l.of.items nodes slot) places → AreSlotSeeds nodes goal slot old new
 slot_seeds nodes mentions goal slot places l old new fits m at t is =
     let seeds_of : ℕ → List Seed = binding_seeds goal l.of.items nodes slot in
@@ -128,7 +128,7 @@ any_has test (y ∷ ys) x h e =
     or_true false b h = h
 
 -- a slot that no address is bound to
-pub no_slot_seeds : (nodes : List node.Node) (mentions : List group.Group) (goal : Goal) (slot : ℕ) (places : List ℕ) (some : Bool) (old : List Seed) → AreMentions nodes mentions → places ≡ members mentions slot
+pub no_slot_seeds : (nodes : List node.Node) (mentions : List group.NodeGroup) (goal : Goal) (slot : ℕ) (places : List ℕ) (some : Bool) (old : List Seed) → AreMentions nodes mentions → places ≡ members mentions slot
     → some ≡ list_any (λ (p : ℕ). binds_address_to slot (step_at nodes p)) places → some ≡ false → AreSlotSeeds nodes goal slot old old
 no_slot_seeds nodes mentions goal slot places some old m at is none = record {
   kept = λ s h. h;
@@ -204,7 +204,7 @@ way_free : (nodes : List node.Node) (bound : ℕ) → AreNodes bound nodes → (
 way_free nodes bound are _ _ _ (here p) = unbound_none bound
 way_free nodes bound are _ _ _ (goes p m q events next way) = unbound_both bound (shown (step_at nodes p)) events (slot_free nodes bound p are) (way_free nodes bound are m q events way)
 
-pub seeds_from : (nodes : List node.Node) (bound entry : ℕ) (goal : Goal) (found : List Seed) (l : Labels) → own_limit goal < unlabelled → AreNodes bound nodes
+pub seeds_from : (nodes : List node.Node) (bound entry : ℕ) (goal : Goal) (found : List Seed) (l : NodeLabels) → own_limit goal < unlabelled → AreNodes bound nodes
     → SlotsDone nodes goal bound found → FirstLabels nodes bound found l → label_at l.of.items entry < unlabelled
     → IsWithin nodes (up_to goal (label_at l.of.items entry)) entry × (label_at l.of.items entry ≤ own_limit goal)
 seeds_from nodes bound entry goal found l fits are d f less =
@@ -224,7 +224,7 @@ seeds_from nodes bound entry goal found l fits are d f less =
       omega (arith, r.is, s.0),
     )
 
-pub seeds_to : (nodes : List node.Node) (bound entry x : ℕ) (goal : Goal) (found : List Seed) (l : Labels) → AreNodes bound nodes
+pub seeds_to : (nodes : List node.Node) (bound entry x : ℕ) (goal : Goal) (found : List Seed) (l : NodeLabels) → AreNodes bound nodes
     → SlotsDone nodes goal bound found → FirstLabels nodes bound found l → x ≤ own_limit goal → IsWithin nodes (up_to goal x) entry
     → label_at l.of.items entry ≤ x
 seeds_to nodes bound entry x goal found l are d f top w =
@@ -238,7 +238,7 @@ seeds_to nodes bound entry x goal found l are d f top w =
     let k = f.least r.seed r.among entry leads in
     omega (arith, k, r.below)
 
-pub least_told : (nodes : List node.Node) (bound entry : ℕ) (goal : Goal) (found : List Seed) (l : Labels) (told : Option ℕ) → own_limit goal < unlabelled → AreNodes bound nodes
+pub least_told : (nodes : List node.Node) (bound entry : ℕ) (goal : Goal) (found : List Seed) (l : NodeLabels) (told : Option ℕ) → own_limit goal < unlabelled → AreNodes bound nodes
     → SlotsDone nodes goal bound found → FirstLabels nodes bound found l → told ≡ known_label l.of.items entry → IsLeastTold nodes entry goal told
 least_told nodes bound entry goal found l None fits are d f is = λ w.
     let same : up_to goal (own_limit goal) ≡ goal.limits = whole goal.limits goal.part in
@@ -266,7 +266,7 @@ pub uses_fit : (nodes : List node.Node) (goal : Goal) (slot : ℕ) (places : Lis
     → All (λ (s : Seed). s.place < length nodes) seeds
 uses_fit nodes goal slot places seeds is = all_places (length nodes) seeds (uses_within nodes goal slot places seeds is)
 
-pub points_fit : (nodes : List node.Node) (goal : Goal) (slot : ℕ) (first_seeds : List Seed) (first : Labels) (seeds : List Seed) → FirstLabels nodes slot first_seeds first
+pub points_fit : (nodes : List node.Node) (goal : Goal) (slot : ℕ) (first_seeds : List Seed) (first : NodeLabels) (seeds : List Seed) → FirstLabels nodes slot first_seeds first
     → seeds ≡ filter_map (λ (p : ℕ). point_seed goal first.of.items p (step_at nodes p)) first.queue.items
     → All (λ (s : Seed). s.place < length nodes) seeds
 points_fit nodes goal slot first_seeds first seeds f is =
@@ -274,11 +274,11 @@ points_fit nodes goal slot first_seeds first seeds f is =
     (points_within nodes goal first seeds is
     (λ p h. let w : p < length first.of.items = All-contains (λ (q : ℕ). q < length first.of.items) first.queue.items p f.kept.within h in omega (arith, w, f.len)))
 
-pub unlabelled_as : (nodes : List node.Node) (slot : ℕ) (seeds : List Seed) (old new : Labels) → FirstLabels nodes slot seeds old → IsUnlabelled (length old.of.items) new → IsUnlabelled (length nodes) new
+pub unlabelled_as : (nodes : List node.Node) (slot : ℕ) (seeds : List Seed) (old new : NodeLabels) → FirstLabels nodes slot seeds old → IsUnlabelled (length old.of.items) new → IsUnlabelled (length nodes) new
 unlabelled_as nodes slot seeds old new f u = let P : ℕ → Type 0 = λ n. IsUnlabelled n new in subst P f.len u
 
 -- the seeds of a slot, from the labels of its uses and then of its frame points
-pub slot_searched : (nodes : List node.Node) (mentions : List group.Group) (goal : Goal) (slot : ℕ) (places : List ℕ) (uses points : List Seed) (first second : Labels) (old new : List Seed)
+pub slot_searched : (nodes : List node.Node) (mentions : List group.NodeGroup) (goal : Goal) (slot : ℕ) (places : List ℕ) (uses points : List Seed) (first second : NodeLabels) (old new : List Seed)
     → own_limit goal < unlabelled → AreMentions nodes mentions → places ≡ members mentions slot
     → uses ≡ filter_map (λ (p : ℕ). use_seed goal slot p (step_at nodes p)) places → FirstLabels nodes slot uses first
     → points ≡ filter_map (λ (p : ℕ). point_seed goal first.of.items p (step_at nodes p)) first.queue.items → FirstLabels nodes slot points second

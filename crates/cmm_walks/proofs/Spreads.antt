@@ -17,9 +17,9 @@ use Rattle.cmm_walks.specs.Labels.{unlabelled, label_at, binds_slot, Leads, Lead
 use Rattle.walk_tables.specs.declared.node.Step.{Step}
 use Rattle.walk_tables.specs.declared.node.Step.TheVariants as step
 use Rattle.walk_tables.specs.declared.node.Node as node
-use Rattle.cmm_walks.specs.declared.groups.Group as group
+use Rattle.cmm_walks.specs.declared.groups.NodeGroup as group
 use Rattle.cmm_walks.specs.declared.labels.Seed.{Seed}
-use Rattle.cmm_walks.specs.declared.labels.Labels.{Labels}
+use Rattle.cmm_walks.specs.declared.labels.NodeLabels.{NodeLabels}
 use Rattle.cmm_walks.proofs.Grouped.{next_within}
 use Rattle.walk_tables.proofs.Elements.{no_element, only, itself, unbound_none, unbound_both, unbound_first, unbound_rest, first_or_rest}
 
@@ -61,7 +61,7 @@ bound_from slot (step.Passes at) e u = absurd (let f : false ≡ true = e in cc)
 
 -- ---- a label that is lowered
 
-pub lowered_falls : (old new : Labels) (place label : ℕ) → place < length old.of.items → Lowered old new place label → (p : ℕ) → label_at new.of.items p ≤ label_at old.of.items p
+pub lowered_falls : (old new : NodeLabels) (place label : ℕ) → place < length old.of.items → Lowered old new place label → (p : ℕ) → label_at new.of.items p ≤ label_at old.of.items p
 lowered_falls old new place label within (inl (less, of, queue, done)) p =
     elim (cases_eq p place) [
       | inl e ↦
@@ -73,19 +73,19 @@ lowered_falls old new place label within (inl (less, of, queue, done)) p =
           omega (arith, at)
     ]
 lowered_falls old new place label within (inr (most, same)) p =
-    let at : label_at new.of.items p ≡ label_at old.of.items p = ap (λ (l : Labels). label_at l.of.items p) same in
+    let at : label_at new.of.items p ≡ label_at old.of.items p = ap (λ (l : NodeLabels). label_at l.of.items p) same in
     omega (arith, at)
 
-pub lowered_here : (old new : Labels) (place label : ℕ) → place < length old.of.items → Lowered old new place label → label_at new.of.items place ≤ label
+pub lowered_here : (old new : NodeLabels) (place label : ℕ) → place < length old.of.items → Lowered old new place label → label_at new.of.items place ≤ label
 lowered_here old new place label within (inl (less, of, queue, done)) =
     let at : label_at new.of.items place ≡ label = ap (λ (l : List ℕ). label_at l place) of ∙ get_or-set_same old.of.items place label unlabelled within in
     omega (arith, at)
 lowered_here old new place label within (inr (most, same)) =
-    let at : label_at new.of.items place ≡ label_at old.of.items place = ap (λ (l : Labels). label_at l.of.items place) same in
+    let at : label_at new.of.items place ≡ label_at old.of.items place = ap (λ (l : NodeLabels). label_at l.of.items place) same in
     omega (arith, at, most)
 
 -- a label that is new is this one, at this node
-pub lowered_cases : (old new : Labels) (place label : ℕ) → place < length old.of.items → Lowered old new place label → (p : ℕ) → (label_at new.of.items p ≡ label_at old.of.items p) ⊎ ((p ≡ place) × (label_at new.of.items p ≡ label) × (label < label_at old.of.items place))
+pub lowered_cases : (old new : NodeLabels) (place label : ℕ) → place < length old.of.items → Lowered old new place label → (p : ℕ) → (label_at new.of.items p ≡ label_at old.of.items p) ⊎ ((p ≡ place) × (label_at new.of.items p ≡ label) × (label < label_at old.of.items place))
 lowered_cases old new place label within (inl (less, of, queue, done)) p =
     elim (cases_eq p place) [
       | inl e ↦
@@ -93,9 +93,9 @@ lowered_cases old new place label within (inl (less, of, queue, done)) p =
           inr (e, ap (λ (n : ℕ). label_at new.of.items n) e ∙ at, less)
       | inr ne ↦ inl (ap (λ (l : List ℕ). label_at l p) of ∙ get_or-set_other old.of.items place p label unlabelled ne)
     ]
-lowered_cases old new place label within (inr (most, same)) p = inl (ap (λ (l : Labels). label_at l.of.items p) same)
+lowered_cases old new place label within (inr (most, same)) p = inl (ap (λ (l : NodeLabels). label_at l.of.items p) same)
 
-pub lowered_from : (nodes : List node.Node) (slot : ℕ) (seeds : List Seed) (old new : Labels) (place label : ℕ) → place < length old.of.items → Lowered old new place label
+pub lowered_from : (nodes : List node.Node) (slot : ℕ) (seeds : List Seed) (old new : NodeLabels) (place label : ℕ) → place < length old.of.items → Lowered old new place label
     → ((p : ℕ) → label_at old.of.items p < unlabelled → LeadsToSeed nodes slot seeds p (label_at old.of.items p))
     → (label < unlabelled → LeadsToSeed nodes slot seeds place label)
     → (p : ℕ) → label_at new.of.items p < unlabelled → LeadsToSeed nodes slot seeds p (label_at new.of.items p)
@@ -107,7 +107,7 @@ lowered_from nodes slot seeds old new place label within l are comes p less =
       | inr (at, is, under) ↦ subst P (sym is) (subst Q (sym at) (comes (omega (arith, is, less))))
     ]
 
-pub lowered_fell : (nodes : List node.Node) (slot : ℕ) (old new : Labels) (place label : ℕ) → place < length old.of.items → Lowered old new place label
+pub lowered_fell : (nodes : List node.Node) (slot : ℕ) (old new : NodeLabels) (place label : ℕ) → place < length old.of.items → Lowered old new place label
     → ((seeds : List Seed) → ((p : ℕ) → label_at old.of.items p < unlabelled → LeadsToSeed nodes slot seeds p (label_at old.of.items p)) → label < unlabelled → LeadsToSeed nodes slot seeds place label)
     → LabelsFall nodes slot old new
 lowered_fell nodes slot old new place label within l comes = record {
@@ -115,11 +115,11 @@ lowered_fell nodes slot old new place label within l comes = record {
   from = λ seeds are. lowered_from nodes slot seeds old new place label within l are (comes seeds are);
 }
 
-lowered_len : (old new : Labels) (place label : ℕ) → Lowered old new place label → length new.of.items ≡ length old.of.items
+lowered_len : (old new : NodeLabels) (place label : ℕ) → Lowered old new place label → length new.of.items ≡ length old.of.items
 lowered_len old new place label (inl (less, of, queue, done)) = ap length of ∙ length-set old.of.items place label
-lowered_len old new place label (inr (most, same)) = ap (λ (l : Labels). length l.of.items) same
+lowered_len old new place label (inr (most, same)) = ap (λ (l : NodeLabels). length l.of.items) same
 
-lowered_kept : (old new : Labels) (place label : ℕ) → place < length old.of.items → Lowered old new place label → HasLabelledQueue old → HasLabelledQueue new
+lowered_kept : (old new : NodeLabels) (place label : ℕ) → place < length old.of.items → Lowered old new place label → HasLabelledQueue old → HasLabelledQueue new
 lowered_kept old new place label within (inr (most, same)) k = subst HasLabelledQueue (sym same) k
 lowered_kept old new place label within (inl (less, of, queue, done)) k =
     let l : Lowered old new place label = inl (less, of, queue, done) in
@@ -139,8 +139,8 @@ lowered_kept old new place label within (inl (less, of, queue, done)) k =
           ]);
     }
 
-pub lowered_spreading : (nodes : List node.Node) (slot : ℕ) (old new : Labels) (place label : ℕ) → place < length old.of.items → Lowered old new place label → IsSpreading nodes slot old → IsSpreading nodes slot new
-lowered_spreading nodes slot old new place label within (inr (most, same)) s = let P : Labels → Type 0 = λ l. IsSpreading nodes slot l in subst P (sym same) s
+pub lowered_spreading : (nodes : List node.Node) (slot : ℕ) (old new : NodeLabels) (place label : ℕ) → place < length old.of.items → Lowered old new place label → IsSpreading nodes slot old → IsSpreading nodes slot new
+lowered_spreading nodes slot old new place label within (inr (most, same)) s = let P : NodeLabels → Type 0 = λ l. IsSpreading nodes slot l in subst P (sym same) s
 lowered_spreading nodes slot old new place label within (inl (less, of, queue, done)) s =
     let l : Lowered old new place label = inl (less, of, queue, done) in
     let rest : drop new.done new.queue.items ≡ drop old.done old.queue.items ++ place ∷ [] =
@@ -164,7 +164,7 @@ lowered_spreading nodes slot old new place label within (inl (less, of, queue, d
           ];
     }
 
-pub lowered_weight : (old new : Labels) (place label : ℕ) → place < length old.of.items → Lowered old new place label → weight new ≤ weight old
+pub lowered_weight : (old new : NodeLabels) (place label : ℕ) → place < length old.of.items → Lowered old new place label → weight new ≤ weight old
 lowered_weight old new place label within (inl (less, of, queue, done)) =
     let sums : sum (set old.of.items place label) + label_at old.of.items place ≡ sum old.of.items + label = sum_by-set (λ x. x) old.of.items place label unlabelled within in
     let s : sum new.of.items ≡ sum (set old.of.items place label) = ap sum of in
@@ -174,10 +174,10 @@ lowered_weight old new place label within (inr (most, same)) = let e : weight ne
 
 -- ---- falling
 
-pub fell_none : (nodes : List node.Node) (slot : ℕ) (l : Labels) → LabelsFall nodes slot l l
+pub fell_none : (nodes : List node.Node) (slot : ℕ) (l : NodeLabels) → LabelsFall nodes slot l l
 fell_none nodes slot l = record { falls = λ p. omega arith; from = λ seeds are p less. are p less }
 
-pub fell_then : (nodes : List node.Node) (slot : ℕ) (a b c : Labels) → LabelsFall nodes slot a b → LabelsFall nodes slot b c → LabelsFall nodes slot a c
+pub fell_then : (nodes : List node.Node) (slot : ℕ) (a b c : NodeLabels) → LabelsFall nodes slot a b → LabelsFall nodes slot b c → LabelsFall nodes slot a c
 fell_then nodes slot a b c f g = record {
   falls = λ p. omega (arith, f.falls p, g.falls p);
   from = λ seeds are p less. g.from seeds (f.from seeds are) p less;
@@ -185,7 +185,7 @@ fell_then nodes slot a b c f g = record {
 
 -- ---- one node
 
-pub record Passing (nodes : List node.Node) (slot place : ℕ) (old now : Labels) (tried : List ℕ) : Type 0 where
+pub record Passing (nodes : List node.Node) (slot place : ℕ) (old now : NodeLabels) (tried : List ℕ) : Type 0 where
   pub spreading : IsSpreading nodes slot now
   pub fell : LabelsFall nodes slot old now
   pub done : now.done ≡ old.done
@@ -195,7 +195,7 @@ pub record Passing (nodes : List node.Node) (slot place : ℕ) (old now : Labels
   pub passed : (q : ℕ) → Contains tried q → Unbound slot (shown (step_at nodes q)) → label_at now.of.items q ≤ label_at old.of.items place
   pub weight : weight now ≤ weight old
 
-pub passing_none : (nodes : List node.Node) (slot place : ℕ) (l : Labels) (tried : List ℕ) → IsSpreading nodes slot l → Passing nodes slot place l l (take 0 tried)
+pub passing_none : (nodes : List node.Node) (slot place : ℕ) (l : NodeLabels) (tried : List ℕ) → IsSpreading nodes slot l → Passing nodes slot place l l (take 0 tried)
 passing_none nodes slot place l tried s = record {
   spreading = s;
   fell = fell_none nodes slot l;
@@ -213,7 +213,7 @@ tried_cases members i q below c =
     let C : List ℕ → Type 0 = λ xs. Contains xs q in
     Contains-push_cases (take i members) (get_or members i 0) q (subst C (take_more members i 0 below) c)
 
-pub passing_skip : (nodes : List node.Node) (slot place : ℕ) (old now : Labels) (members : List ℕ) (i q : ℕ) → i < length members → q ≡ get_or members i 0
+pub passing_skip : (nodes : List node.Node) (slot place : ℕ) (old now : NodeLabels) (members : List ℕ) (i q : ℕ) → i < length members → q ≡ get_or members i 0
     → (Unbound slot (shown (step_at nodes q)) → ⊥) → Passing nodes slot place old now (take i members) → Passing nodes slot place old now (take (i + 1) members)
 passing_skip nodes slot place old now members i q below is bound p = record {
   spreading = p.spreading;
@@ -230,15 +230,15 @@ passing_skip nodes slot place old now members i q below is bound p = record {
   weight = p.weight;
 }
 
-lowered_queue : (old new : Labels) (place label : ℕ) → Lowered old new place label → (more : List ℕ) × (new.queue.items ≡ old.queue.items ++ more)
+lowered_queue : (old new : NodeLabels) (place label : ℕ) → Lowered old new place label → (more : List ℕ) × (new.queue.items ≡ old.queue.items ++ more)
 lowered_queue old new place label (inl (less, of, queue, done)) = (place ∷ [], queue)
-lowered_queue old new place label (inr (most, same)) = ([], ap (λ (l : Labels). l.queue.items) same ∙ sym (append-nil old.queue.items))
+lowered_queue old new place label (inr (most, same)) = ([], ap (λ (l : NodeLabels). l.queue.items) same ∙ sym (append-nil old.queue.items))
 
-lowered_done : (old new : Labels) (place label : ℕ) → Lowered old new place label → new.done ≡ old.done
+lowered_done : (old new : NodeLabels) (place label : ℕ) → Lowered old new place label → new.done ≡ old.done
 lowered_done old new place label (inl (less, of, queue, done)) = done
-lowered_done old new place label (inr (most, same)) = ap (λ (l : Labels). l.done) same
+lowered_done old new place label (inr (most, same)) = ap (λ (l : NodeLabels). l.done) same
 
-pub passing_more : (nodes : List node.Node) (slot place : ℕ) (old now new : Labels) (members : List ℕ) (i q : ℕ) → i < length members → q ≡ get_or members i 0
+pub passing_more : (nodes : List node.Node) (slot place : ℕ) (old now new : NodeLabels) (members : List ℕ) (i q : ℕ) → i < length members → q ≡ get_or members i 0
     → Contains (next_at nodes q) place → Unbound slot (shown (step_at nodes q)) → Lowered now new q (label_at old.of.items place)
     → Passing nodes slot place old now (take i members) → Passing nodes slot place old new (take (i + 1) members)
 passing_more nodes slot place old now new members i q below is next free l p =
@@ -274,7 +274,7 @@ passing_more nodes slot place old now new members i q below is next free l p =
       weight = omega (arith, w, p.weight);
     }
 
-pub passing_all : (nodes : List node.Node) (before : List group.Group) (slot place : ℕ) (old now : Labels) (i : ℕ) → AreBefore nodes before → length (members before place) ≤ i
+pub passing_all : (nodes : List node.Node) (before : List group.NodeGroup) (slot place : ℕ) (old now : NodeLabels) (i : ℕ) → AreBefore nodes before → length (members before place) ≤ i
     → Passing nodes slot place old now (take i (members before place)) → LowersBefore nodes slot place old now
 passing_all nodes before slot place old now i are done p = record {
   spreading = p.spreading;
@@ -292,15 +292,15 @@ passing_all nodes before slot place old now i are done p = record {
 
 -- ---- all nodes
 
-pub record Settling (nodes : List node.Node) (slot : ℕ) (old now : Labels) : Type 0 where
+pub record Settling (nodes : List node.Node) (slot : ℕ) (old now : NodeLabels) : Type 0 where
   pub spreading : IsSpreading nodes slot now
   pub fell : LabelsFall nodes slot old now
 
-pub settling_none : (nodes : List node.Node) (slot : ℕ) (l : Labels) → IsSpreading nodes slot l → Settling nodes slot l l
+pub settling_none : (nodes : List node.Node) (slot : ℕ) (l : NodeLabels) → IsSpreading nodes slot l → Settling nodes slot l l
 settling_none nodes slot l s = record { spreading = s; fell = fell_none nodes slot l }
 
 -- one node more has passed its label on
-pub done_more : (nodes : List node.Node) (slot place : ℕ) (now next new : Labels) → now.done < length now.queue.items → place ≡ get_or now.queue.items now.done 0
+pub done_more : (nodes : List node.Node) (slot place : ℕ) (now next new : NodeLabels) → now.done < length now.queue.items → place ≡ get_or now.queue.items now.done 0
     → LowersBefore nodes slot place now next → new.of.items ≡ next.of.items → new.queue.items ≡ next.queue.items → new.done ≡ next.done + 1
     → IsSpreading nodes slot new × (weight new - new.done < weight now - now.done)
 done_more nodes slot place now next new below is l of queue done =
@@ -348,7 +348,7 @@ done_more nodes slot place now next new below is l of queue done =
       omega (arith, nd, nq, ns, w, d, below),
     )
 
-pub settling_more : (nodes : List node.Node) (slot place : ℕ) (old now next new : Labels) → now.done < length now.queue.items → place ≡ get_or now.queue.items now.done 0
+pub settling_more : (nodes : List node.Node) (slot place : ℕ) (old now next new : NodeLabels) → now.done < length now.queue.items → place ≡ get_or now.queue.items now.done 0
     → Settling nodes slot old now → LowersBefore nodes slot place now next → new.of.items ≡ next.of.items → new.queue.items ≡ next.queue.items → new.done ≡ next.done + 1
     → Settling nodes slot old new
 settling_more nodes slot place old now next new below is s l of queue done = record {
@@ -364,13 +364,13 @@ settling_more nodes slot place old now next new below is s l of queue done = rec
 
 -- ---- all seeds
 
-pub record Filling (nodes : List node.Node) (slot : ℕ) (seeds : List Seed) (i : ℕ) (l : Labels) : Type 0 where
+pub record Filling (nodes : List node.Node) (slot : ℕ) (seeds : List Seed) (i : ℕ) (l : NodeLabels) : Type 0 where
   pub spreading : IsSpreading nodes slot l
   pub settled : length l.queue.items ≤ l.done
   pub from : (p : ℕ) → label_at l.of.items p < unlabelled → LeadsToSeed nodes slot seeds p (label_at l.of.items p)
   pub least : (s : Seed) → Contains (take i seeds) s → label_at l.of.items s.place ≤ s.label
 
-unlabelled_spreading : (nodes : List node.Node) (slot : ℕ) (l : Labels) → IsUnlabelled (length nodes) l → IsSpreading nodes slot l
+unlabelled_spreading : (nodes : List node.Node) (slot : ℕ) (l : NodeLabels) → IsUnlabelled (length nodes) l → IsSpreading nodes slot l
 unlabelled_spreading nodes slot l u = record {
   len = u.len;
   kept = record {
@@ -382,7 +382,7 @@ unlabelled_spreading nodes slot l u = record {
   passed = λ q p next free. let e = u.none q in let e' = u.none p in inr (omega (arith, e, e'));
 }
 
-pub filling_none : (nodes : List node.Node) (slot : ℕ) (seeds : List Seed) (l : Labels) → IsUnlabelled (length nodes) l → Filling nodes slot seeds 0 l
+pub filling_none : (nodes : List node.Node) (slot : ℕ) (seeds : List Seed) (l : NodeLabels) → IsUnlabelled (length nodes) l → Filling nodes slot seeds 0 l
 filling_none nodes slot seeds l u = record {
   spreading = unlabelled_spreading nodes slot l u;
   settled = let e : length l.queue.items ≡ 0 = ap length u.queue in omega (arith, e);
@@ -390,7 +390,7 @@ filling_none nodes slot seeds l u = record {
   least = λ s c. absurd (no_element s c);
 }
 
-pub filling_more : (nodes : List node.Node) (slot : ℕ) (seeds : List Seed) (i : ℕ) (s : Seed) (now next new : Labels) → i < length seeds → s ≡ get_or seeds i s → s.place < length nodes
+pub filling_more : (nodes : List node.Node) (slot : ℕ) (seeds : List Seed) (i : ℕ) (s : Seed) (now next new : NodeLabels) → i < length seeds → s ≡ get_or seeds i s → s.place < length nodes
     → Filling nodes slot seeds i now → Lowered now next s.place s.label → Settles nodes slot next new → Filling nodes slot seeds (i + 1) new
 filling_more nodes slot seeds i s now next new below is within f l set =
     let here : s.place < length now.of.items = omega (arith, within, f.spreading.len) in
@@ -420,7 +420,7 @@ filling_more nodes slot seeds i s now next new below is within f l set =
     }
 
 -- with all labels passed on, none is above one that a way leads to
-closed : (nodes : List node.Node) (slot : ℕ) (l : Labels) → IsSpreading nodes slot l → length l.queue.items ≤ l.done
+closed : (nodes : List node.Node) (slot : ℕ) (l : NodeLabels) → IsSpreading nodes slot l → length l.queue.items ≤ l.done
     → (p q : ℕ) (events : List Event) → Trail nodes p events q → Unbound slot events → label_at l.of.items p ≤ label_at l.of.items q
 closed nodes slot l s done _ _ _ (here p) u = omega arith
 closed nodes slot l s done _ _ _ (goes p m q events next way) u =
@@ -432,7 +432,7 @@ closed nodes slot l s done _ _ _ (goes p m q events next way) u =
       | inr under ↦ omega (arith, under, rest)
     ]
 
-pub filling_all : (nodes : List node.Node) (slot : ℕ) (old seeds : List Seed) (i : ℕ) (l : Labels) → length seeds ≤ i → IsPermutation old seeds
+pub filling_all : (nodes : List node.Node) (slot : ℕ) (old seeds : List Seed) (i : ℕ) (l : NodeLabels) → length seeds ≤ i → IsPermutation old seeds
     → Filling nodes slot seeds i l → FirstLabels nodes slot old l
 filling_all nodes slot old seeds i l done sorted f = record {
   len = f.spreading.len;
@@ -450,7 +450,7 @@ filling_all nodes slot old seeds i l done sorted f = record {
 
 -- ---- taking labels off
 
-pub record Clearing (old now : Labels) (i : ℕ) : Type 0 where
+pub record Clearing (old now : NodeLabels) (i : ℕ) : Type 0 where
   pub len : length now.of.items ≡ length old.of.items
   pub most : (p : ℕ) → label_at now.of.items p ≤ unlabelled
   pub left : (p : ℕ) → label_at now.of.items p < unlabelled → Contains (drop i old.queue.items) p
@@ -459,10 +459,10 @@ pub record Clearing (old now : Labels) (i : ℕ) : Type 0 where
 least_of : (n : ℕ) → n ≤ unlabelled → (n < unlabelled → ⊥) → n ≡ unlabelled
 least_of n m h = grind arith
 
-pub clearing_none : (l : Labels) → HasLabelledQueue l → Clearing l l 0
+pub clearing_none : (l : NodeLabels) → HasLabelledQueue l → Clearing l l 0
 clearing_none l k = record { len = refl; most = k.most; left = k.kept; queue = refl }
 
-pub clearing_more : (old now new : Labels) (i place : ℕ) → i < length old.queue.items → place ≡ get_or old.queue.items i 0 → place < length now.of.items
+pub clearing_more : (old now new : NodeLabels) (i place : ℕ) → i < length old.queue.items → place ≡ get_or old.queue.items i 0 → place < length now.of.items
     → new.of.items ≡ set now.of.items place unlabelled → new.queue ≡ now.queue → Clearing old now i → Clearing old new (i + 1)
 clearing_more old now new i place below is within of queue k =
     let rest : drop i old.queue.items ≡ get_or old.queue.items i 0 ∷ drop (i + 1) old.queue.items = drop_more old.queue.items i 0 below in
@@ -487,7 +487,7 @@ clearing_more old now new i place below is within of queue k =
       queue = queue ∙ k.queue;
     }
 
-pub clearing_all : (old now new : Labels) (i count : ℕ) → length old.of.items ≡ count → length old.queue.items ≤ i → Clearing old now i → new.of.items ≡ now.of.items → new.queue.items ≡ [] → new.done ≡ 0
+pub clearing_all : (old now new : NodeLabels) (i count : ℕ) → length old.of.items ≡ count → length old.queue.items ≤ i → Clearing old now i → new.of.items ≡ now.of.items → new.queue.items ≡ [] → new.done ≡ 0
     → IsUnlabelled count new
 clearing_all old now new i count counted done k of queue start = record {
   len = ap length of ∙ (k.len ∙ counted);
@@ -503,7 +503,7 @@ clearing_all old now new i count counted done k of queue start = record {
 
 -- ---- as the code has them
 
-pub tried_skip : (nodes : List node.Node) (before : List group.Group) (slot place : ℕ) (old now : Labels) (items : List ℕ) (i : ℕ) (st : Step) (b : Bool) → items ≡ members before place → i < length items
+pub tried_skip : (nodes : List node.Node) (before : List group.NodeGroup) (slot place : ℕ) (old now : NodeLabels) (items : List ℕ) (i : ℕ) (st : Step) (b : Bool) → items ≡ members before place → i < length items
     → b ≡ binds_slot slot st → st ≡ step_at nodes (get_or items i 0) → b ≡ true
     → Passing nodes slot place old now (take i (members before place)) → Passing nodes slot place old now (take (i + 1) (members before place))
 tried_skip nodes before slot place old now items i st b same below bs sts t p =
@@ -512,15 +512,15 @@ tried_skip nodes before slot place old now items i st b same below bs sts t p =
     let binds : binds_slot slot (step_at nodes (get_or items i 0)) ≡ true = ap (binds_slot slot) (sym sts) ∙ (sym bs ∙ t) in
     subst Q same (passing_skip nodes slot place old now items i (get_or items i 0) below refl (bound_from slot (step_at nodes (get_or items i 0)) binds) (subst P (sym same) p))
 
-tried_next : (nodes : List node.Node) (before : List group.Group) (place : ℕ) (items : List ℕ) (i : ℕ) → AreBefore nodes before → items ≡ members before place → i < length items → Contains (next_at nodes (get_or items i 0)) place
+tried_next : (nodes : List node.Node) (before : List group.NodeGroup) (place : ℕ) (items : List ℕ) (i : ℕ) → AreBefore nodes before → items ≡ members before place → i < length items → Contains (next_at nodes (get_or items i 0)) place
 tried_next nodes before place items i are same below =
     let C : List ℕ → Type 0 = λ l. Contains l (get_or items i 0) in
     (are.exact place (get_or items i 0)).0 (subst C same (Contains-get_or items i 0 below))
 
-pub tried_within : (nodes : List node.Node) (before : List group.Group) (place : ℕ) (items : List ℕ) (i : ℕ) → AreBefore nodes before → items ≡ members before place → i < length items → get_or items i 0 < length nodes
+pub tried_within : (nodes : List node.Node) (before : List group.NodeGroup) (place : ℕ) (items : List ℕ) (i : ℕ) → AreBefore nodes before → items ≡ members before place → i < length items → get_or items i 0 < length nodes
 tried_within nodes before place items i are same below = next_within nodes (get_or items i 0) place (tried_next nodes before place items i are same below)
 
-pub tried_more : (nodes : List node.Node) (before : List group.Group) (slot place label : ℕ) (old now new : Labels) (items : List ℕ) (i : ℕ) (st : Step) (b : Bool) → AreBefore nodes before → items ≡ members before place → i < length items
+pub tried_more : (nodes : List node.Node) (before : List group.NodeGroup) (slot place label : ℕ) (old now new : NodeLabels) (items : List ℕ) (i : ℕ) (st : Step) (b : Bool) → AreBefore nodes before → items ≡ members before place → i < length items
     → b ≡ binds_slot slot st → st ≡ step_at nodes (get_or items i 0) → b ≡ false → label ≡ label_at old.of.items place → Lowered now new (get_or items i 0) label
     → Passing nodes slot place old now (take i (members before place)) → Passing nodes slot place old new (take (i + 1) (members before place))
 tried_more nodes before slot place label old now new items i st b are same below bs sts t is l p =
@@ -532,7 +532,7 @@ tried_more nodes before slot place label old now new items i st b are same below
     (passing_more nodes slot place old now new items i (get_or items i 0) below refl (tried_next nodes before place items i are same below) (free_from slot (step_at nodes (get_or items i 0)) binds)
     (subst L is l) (subst P (sym same) p))
 
-pub cleared_step : (old now new : Labels) (i place : ℕ) → i < length old.queue.items → place ≡ get_or now.queue.items i place → HasLabelledQueue old
+pub cleared_step : (old now new : NodeLabels) (i place : ℕ) → i < length old.queue.items → place ≡ get_or now.queue.items i place → HasLabelledQueue old
     → new.of.items ≡ set now.of.items place unlabelled → new.queue ≡ now.queue → Clearing old now i → Clearing old new (i + 1)
 cleared_step old now new i place below read kept of queue k =
     let q : now.queue.items ≡ old.queue.items = ap (λ (v : Vec ℕ Global). v.items) k.queue in
@@ -547,7 +547,7 @@ seed_within nodes old seeds items i d all sorted is below =
     let A : List Seed → Type 0 = λ l. All P l in
     All-get_or P items i d below (subst A (sym is) (All-permutation P old seeds sorted all))
 
-pub filling_step : (nodes : List node.Node) (slot : ℕ) (seeds : List Seed) (i label : ℕ) (d : Seed) (now next new : Labels) → i < length seeds → (get_or seeds i d).place < length nodes
+pub filling_step : (nodes : List node.Node) (slot : ℕ) (seeds : List Seed) (i label : ℕ) (d : Seed) (now next new : NodeLabels) → i < length seeds → (get_or seeds i d).place < length nodes
     → label ≡ (get_or seeds i d).label
     → Filling nodes slot seeds i now → Lowered now next (get_or seeds i d).place label → Settles nodes slot next new → Filling nodes slot seeds (i + 1) new
 filling_step nodes slot seeds i label d now next new below within is f l set =

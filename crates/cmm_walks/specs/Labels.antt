@@ -8,7 +8,7 @@ use Rattle.walk_tables.specs.declared.node.Step.{Step}
 use Rattle.walk_tables.specs.declared.node.Step.TheVariants as step
 use Rattle.walk_tables.specs.declared.node.Node as node
 use Rattle.cmm_walks.specs.declared.labels.Seed.{Seed}
-use Rattle.cmm_walks.specs.declared.labels.Labels.{Labels}
+use Rattle.cmm_walks.specs.declared.labels.NodeLabels.{NodeLabels}
 
 -- what stands for no label
 abbrev pub unlabelled : ℕ
@@ -41,20 +41,20 @@ pub record LeadsToSeed (nodes : List node.Node) (slot : ℕ) (seeds : List Seed)
   pub is : seed.label ≡ label
 
 -- so many nodes without labels
-pub record IsUnlabelled (count : ℕ) (l : Labels) : Type 0 where
+pub record IsUnlabelled (count : ℕ) (l : NodeLabels) : Type 0 where
   pub len : length l.of.items ≡ count
   pub none : (p : ℕ) → label_at l.of.items p ≡ unlabelled
   pub queue : l.queue.items ≡ []
   pub done : l.done ≡ 0
 
 -- the queue has each node that is labelled, and no number past the nodes
-pub record HasLabelledQueue (l : Labels) : Type 0 where
+pub record HasLabelledQueue (l : NodeLabels) : Type 0 where
   pub most : (p : ℕ) → label_at l.of.items p ≤ unlabelled
   pub within : All (λ p. p < length l.of.items) l.queue.items
   pub kept : (p : ℕ) → label_at l.of.items p < unlabelled → Contains l.queue.items p
 
 -- the node has this label now, if it had a greater one
-abbrev pub Lowered : Labels → Labels → ℕ → ℕ → Type 0
+abbrev pub Lowered : NodeLabels → NodeLabels → ℕ → ℕ → Type 0
 Lowered old new place label =
     ((label < label_at old.of.items place)
     × (new.of.items ≡ set old.of.items place label)
@@ -64,7 +64,7 @@ Lowered old new place label =
 
 -- No node's label is above that of one that may come next, unless it binds the slot, or the next one's label is
 -- still to be passed on.
-pub record IsSpreading (nodes : List node.Node) (slot : ℕ) (l : Labels) : Type 0 where
+pub record IsSpreading (nodes : List node.Node) (slot : ℕ) (l : NodeLabels) : Type 0 where
   pub len : length l.of.items ≡ length nodes
   pub kept : HasLabelledQueue l
   pub done : l.done ≤ length l.queue.items
@@ -72,7 +72,7 @@ pub record IsSpreading (nodes : List node.Node) (slot : ℕ) (l : Labels) : Type
       → Contains (drop l.done l.queue.items) p ⊎ (label_at l.of.items q ≤ label_at l.of.items p)
 
 -- labels only fell, and those that are new come from seeds if the old ones do
-pub record LabelsFall (nodes : List node.Node) (slot : ℕ) (old new : Labels) : Type 0 where
+pub record LabelsFall (nodes : List node.Node) (slot : ℕ) (old new : NodeLabels) : Type 0 where
   pub falls : (p : ℕ) → label_at new.of.items p ≤ label_at old.of.items p
   pub from : (seeds : List Seed)
       → ((p : ℕ) → label_at old.of.items p < unlabelled → LeadsToSeed nodes slot seeds p
@@ -81,11 +81,11 @@ pub record LabelsFall (nodes : List node.Node) (slot : ℕ) (old new : Labels) :
       (label_at new.of.items p)
 
 -- what a worklist has still to do
-abbrev pub weight : Labels → ℕ
+abbrev pub weight : NodeLabels → ℕ
 weight l = sum l.of.items + length l.queue.items
 
 -- the label of a node was passed on
-pub record LowersBefore (nodes : List node.Node) (slot place : ℕ) (old new : Labels) : Type 0 where
+pub record LowersBefore (nodes : List node.Node) (slot place : ℕ) (old new : NodeLabels) : Type 0 where
   pub spreading : IsSpreading nodes slot new
   pub fell : LabelsFall nodes slot old new
   pub done : new.done ≡ old.done
@@ -96,14 +96,14 @@ pub record LowersBefore (nodes : List node.Node) (slot place : ℕ) (old new : L
   pub weight : weight new ≤ weight old
 
 -- all labels were passed on
-pub record Settles (nodes : List node.Node) (slot : ℕ) (old new : Labels) : Type 0 where
+pub record Settles (nodes : List node.Node) (slot : ℕ) (old new : NodeLabels) : Type 0 where
   pub spreading : IsSpreading nodes slot new
   pub fell : LabelsFall nodes slot old new
   pub done : length new.queue.items ≤ new.done
 
 -- each node has the least label of the seeds that it leads to
 pub record FirstLabels (nodes : List node.Node) (slot : ℕ) (seeds : List Seed)
-    (l : Labels) : Type 0 where
+    (l : NodeLabels) : Type 0 where
   pub len : length l.of.items ≡ length nodes
   pub kept : HasLabelledQueue l
   pub from : (p : ℕ)

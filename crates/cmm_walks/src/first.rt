@@ -5,8 +5,8 @@ ghost use Rattle.cmm_walks.specs.Labels.{unlabelled, IsUnlabelled};
 ghost use Rattle.walk_tables.specs.Table.{step_at, slot_below, AreLinked};
 ghost use Rattle.cmm_walks.specs.First.{place_within, binds_address, binds_address_to, own_limit, IsSearch, AreSlotSeeds, IsLeastTold, IsFirstTold};
 
-use crate::groups::{Group, members, nodes_before, nodes_by_slot};
-use crate::labels::{Labels, Seed, step_of};
+use crate::groups::{NodeGroup, members, nodes_before, nodes_by_slot};
+use crate::labels::{NodeLabels, Seed, step_of};
 use crate::limits::{Limits, Part, with_part};
 use crate::seeds::{Goal, add_bindings, point_seeds, use_seeds};
 use std::alloc::{AllocError, Global};
@@ -118,8 +118,8 @@ fn some_address_to(nodes: &[Node], slot: usize, places: &[usize]) -> bool
 #[derive(Drop)]
 struct Search<'a> {
     nodes: &'a [Node],
-    before: Vec<Group>,
-    mentions: Vec<Group>,
+    before: Vec<NodeGroup>,
+    mentions: Vec<NodeGroup>,
     bound: usize,
 }
 
@@ -130,7 +130,7 @@ impl<'a> Search<'a> {
         alloc: Global,
         goal: Goal,
         slot: usize,
-        labels: &mut Labels,
+        labels: &mut NodeLabels,
         found: &mut Vec<Seed>,
     ) -> Result<(), AllocError>
         requires search { IsSearch self.now }
@@ -161,7 +161,7 @@ impl<'a> Search<'a> {
         requires fits { own_limit goal < unlabelled }
         ensures { IfOk result (λ told. IsLeastTold self.now.nodes.now entry goal told) }
     {
-        let mut labels = Labels::new(alloc, self.nodes.len())?;
+        let mut labels = NodeLabels::new(alloc, self.nodes.len())?;
         let mut found = Vec::new(alloc);
         for slot in 0..self.bound {
             self.search_slot(alloc, goal, slot, &mut labels, &mut found)?;

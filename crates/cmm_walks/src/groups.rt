@@ -9,19 +9,19 @@ use walk_tables::{Node, Step};
 
 /// Numbers of nodes.
 #[derive(Drop)]
-pub struct Group {
+pub struct NodeGroup {
     /// The numbers themselves.
     pub members: Vec<usize>,
 }
 
 /// So many empty groups.
-fn groups(alloc: Global, count: usize) -> Result<Vec<Group>, AllocError>
+fn groups(alloc: Global, count: usize) -> Result<Vec<NodeGroup>, AllocError>
     ensures len { IfOk result (λ groups. length groups.items ≡ count) }
     ensures empty { IfOk result (λ groups. (k : ℕ) → members groups.items k ≡ []) }
 {
     let mut groups = Vec::with_capacity(alloc, count)?;
     for _group in 0..count {
-        groups.push(Group {
+        groups.push(NodeGroup {
             members: Vec::new(alloc),
         })?;
     }
@@ -29,7 +29,7 @@ fn groups(alloc: Global, count: usize) -> Result<Vec<Group>, AllocError>
 }
 
 /// Adds a member to a group.
-fn add(groups: &mut Vec<Group>, k: usize, member: usize) -> Result<(), AllocError>
+fn add(groups: &mut Vec<NodeGroup>, k: usize, member: usize) -> Result<(), AllocError>
     requires { k < length groups.old.items }
     ensures { IfOk result (λ _. Added groups.old.items groups.new.items k member) }
 {
@@ -39,7 +39,11 @@ fn add(groups: &mut Vec<Group>, k: usize, member: usize) -> Result<(), AllocErro
 }
 
 /// Adds a member to each of these groups.
-fn add_to_all(groups: &mut Vec<Group>, targets: &[usize], member: usize) -> Result<(), AllocError>
+fn add_to_all(
+    groups: &mut Vec<NodeGroup>,
+    targets: &[usize],
+    member: usize,
+) -> Result<(), AllocError>
     requires { All (λ k. k < length groups.old.items) targets.now }
     ensures len { IfOk result (λ _. length groups.new.items ≡ length groups.old.items) }
     ensures exact { IfOk result (λ _. (j x : ℕ) → Contains (members groups.new.items j) x
@@ -52,7 +56,7 @@ fn add_to_all(groups: &mut Vec<Group>, targets: &[usize], member: usize) -> Resu
 }
 
 /// The nodes that may come before each node. The only error is want of memory.
-pub fn nodes_before(alloc: Global, nodes: &[Node]) -> Result<Vec<Group>, AllocError>
+pub fn nodes_before(alloc: Global, nodes: &[Node]) -> Result<Vec<NodeGroup>, AllocError>
     requires { AreLinked nodes.now }
     ensures { IfOk result (λ before. AreBefore nodes.now before.items) }
 {
@@ -66,7 +70,7 @@ pub fn nodes_before(alloc: Global, nodes: &[Node]) -> Result<Vec<Group>, AllocEr
 }
 
 /// Adds a node to the group of the slot that it names, if it names one.
-fn add_slot(groups: &mut Vec<Group>, step: Step, number: usize) -> Result<(), AllocError>
+fn add_slot(groups: &mut Vec<NodeGroup>, step: Step, number: usize) -> Result<(), AllocError>
     requires { slot_below (length groups.old.items) step }
     ensures { IfOk result (λ _. HasSlotAdded groups.old.items groups.new.items step number) }
 {
@@ -93,13 +97,13 @@ pub fn nodes_by_slot(
     alloc: Global,
     nodes: &[Node],
     greatest: usize,
-) -> Result<Vec<Group>, AllocError>
+) -> Result<Vec<NodeGroup>, AllocError>
     requires { AreNodes (suc greatest) nodes.now }
     ensures len { IfOk result (λ mentions. length mentions.items ≡ suc greatest) }
     ensures named { IfOk result (λ mentions. AreMentions nodes.now mentions.items) }
 {
     let mut mentions = groups(alloc, greatest)?;
-    mentions.push(Group {
+    mentions.push(NodeGroup {
         members: Vec::new(alloc),
     })?;
     let mut number: usize = 0;
@@ -111,7 +115,7 @@ pub fn nodes_by_slot(
 }
 
 /// The members of a group. There are none past the last group.
-pub fn members(groups: &[Group], k: usize) -> &[usize]
+pub fn members(groups: &[NodeGroup], k: usize) -> &[usize]
     ensures { result.now ≡ members groups.now k }
 {
     match groups.get(k) {

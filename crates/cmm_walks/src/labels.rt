@@ -5,7 +5,7 @@ ghost use Rattle.cmm_walks.specs.Groups.{AreBefore};
 ghost use Rattle.walk_tables.specs.Table.{step_at};
 ghost use Rattle.cmm_walks.specs.Labels.{label_at, binds_slot, IsUnlabelled, Lowered, HasLabelledQueue, IsSpreading, LowersBefore, Settles, FirstLabels, known_label};
 
-use crate::groups::{Group, members};
+use crate::groups::{NodeGroup, members};
 use std::alloc::{AllocError, Global};
 use walk_tables::{Node, Step};
 
@@ -24,7 +24,7 @@ pub struct Seed {
 /// The labels of nodes, and the nodes that were labelled, in their order; those before `done` have passed
 /// their labels on.
 #[derive(Drop)]
-pub struct Labels {
+pub struct NodeLabels {
     /// The label of each node by its number, or 2^32 where it has none.
     pub of: Vec<u64>,
     /// The numbers of the nodes that were labelled, in the order in which they were.
@@ -59,7 +59,7 @@ fn binds(step: Step, slot: usize) -> bool
     }
 }
 
-impl Labels {
+impl NodeLabels {
     /// So many nodes without labels. The only error is want of memory.
     pub fn new(alloc: Global, count: usize) -> Result<Self, AllocError>
         ensures { IfOk result (λ labels. IsUnlabelled count labels) }
@@ -68,7 +68,7 @@ impl Labels {
         for _node in 0..count {
             of.push(UNLABELLED)?;
         }
-        Ok(Labels {
+        Ok(NodeLabels {
             of,
             queue: Vec::new(alloc),
             done: 0,
@@ -116,7 +116,7 @@ impl Labels {
     fn lower_before(
         &mut self,
         nodes: &[Node],
-        before: &[Group],
+        before: &[NodeGroup],
         slot: usize,
         place: usize,
     ) -> Result<(), AllocError>
@@ -134,7 +134,12 @@ impl Labels {
     }
 
     /// Passes all labels on.
-    fn settle(&mut self, nodes: &[Node], before: &[Group], slot: usize) -> Result<(), AllocError>
+    fn settle(
+        &mut self,
+        nodes: &[Node],
+        before: &[NodeGroup],
+        slot: usize,
+    ) -> Result<(), AllocError>
         requires before { AreBefore nodes.now before.now }
         requires spreading { IsSpreading nodes.now slot self.old }
         ensures { IfOk result (λ _. Settles nodes.now slot self.old self.new) }
@@ -153,7 +158,7 @@ impl Labels {
     pub fn fill(
         &mut self,
         nodes: &[Node],
-        before: &[Group],
+        before: &[NodeGroup],
         slot: usize,
         seeds: &mut Vec<Seed>,
     ) -> Result<(), AllocError>

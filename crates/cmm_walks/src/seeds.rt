@@ -3,7 +3,7 @@ ghost use Rattle.std.specs.Prelude.{◌≡◌, ◌++◌, filter_map, flat_map, o
 ghost use Rattle.walk_tables.specs.Table.{step_at, next_at};
 ghost use Rattle.cmm_walks.specs.Seeds.{within, used_label, point_label, bound_label, later, seed_with, use_seed, point_seed, binding_seed, binding_seeds};
 
-use crate::labels::{Labels, Seed, step_of};
+use crate::labels::{NodeLabels, Seed, step_of};
 use crate::limits::{Limits, Part};
 use std::alloc::{AllocError, Global};
 use walk_tables::{Node, Step};
@@ -103,7 +103,7 @@ fn use_seed(nodes: &[Node], goal: Goal, slot: usize, place: usize) -> Option<See
 }
 
 /// The seed of a node that is a frame point, from its own label.
-fn point_seed(nodes: &[Node], goal: Goal, labels: &Labels, place: usize) -> Option<Seed>
+fn point_seed(nodes: &[Node], goal: Goal, labels: &NodeLabels, place: usize) -> Option<Seed>
     ensures { result ≡ point_seed goal labels.now.of.items place (step_at nodes.now place) }
 {
     match step_of(nodes, place) {
@@ -122,7 +122,7 @@ fn point_seed(nodes: &[Node], goal: Goal, labels: &Labels, place: usize) -> Opti
 fn binding_seed(
     step: Step,
     goal: Goal,
-    labels: &Labels,
+    labels: &NodeLabels,
     slot: usize,
     place: usize,
     next: usize,
@@ -184,7 +184,7 @@ pub fn point_seeds(
     alloc: Global,
     nodes: &[Node],
     goal: Goal,
-    labels: &Labels,
+    labels: &NodeLabels,
 ) -> Result<Vec<Seed>, AllocError>
     ensures { IfOk result (λ seeds. seeds.items
         ≡ filter_map (λ p. point_seed goal labels.now.of.items p (step_at nodes.now p))
@@ -211,7 +211,7 @@ fn next_of(nodes: &[Node], place: usize) -> &[usize]
 fn add_binding(
     nodes: &[Node],
     goal: Goal,
-    labels: &Labels,
+    labels: &NodeLabels,
     slot: usize,
     place: usize,
     seeds: &mut Vec<Seed>,
@@ -231,7 +231,7 @@ fn add_binding(
 pub fn add_bindings(
     nodes: &[Node],
     goal: Goal,
-    labels: &Labels,
+    labels: &NodeLabels,
     slot: usize,
     places: &[usize],
     seeds: &mut Vec<Seed>,

@@ -5,7 +5,7 @@ use Rattle.std.proofs.lemmas.Bool.{true≢false, ltb-true, lt-ltb, leb-true, le-
 use Rattle.std.proofs.lemmas.List.{length-set, map-append, get_or_append_left, set-append_left}
 use Rattle.std.proofs.Math.Seq.{map-set_same}
 use Rattle.bs_words.specs.Fits.{fits, misfit}
-use Rattle.bs_words.specs.Memory.{Memory, HeapBlock, StaticList, Cell, InHeader, InBlock, InStatic, sizes, loaded_from, loaded_as, stored, stored_in, stored_as, put_in, put_part, put_whole, replaced, with_value, value_in, type_in, cell_at, in_block, cell_of_block, in_statics, width, offset_in_cell, end_of_data}
+use Rattle.bs_words.specs.Memory.{Memory, HeapBlock, StaticList, Cell, InHeader, InBlock, InStatic, sizes, loaded_from, loaded_as, stored, stored_in, stored_as, put_in, put_part, put_whole, replaced, with_cell_value, value_in_cell, type_in, cell_at, in_block, cell_of_block, in_statics, width, offset_in_cell, end_of_data}
 use Rattle.bs_words.specs.Operators.{apply, is_in, is_near, equality_of, order_of, comparison_of, as_value, unequal_if, signed_holds, unsigned_holds}
 use Rattle.bs_words.specs.Operators as operators
 use Rattle.bs_words.specs.declared.operators.CmpOp.{CmpOp}
@@ -211,7 +211,7 @@ module _ (fs : List HeapBlock) where
   block_same : (m : Memory) (t : ℕ) → t < length m.blocks → slice_index_or (m.blocks ++ fs) t (record { header = 0; cells = [] }) ≡ slice_index_or m.blocks t (record { header = 0; cells = [] })
   block_same m t lt = get_or_append_left m.blocks fs (record { header = 0; cells = [] }) t lt
 
-  value_same : (m : Memory) (cell : Cell) → Low (length m.blocks) cell → value_in (with_fresh m) cell ≡ value_in m cell
+  value_same : (m : Memory) (cell : Cell) → Low (length m.blocks) cell → value_in_cell (with_fresh m) cell ≡ value_in_cell m cell
   value_same m (InHeader t) (low_header lt) = ap (λ (b : HeapBlock). value.Word b.header) (block_same m t lt)
   value_same m (InBlock t i) (low_block lt) = ap (λ (b : HeapBlock). slice_index_or b.cells i (value.Word 0)) (block_same m t lt)
   value_same m (InStatic l i) low_static = refl
@@ -228,12 +228,12 @@ module _ (fs : List HeapBlock) where
     is_stored : {bs : List HeapBlock} {ss : List StaticList} → length bs ≡ length m.blocks → map shape_of bs ≡ map shape_of m.blocks →
         Stored m (Ok (record m { blocks = bs; statics = ss })) (Ok (record m { blocks = bs ++ fs; statics = ss }))
 
-  with_same : (m : Memory) (cell : Cell) (v : Value) → Low (length m.blocks) cell → Stored m (Ok (with_value m cell v)) (Ok (with_value (with_fresh m) cell v))
+  with_same : (m : Memory) (cell : Cell) (v : Value) → Low (length m.blocks) cell → Stored m (Ok (with_cell_value m cell v)) (Ok (with_cell_value (with_fresh m) cell v))
   with_same m (InHeader t) v (low_header lt) = is_stored refl refl
   with_same m (InBlock t i) v (low_block lt) =
       let b : HeapBlock = slice_index_or m.blocks t (record { header = 0; cells = [] }) in
-      subst (λ (z : HeapBlock). Stored m (Ok (with_value m (InBlock t i) v)) (Ok (record m { blocks = slice_set (m.blocks ++ fs) t (record z { cells = slice_set z.cells i v }) }))) (sym (block_same m t lt))
-      (subst (λ bs. Stored m (Ok (with_value m (InBlock t i) v)) (Ok (record m { blocks = bs }))) (sym (set-append_left m.blocks fs t (record b { cells = slice_set b.cells i v }) lt))
+      subst (λ (z : HeapBlock). Stored m (Ok (with_cell_value m (InBlock t i) v)) (Ok (record m { blocks = slice_set (m.blocks ++ fs) t (record z { cells = slice_set z.cells i v }) }))) (sym (block_same m t lt))
+      (subst (λ bs. Stored m (Ok (with_cell_value m (InBlock t i) v)) (Ok (record m { blocks = bs }))) (sym (set-append_left m.blocks fs t (record b { cells = slice_set b.cells i v }) lt))
       (is_stored (length-set m.blocks t (record b { cells = slice_set b.cells i v }))
       (map-set_same shape_of m.blocks t (record b { cells = slice_set b.cells i v }) (record { header = 0; cells = [] })
       (ap (λ k. record { header = b.header; cells = k }) (length-set b.cells i v)))))
@@ -241,9 +241,9 @@ module _ (fs : List HeapBlock) where
 
   put_in_same : (end : ℕ) (m : Memory) (cell : Cell) (v : Value) → Low (length m.blocks) cell → Stored m (put_in end m cell v) (put_in end (with_fresh m) cell v)
   put_in_same end m cell v low =
-      subst (λ t. Stored m (put_in end m cell v) (cond (fits end t v) (Ok (with_value (with_fresh m) cell v)) (Err (misfit t)))) (sym (type_same m cell low)) (by (fits end (type_in m cell) v))
+      subst (λ t. Stored m (put_in end m cell v) (cond (fits end t v) (Ok (with_cell_value (with_fresh m) cell v)) (Err (misfit t)))) (sym (type_same m cell low)) (by (fits end (type_in m cell) v))
     where
-      by : (b : Bool) → Stored m (cond b (Ok (with_value m cell v)) (Err (misfit (type_in m cell)))) (cond b (Ok (with_value (with_fresh m) cell v)) (Err (misfit (type_in m cell))))
+      by : (b : Bool) → Stored m (cond b (Ok (with_cell_value m cell v)) (Err (misfit (type_in m cell)))) (cond b (Ok (with_cell_value (with_fresh m) cell v)) (Err (misfit (type_in m cell))))
       by true = with_same m cell v low
       by false = not_stored
 
@@ -262,10 +262,10 @@ module _ (fs : List HeapBlock) where
       by false = not_stored
 
   part_same : (k : Chunk) (end : ℕ) (m : Memory) (cell : Cell) (offset : ℕ) (v : Value) → Low (length m.blocks) cell →
-      Stored m (put_part end m cell offset (width k) (value_in m cell) v) (put_part end (with_fresh m) cell offset (width k) (value_in (with_fresh m) cell) v)
+      Stored m (put_part end m cell offset (width k) (value_in_cell m cell) v) (put_part end (with_fresh m) cell offset (width k) (value_in_cell (with_fresh m) cell) v)
   part_same k end m cell offset v low =
-      subst (λ old. Stored m (put_part end m cell offset (width k) (value_in m cell) v) (put_part end (with_fresh m) cell offset (width k) old v)) (sym (value_same m cell low))
-      (put_part_same end m cell offset (width k) (value_in m cell) v low)
+      subst (λ old. Stored m (put_part end m cell offset (width k) (value_in_cell m cell) v) (put_part end (with_fresh m) cell offset (width k) old v)) (sym (value_same m cell low))
+      (put_part_same end m cell offset (width k) (value_in_cell m cell) v low)
 
   stored_as_same : (k : Chunk) (end : ℕ) (m : Memory) (cell : Cell) (offset : ℕ) (v : Value) → Low (length m.blocks) cell → Stored m (stored_as k end m cell offset v) (stored_as k end (with_fresh m) cell offset v)
   stored_as_same chunk.Int end m cell offset v low = put_whole_same ty.Int end m cell v low
@@ -372,9 +372,9 @@ module _ (b : NewBlock) (a : Around) where
       (subst (λ v. Steadies b a (loaded_act a (Some cell) (loaded_from k a.memory offset (Some cell))) (cond (is_among_cells cell a.unwritten) Stuck (one_result (with_block b a) (loaded_as k (end_of_data a.memory) offset v)))) (sym (value_same fs a.memory cell low))
       (by (is_among_cells cell a.unwritten)))
     where
-      by : (z : Bool) → Steadies b a (cond z Stuck (one_result a (loaded_as k (end_of_data a.memory) offset (value_in a.memory cell)))) (cond z Stuck (one_result (with_block b a) (loaded_as k (end_of_data a.memory) offset (value_in a.memory cell))))
+      by : (z : Bool) → Steadies b a (cond z Stuck (one_result a (loaded_as k (end_of_data a.memory) offset (value_in_cell a.memory cell)))) (cond z Stuck (one_result (with_block b a) (loaded_as k (end_of_data a.memory) offset (value_in_cell a.memory cell))))
       by true = is_lost
-      by false = one_steady (firm (loaded_as k (end_of_data a.memory) offset (value_in a.memory cell)))
+      by false = one_steady (firm (loaded_as k (end_of_data a.memory) offset (value_in_cell a.memory cell)))
 
   goes_same : (after w : Around) → length after.memory.blocks ≡ count →
       map shape_of after.memory.blocks ≡ map shape_of a.memory.blocks → after.tries ≡ a.tries → w ≡ with_block b after → Steadies b a (Goes [] On after) (Goes [] On w)
@@ -412,8 +412,8 @@ module _ (b : NewBlock) (a : Around) where
 
   first_steady : (k : Chunk) (cell : Cell) → Low count cell → (x v : Value) → Stored fs a.memory (stored k a.memory x v) (stored k more x v) → Steadies b a (first_written k a cell x v) (first_written k (with_block b a) cell x v)
   first_steady k (InHeader t) (low_header lt) x v s =
-      subst (λ h. Steadies b a (header_written k a t (value_in a.memory (InHeader t)) v) (header_written k (with_block b a) t h v))
-      (sym (value_same fs a.memory (InHeader t) (low_header lt))) (header_steady k t lt (value_in a.memory (InHeader t)) v)
+      subst (λ h. Steadies b a (header_written k a t (value_in_cell a.memory (InHeader t)) v) (header_written k (with_block b a) t h v))
+      (sym (value_same fs a.memory (InHeader t) (low_header lt))) (header_steady k t lt (value_in_cell a.memory (InHeader t)) v)
   first_steady k (InBlock t i) (low_block lt) x v s =
       only_steady (nat_eq (width k) 8)
       (after_steady (without (InBlock t i) a.unwritten) (without (InBlock t i) (unwritten_with count b a.unwritten)) (without_low count (InBlock t i) (low_block lt) b a.unwritten) s)

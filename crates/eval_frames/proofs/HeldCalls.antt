@@ -26,7 +26,7 @@ use Rattle.cmm_meaning.specs.Evaluation.{NotProper, Evaluation, Stops, Surroundi
 use Rattle.cmm_meaning.specs.Run.{activated, first_world, finished, cmm_run}
 use Rattle.meaning_fuel.proofs.Depth.{whole_call, whole_run}
 use Rattle.eval_frames.specs.Annotated.{IsTyped, FitsFunction, FitsEntry}
-use Rattle.eval_frames.specs.Around.{functions_in, activated_held, whole}
+use Rattle.eval_frames.specs.Around.{functions_in, activated_held, surroundings_of_file}
 use Rattle.eval_frames.proofs.Same.{scope_bound}
 use Rattle.eval_frames.proofs.HeldSame.{same_held}
 
@@ -95,10 +95,10 @@ activated_same s frame f t end arguments e below w =
 pub whole_call_held : (file : File) (layout : Layout) → IsTyped file → (call : Called) (f : Function) →
     slice_get (functions_in (contents file.items)) call.function ≡ Some f → (end : ℕ) →
     fit_parameters end (comps_of (function_view f)) call.arguments ≡ true → (w : World) →
-    (whole file layout).call call w
-    ≡ activated_held (whole file layout) (slice_index layout.frames call.function) (Some f) call.arguments call.below w
+    (surroundings_of_file file layout).call call w
+    ≡ activated_held (surroundings_of_file file layout) (slice_index layout.frames call.function) (Some f) call.arguments call.below w
 whole_call_held file layout t call f e end fit w =
-    let s : Surroundings = whole file layout in
+    let s : Surroundings = surroundings_of_file file layout in
     let k : ℕ = call.function in
     let frame : ℕ = slice_index layout.frames k in
     whole_call (file_view file) layout call w
@@ -119,11 +119,11 @@ cond_where false x y z p = refl
 
 called_option : (file : File) (layout : Layout) → IsTyped file → (k : ℕ) (o : Option Function) → slice_get (functions_in (contents file.items)) k ≡ o →
     (arguments : List Value) (result : Ret) (tail : Bool) (h : Here) (w : World) →
-    called_with (whole file layout) (option_map comps_of (option_map function_view o)) k arguments result tail h w
-    ≡ called_held (whole file layout) (slice_index layout.frames k) o arguments result tail h w
+    called_with (surroundings_of_file file layout) (option_map comps_of (option_map function_view o)) k arguments result tail h w
+    ≡ called_held (surroundings_of_file file layout) (slice_index layout.frames k) o arguments result tail h w
 called_option file layout t k None e arguments result tail h w = refl
 called_option file layout t k (Some f) e arguments result tail h w =
-    let s : Surroundings = whole file layout in
+    let s : Surroundings = surroundings_of_file file layout in
     let frame : ℕ = slice_index layout.frames k in
     let written : Evaluation → Evaluation = λ x. and_then (back_from_call h x) (λ v h w. as_written result v h w) in
     cond_where (fit_parameters s.end (comps_of (function_view f)) arguments)
@@ -134,10 +134,10 @@ called_option file layout t k (Some f) e arguments result tail h w =
 -- a call of the function of a number, whether it is there and the arguments fit it or not
 pub applied_held : (file : File) (layout : Layout) → IsTyped file → (k : ℕ) (arguments : List Value) (result : Ret) (tail : Bool)
     (h : Here) (w : World) →
-    applied (whole file layout) (value.Function k) arguments result tail h w
-    ≡ called_held (whole file layout) (slice_index layout.frames k) (slice_get (functions_in (contents file.items)) k) arguments result tail h w
+    applied (surroundings_of_file file layout) (value.Function k) arguments result tail h w
+    ≡ called_held (surroundings_of_file file layout) (slice_index layout.frames k) (slice_get (functions_in (contents file.items)) k) arguments result tail h w
 applied_held file layout t k arguments result tail h w =
-    ap (λ (o : Option (List Comp)). called_with (whole file layout) o k arguments result tail h w)
+    ap (λ (o : Option (List Comp)). called_with (surroundings_of_file file layout) o k arguments result tail h w)
     (slice_get-map comps_of (functions (file_view file)) k ∙ ap (option_map comps_of) (function_seen file k))
     ∙ called_option file layout t k (slice_get (functions_in (contents file.items)) k) refl arguments result tail h w
 
@@ -146,21 +146,21 @@ applied_held file layout t k arguments result tail h w =
 -- the run of a function on arguments that fit it
 entry_held : (file : File) (layout : Layout) → IsTyped file → (k : ℕ) (o : Option Function) → slice_get (functions_in (contents file.items)) k ≡ o →
     (arguments : List ℕ) → FitsFunction (data_end (file_view file)) (option_map function_view o) arguments → (below : ℕ) (w : World) →
-    activated (whole file layout) (slice_index layout.frames k) (option_map function_view o) (map Word arguments) below w
-    ≡ activated_held (whole file layout) (slice_index layout.frames k) o (map Word arguments) below w
+    activated (surroundings_of_file file layout) (slice_index layout.frames k) (option_map function_view o) (map Word arguments) below w
+    ≡ activated_held (surroundings_of_file file layout) (slice_index layout.frames k) o (map Word arguments) below w
 entry_held file layout t k None e arguments fit below w = refl
 entry_held file layout t k (Some f) e arguments fit below w =
-    sym (activated_same (whole file layout) (slice_index layout.frames k) f (function_typed (contents file.items) t k f e) (data_end (file_view file))
+    sym (activated_same (surroundings_of_file file layout) (slice_index layout.frames k) f (function_typed (contents file.items) t k f e) (data_end (file_view file))
     (map Word arguments) fit below w)
 
 pub run_held : (file : File) (layout : Layout) → IsTyped file → (entry : ℕ) (arguments answers : List ℕ) (n : ℕ) →
     FitsEntry (file_view file) entry arguments →
     cmm_run (file_view file) layout entry arguments answers n
     ≡ finished layout
-    (activated_held (whole file layout) (slice_index layout.frames entry) (slice_get (functions_in (contents file.items)) entry) (map Word arguments) 0
+    (activated_held (surroundings_of_file file layout) (slice_index layout.frames entry) (slice_get (functions_in (contents file.items)) entry) (map Word arguments) 0
     (first_world (file_view file) answers n))
 run_held file layout t entry arguments answers n fit =
-    let s : Surroundings = whole file layout in
+    let s : Surroundings = surroundings_of_file file layout in
     let frame : ℕ = slice_index layout.frames entry in
     let w : World = first_world (file_view file) answers n in
     let seen = function_seen file entry in

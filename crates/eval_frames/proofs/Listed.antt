@@ -16,7 +16,7 @@ use Rattle.cmm_meaning.specs.State.{World, Here}
 use Rattle.cmm_meaning.specs.Evaluation.{Body, Evaluated, Evaluation, Gives, Exits, Raises, Stops, Surroundings, and_then, with_value, tested, with_bound}
 use Rattle.cmm_meaning.specs.Choices.{Chosen, is_named, last_naming, first_case, ready_for}
 use Rattle.eval_frames.specs.Held.{inside, in_order_held, bindings_held, choices_held, readied_held}
-use Rattle.eval_frames.specs.Filled.{expression, elements_from, scoped_binding, bindings_from, first_bound, body_of, case_ready, cases_ready, handler_ready, handlers_ready, handlers_of}
+use Rattle.eval_frames.specs.Filled.{evaluated_expression, elements_from, scoped_binding, bindings_from, first_bound, body_of, case_ready, cases_ready, handler_ready, handlers_ready, ready_handlers}
 use Rattle.bs_words.proofs.Lists.{drop_step}
 
 -- what goes on alike gives the same
@@ -44,7 +44,7 @@ pub in_order_is : (s : Surroundings) (n : Count) (k : form.Row_of-Expr n) (tail 
 in_order_is s n form.end_of-Expr tail h w = refl
 in_order_is s n (form.more_of-Expr at type f form.end_of-Expr) tail h w = refl
 in_order_is s n (form.more_of-Expr at type f (form.more_of-Expr next next_type g rest)) tail h w =
-    then_same (expression s (record { at = at; ty = type; form = f }) false h w)
+    then_same (evaluated_expression s (record { at = at; ty = type; form = f }) false h w)
     (λ _ h w. in_order_held s (form.more_of-Expr next next_type g rest) tail h w)
     (λ _ h w. elements_from s (form.items-the_row-Expr _ (form.more_of-Expr next next_type g rest)) tail h w)
     (λ _ h w. in_order_is s _ (form.more_of-Expr next next_type g rest) tail h w)
@@ -57,7 +57,7 @@ sequence_is s v tail h w =
 
 -- an element that others follow, and then those
 pub elements_first : (s : Surroundings) (elements : List Expr) (e : Expr) (rest : List Expr) (tail : Bool) → elements ≡ e ∷ rest → (rest ≡ [] → ⊥) →
-    (h : Here) (w : World) → and_then (expression s e false h w) (λ _ h w. elements_from s rest tail h w) ≡ elements_from s elements tail h w
+    (h : Here) (w : World) → and_then (evaluated_expression s e false h w) (λ _ h w. elements_from s rest tail h w) ≡ elements_from s elements tail h w
 elements_first s elements e [] tail is some h w = absurd (some refl)
 elements_first s elements e (next ∷ rest) tail is some h w = ap (λ l. elements_from s l tail h w) (sym is)
 
@@ -66,7 +66,7 @@ pub bindings_is : (s : Surroundings) (n : Count) (k : form.Row_of-Binding n) (h 
 bindings_is s n form.end_of-Binding h w = refl
 bindings_is s n (form.more_of-Binding at name declared value_at type f rest) h w =
     let b : Binding = record { at = at; name = name; declared = declared; value = record { at = value_at; ty = type; form = f } } in
-    value_same (expression s b.value false h w)
+    value_same (evaluated_expression s b.value false h w)
     (λ v h w. tested s.end (scoped_binding b).type v w (bindings_held s rest (with_bound (scoped_binding b ∷ []) (v ∷ []) h) w))
     (λ v h w. tested s.end (scoped_binding b).type v w (bindings_from s (form.items-the_row-Binding _ rest) (with_bound (scoped_binding b ∷ []) (v ∷ []) h) w))
     (λ v h w. ap (tested s.end (scoped_binding b).type v w) (bindings_is s _ rest (with_bound (scoped_binding b ∷ []) (v ∷ []) h) w))
@@ -81,10 +81,10 @@ let_is s v b tail h w =
 
 -- the value of the first binding, and then the others
 pub bindings_first : (s : Surroundings) (bindings : List Binding) (b : Binding) (rest : List Binding) → bindings ≡ b ∷ rest → (h : Here) (w : World) →
-    with_value (expression s b.value false h w) (λ v h w. first_bound s bindings v h w) ≡ bindings_from s bindings h w
+    with_value (evaluated_expression s b.value false h w) (λ v h w. first_bound s bindings v h w) ≡ bindings_from s bindings h w
 bindings_first s bindings b rest e h w =
     let P : List Binding → Type 0 =
-    λ l. with_value (expression s b.value false h w) (λ v h w. first_bound s l v h w) ≡ bindings_from s l h w in
+    λ l. with_value (evaluated_expression s b.value false h w) (λ v h w. first_bound s l v h w) ≡ bindings_from s l h w in
     subst P (sym e) refl
 
 -- ---- cases of a switch
@@ -125,7 +125,7 @@ readied_is s n (form.more_of-Handler at label params body_at type f rest) tail =
     (readied_is s _ rest tail)
 
 pub handlers_is : (s : Surroundings) (b : Box Expr Global) (v : Vec Handler Global) (tail : Bool) →
-    handlers_of s (form.Catch b v) tail ≡ handlers_ready s tail v.items
+    ready_handlers s (form.Catch b v) tail ≡ handlers_ready s tail v.items
 handlers_is s b v tail =
     readied_is s (handlers_in (form.Catch b v)).0 (handlers_in (form.Catch b v)).1 tail ∙ ap (handlers_ready s tail) (form.items_hidden-the_row-Handler-3 v)
 

@@ -16,7 +16,7 @@ use Rattle.cmm_meaning.specs.Evaluation.{Evaluation, Stops, NotProper, scoped_pa
 use Rattle.cmm_meaning.specs.Evaluation as evaluation
 use Rattle.meaning_fuel.specs.Whole as fuel
 use Rattle.eval_frames.specs.Annotated.{IsTyped}
-use Rattle.eval_frames.specs.Filled.{expression}
+use Rattle.eval_frames.specs.Filled.{evaluated_expression}
 use Rattle.eval_frames.specs.Views.{layout_view}
 use Rattle.eval_frames.specs.declared.around.Surroundings.{Surroundings}
 
@@ -36,14 +36,14 @@ activated_held s frame (Some f) arguments below w =
       frame = frame;
       tries = 0;
     } in
-    expression s f.body true here (deepened (below + frame) w)
+    evaluated_expression s f.body true here (deepened (below + frame) w)
 
 -- what is round a run of a file
-abbrev pub whole : File → Layout → evaluation.Surroundings
-whole file layout = fuel.whole (file_view file) layout
+abbrev pub surroundings_of_file : File → Layout → evaluation.Surroundings
+surroundings_of_file file layout = fuel.file_surroundings (file_view file) layout
 
 abbrev pub around_view : Surroundings → evaluation.Surroundings
-around_view a = whole a.file.now (layout_view a.layout.now)
+around_view a = surroundings_of_file a.file.now (layout_view a.layout.now)
 
 -- What the machine keeps of its file is right.
 pub record IsAround (a : Surroundings) : Type 0 where

@@ -36,8 +36,8 @@ abbrev pub or_improper : Option Kind → World → Evaluation → Evaluation
 or_improper None w go = go
 or_improper (Some kind) w go = Stops (NotProper kind) w
 
-abbrev pub expression : Surroundings → Expr → Bool → Here → World → Evaluation
-expression s e tail h w = held s e.ty e.form tail h w
+abbrev pub evaluated_expression : Surroundings → Expr → Bool → Here → World → Evaluation
+evaluated_expression s e tail h w = held s e.ty e.form tail h w
 
 -- ---- operands
 
@@ -57,14 +57,14 @@ taken_by s (form.Switch' size_at size p at type selector shape cases) tail v h w
 taken_by s _ tail v h w = improper w
 
 -- the operands of a node with two, and what it does with their values
-abbrev pub left_of : Surroundings → Form → Here → World → Evaluation
-left_of s (form.Operator' op p left_at left_type left q right_at right_type right) h w =
+abbrev pub left_operand : Surroundings → Form → Here → World → Evaluation
+left_operand s (form.Operator' op p left_at left_type left q right_at right_type right) h w =
     held s left_type left false h w
-left_of s (form.Store' chunk p address_at address_type address q value_at value_type e) h w =
+left_operand s (form.Store' chunk p address_at address_type address q value_at value_type e) h w =
     held s address_type address false h w
-left_of s (form.Checkbound' p bound_at bound_type bound q index_at index_type index) h w =
+left_operand s (form.Checkbound' p bound_at bound_type bound q index_at index_type index) h w =
     held s bound_type bound false h w
-left_of s _ h w = improper w
+left_operand s _ h w = improper w
 
 abbrev pub right_of : Surroundings → Form → Here → World → Evaluation
 right_of s (form.Operator' op p left_at left_type left q right_at right_type right) h w =
@@ -116,7 +116,7 @@ abbrev pub fills_in : Surroundings → Form → Bool
     → Here → World → Evaluation
 fills_in s f tail callee [] before values h w = operated_by s f tail callee values h w
 fills_in s f tail callee (e ∷ operands) before values h w =
-    now_or_before (first_of before) (expression s e false) h w (λ v h w.
+    now_or_before (first_of before) (evaluated_expression s e false) h w (λ v h w.
     fills_in s f tail callee operands (rest_of before) (v ∷ values) h w)
 
 abbrev pub row_fills : Surroundings → Form → Bool → Option Value → Row → Here → World → Evaluation
@@ -126,7 +126,7 @@ row_fills s f tail callee row h w =
 -- the callee of a call is evaluated before the operands that have waited; or there is none, or it waits too
 abbrev pub after_callee : Surroundings → Form → Bool → Option Expr → List (Option Value) → Here → World → Evaluation
 after_callee s f tail (Some e) before h w =
-    with_value (expression s e false h w) (λ c h w. fills_in s f tail (Some c) (reverse (operands_of f)) (reverse before) [] h w)
+    with_value (evaluated_expression s e false h w) (λ c h w. fills_in s f tail (Some c) (reverse (operands_of f)) (reverse before) [] h w)
 after_callee s f tail None before h w =
     fills_in s f tail None (reverse (operands_of f)) (reverse before) [] h w
 
@@ -143,16 +143,16 @@ after_waiting s f tail before h w =
 abbrev pub waits_for : Surroundings → Form → Bool → List Expr → List (Option Value) → Here → World → Evaluation
 waits_for s f tail [] before h w = after_waiting s f tail before h w
 waits_for s f tail (e ∷ operands) before h w =
-    unless_light (is_light_address (scope h) (expr_view e)) (expression s e false) h w (λ v h w.
+    unless_light (is_light_address (scope h) (expr_view e)) (evaluated_expression s e false) h w (λ v h w.
     waits_for s f tail operands (v ∷ before) h w)
 
 -- ---- sequences and scopes
 
 abbrev pub elements_from : Surroundings → List Expr → Bool → Here → World → Evaluation
 elements_from s [] tail h w = Gives None h w
-elements_from s (e ∷ []) tail h w = expression s e tail h w
+elements_from s (e ∷ []) tail h w = evaluated_expression s e tail h w
 elements_from s (e ∷ rest) tail h w =
-    and_then (expression s e false h w) (λ _ h w. elements_from s rest tail h w)
+    and_then (evaluated_expression s e false h w) (λ _ h w. elements_from s rest tail h w)
 
 abbrev pub scoped_binding : Binding → Scoped
 scoped_binding b =
@@ -165,7 +165,7 @@ scoped_binding b =
 abbrev pub bindings_from : Surroundings → List Binding → Here → World → Evaluation
 bindings_from s [] h w = Gives None h w
 bindings_from s (b ∷ rest) h w =
-    with_value (expression s b.value false h w) (λ v h w.
+    with_value (evaluated_expression s b.value false h w) (λ v h w.
     tested s.end (scoped_binding b).type v w (bindings_from s rest (with_bound (scoped_binding b ∷ []) (v ∷ []) h) w))
 
 -- the first of these bindings has its value
@@ -179,21 +179,21 @@ body_of s (form.Let' shape bindings p at type body) tail level tries h w =
     back level tries (held s type body tail h w)
 body_of s _ tail level tries h w = improper w
 
-abbrev pub handlers_of : Surroundings → Form → Bool → List (Ready Body)
-handlers_of s (form.Catch' p at type body shape handlers) tail = readied_held s handlers tail
-handlers_of s _ tail = []
+abbrev pub ready_handlers : Surroundings → Form → Bool → List (Ready Body)
+ready_handlers s (form.Catch' p at type body shape handlers) tail = readied_held s handlers tail
+ready_handlers s _ tail = []
 
-abbrev pub handler_of : Surroundings → Form → Bool → Value → Here → World → Evaluation
-handler_of s (form.Try' p at type body name_at name q handler_at handler_type handler) tail v h w =
+abbrev pub evaluated_handler : Surroundings → Form → Bool → Value → Here → World → Evaluation
+evaluated_handler s (form.Try' p at type body name_at name q handler_at handler_type handler) tail v h w =
     let raised : Scoped = record { name = name; type = ty.Val; mutable = false } in
     back (length h.names) h.tries (held s handler_type handler tail (with_bound (raised ∷ []) (v ∷ []) h) w)
-handler_of s _ tail v h w = improper w
+evaluated_handler s _ tail v h w = improper w
 
 -- ---- cases and handlers
 
 abbrev pub case_ready : Surroundings → Bool → Case → Chosen Body
 case_ready s tail c =
-    record { indexes = map index_view c.indexes.items; body = expression s c.body tail }
+    record { indexes = map index_view c.indexes.items; body = evaluated_expression s c.body tail }
 
 abbrev pub cases_ready : Surroundings → Bool → List Case → List (Chosen Body)
 cases_ready s tail cases = map (case_ready s tail) cases
@@ -202,7 +202,7 @@ abbrev pub handler_ready : Surroundings → Bool → Handler → Ready Body
 handler_ready s tail r = record {
   label = label_view r.label;
   params = params_view r.params.items;
-  body = expression s r.body tail;
+  body = evaluated_expression s r.body tail;
 }
 
 abbrev pub handlers_ready : Surroundings → Bool → List Handler → List (Ready Body)
@@ -215,7 +215,7 @@ does s (step.Typed type) f tail e = typed s.end type e
 does s (step.Scope level tries) f tail e = back level tries e
 does s step.Operand f tail e = with_value e (λ v h w. taken_by s f tail v h w)
 does s (step.First false) f tail e =
-    with_value e (λ b h w. with_value (left_of s f h w) (λ a h w. joined_by s f a b h w))
+    with_value e (λ b h w. with_value (left_operand s f h w) (λ a h w. joined_by s f a b h w))
 does s (step.First true) f tail e =
     with_value e (λ a h w. with_value (right_of s f h w) (λ b h w. joined_by s f a b h w))
 does s (step.Second first false) f tail e = with_value e (λ a h w. joined_by s f a first h w)
@@ -233,8 +233,8 @@ does s (step.Filling callee row) f tail e =
 does s (step.LateCallee values) f tail e =
     with_value e (λ c h w. operated_by s f tail (Some c) (reverse values.items) h w)
 does s (step.Catch within turns level tries) f tail e =
-    caught s.end turns within (handlers_of s f tail) level tries e
-does s (step.Try level tries) f tail e = tried (handler_of s f tail) level tries e
+    caught s.end turns within (ready_handlers s f tail) level tries e
+does s (step.Try level tries) f tail e = tried (evaluated_handler s f tail) level tries e
 does s (step.Return here tests) f tail e =
     and_then (back_from_call (here_view here) e) (λ v h w. meets s.end tests v h w)
 
@@ -257,13 +257,13 @@ WantsValue (step.Try level tries) = ⊥
 WantsValue (step.Return here tests) = ⊥
 
 -- what a frame makes of the evaluation in it
-abbrev pub fills : Surroundings → Frame → Evaluation → Evaluation
-fills s frame e = does s frame.step frame.form.now frame.tail e
+abbrev pub fills_frame : Surroundings → Frame → Evaluation → Evaluation
+fills_frame s frame e = does s frame.step frame.form.now frame.tail e
 
 -- what frames make of it, the innermost of which is last
 abbrev pub resume : Surroundings → List Frame → Evaluation → Evaluation
 resume s [] e = e
-resume s (f ∷ frames) e = fills s f (resume s frames e)
+resume s (f ∷ frames) e = fills_frame s f (resume s frames e)
 
 -- nothing is left to evaluate
 abbrev pub HasEnded : Now → Type 0
@@ -275,7 +275,7 @@ HasEnded (now.Stops why) = Unit {0}
 
 -- the evaluation that is now
 abbrev pub standing : Surroundings → Now → Here → World → Evaluation
-standing s (now.Begins e tail) h w = expression s e.now tail h w
+standing s (now.Begins e tail) h w = evaluated_expression s e.now tail h w
 standing s (now.Gives v) h w = Gives v h w
 standing s (now.Exits label values) h w = Exits (label_view label.now) values.items h w
 standing s (now.Raises v) h w = Raises v h w

@@ -6,7 +6,7 @@ use Rattle.bs_words.specs.declared.values.Value.{Value}
 use Rattle.cmm_meaning.specs.Layout.{Layout, observed}
 use Rattle.cmm_meaning.specs.State.{World, Here}
 use Rattle.cmm_meaning.specs.Evaluation.{Surroundings, Evaluation, and_then, back_from_call, as_written}
-use Rattle.cmm_meaning.specs.Run.{frame_answered, made}
+use Rattle.cmm_meaning.specs.Run.{frame_answered, with_call_made}
 use Rattle.eval_frames.specs.Filled.{standing}
 use Rattle.eval_frames.specs.declared.frame.Now.{Now}
 
@@ -22,5 +22,5 @@ returned written h e = and_then (back_from_call h e) (λ v h w. as_written writt
 abbrev pub EndsFrameCall : ℕ → Ret → ℕ → ℕ → Now → Type 0
 EndsFrameCall end written first second now =
     (s : Surroundings) (call : Made) (answers : List ℕ) (h : Here) (w : World) →
-    standing s now h (made call answers w)
+    standing s now h (with_call_made call answers w)
     ≡ returned written h (frame_answered end written call (first ∷ second ∷ answers) w)

@@ -4,7 +4,7 @@ ghost use Rattle.cmm_tree.specs.View.{index_view, label_view};
 ghost use Rattle.cmm_meaning.specs.Evaluation as evaluation;
 ghost use Rattle.cmm_meaning.specs.Choices.{ready_for, case_for, is_named};
 ghost use Rattle.cmm_tree.specs.Tree.{same_label, is_bare};
-ghost use Rattle.eval_frames.specs.Filled.{case_ready, cases_ready, handler_ready, handlers_ready, handlers_of};
+ghost use Rattle.eval_frames.specs.Filled.{case_ready, cases_ready, handler_ready, handlers_ready, ready_handlers};
 
 use cmm_tree::{Case, Form, Handler, Label};
 
@@ -69,7 +69,7 @@ fn is_visible(within: bool, label: &Label) -> bool
 /// The handlers of a node, which has some where it is a catch.
 pub fn handlers_of(form: &Form) -> &[Handler]
     ensures { (s : evaluation.Surroundings) → (tail : Bool) →
-        handlers_of s form.now tail ≡ handlers_ready s tail result.now }
+        ready_handlers s form.now tail ≡ handlers_ready s tail result.now }
 {
     match form {
         Form::Catch(_, handlers) => handlers.as_slice(),

@@ -1,12 +1,12 @@
 //! What kinds of nodes there are, by what they do first.
 ghost use Rattle.std.specs.Prelude.{◌≡◌};
-ghost use Rattle.eval_frames.specs.Groups.{group_of};
+ghost use Rattle.eval_frames.specs.Groups.{evaluation_group};
 
 use cmm_tree::Form;
 
 /// What a node does first.
 #[derive(Clone, Copy, PartialEq, Eq)]
-pub enum Group {
+pub enum EvaluationGroup {
     /// It computes with floats, which no accepted file does.
     Float,
     /// It has no part.
@@ -24,31 +24,31 @@ pub enum Group {
 }
 
 /// What a node of this form does first.
-pub fn group_of(form: &Form) -> Group
-    ensures { result ≡ group_of form.now }
+pub fn group_of(form: &Form) -> EvaluationGroup
+    ensures { result ≡ evaluation_group form.now }
 {
     match form {
-        Form::Integer(_) => Group::Leaf,
-        Form::Pointer(_) => Group::Leaf,
-        Form::Symbol(_) => Group::Leaf,
-        Form::Name(_) => Group::Leaf,
-        Form::Nothing => Group::Leaf,
-        Form::Float { .. } => Group::Float,
-        Form::Let(_, _) => Group::Scope,
-        Form::Assign { .. } => Group::One,
-        Form::Operator(_, _, _) => Group::Two,
-        Form::Load(_, _) => Group::One,
-        Form::Store(_, _, _) => Group::Two,
-        Form::Alloc { .. } => Group::Row,
-        Form::App { .. } => Group::Row,
-        Form::Extcall { .. } => Group::Row,
-        Form::Checkbound(_, _) => Group::Two,
-        Form::Raise(_) => Group::One,
-        Form::Seq(_) => Group::Sequence,
-        Form::If(_, _, _) => Group::One,
-        Form::Switch { .. } => Group::One,
-        Form::Catch(_, _) => Group::Scope,
-        Form::Exit { .. } => Group::Row,
-        Form::Try { .. } => Group::Scope,
+        Form::Integer(_) => EvaluationGroup::Leaf,
+        Form::Pointer(_) => EvaluationGroup::Leaf,
+        Form::Symbol(_) => EvaluationGroup::Leaf,
+        Form::Name(_) => EvaluationGroup::Leaf,
+        Form::Nothing => EvaluationGroup::Leaf,
+        Form::Float { .. } => EvaluationGroup::Float,
+        Form::Let(_, _) => EvaluationGroup::Scope,
+        Form::Assign { .. } => EvaluationGroup::One,
+        Form::Operator(_, _, _) => EvaluationGroup::Two,
+        Form::Load(_, _) => EvaluationGroup::One,
+        Form::Store(_, _, _) => EvaluationGroup::Two,
+        Form::Alloc { .. } => EvaluationGroup::Row,
+        Form::App { .. } => EvaluationGroup::Row,
+        Form::Extcall { .. } => EvaluationGroup::Row,
+        Form::Checkbound(_, _) => EvaluationGroup::Two,
+        Form::Raise(_) => EvaluationGroup::One,
+        Form::Seq(_) => EvaluationGroup::Sequence,
+        Form::If(_, _, _) => EvaluationGroup::One,
+        Form::Switch { .. } => EvaluationGroup::One,
+        Form::Catch(_, _) => EvaluationGroup::Scope,
+        Form::Exit { .. } => EvaluationGroup::Row,
+        Form::Try { .. } => EvaluationGroup::Scope,
     }
 }

@@ -6,11 +6,11 @@ ghost use Rattle.cmm_meaning.specs.State as state;
 ghost use Rattle.cmm_meaning.specs.State.{scope};
 ghost use Rattle.cmm_meaning.specs.Evaluation as evaluation;
 ghost use Rattle.cmm_meaning.specs.Evaluation.{with_value, both, is_left_first};
-ghost use Rattle.eval_frames.specs.Groups.{group_of};
-ghost use Rattle.eval_frames.specs.declared.group.Group.{Group};
+ghost use Rattle.eval_frames.specs.Groups.{evaluation_group};
+ghost use Rattle.eval_frames.specs.declared.group.EvaluationGroup.{EvaluationGroup};
 ghost use Rattle.eval_frames.specs.Views.{here_view};
 ghost use Rattle.eval_frames.specs.Held.{inside};
-ghost use Rattle.eval_frames.specs.Filled.{expression, taken_by, left_of, right_of, joined_by, after_callee, after_waiting, operands_of};
+ghost use Rattle.eval_frames.specs.Filled.{evaluated_expression, taken_by, left_operand, right_of, joined_by, after_callee, after_waiting, operands_of};
 
 use crate::here::Here;
 use crate::light::is_light_address;
@@ -25,10 +25,10 @@ pub fn earlier<'a>(left_first: bool, left: &'a Expr, right: &'a Expr) -> &'a Exp
 
 /// The operand of a node with one.
 pub fn operand_of(form: &Form) -> &Expr
-    requires { group_of form.now ≡ Group.One }
+    requires { evaluation_group form.now ≡ EvaluationGroup.One }
     ensures { (s : evaluation.Surroundings) → (tail : Bool) → (h : state.Here) →
         (w : state.World) → inside s form.now tail h w ≡ with_value
-        (expression s result.now false h w) (λ v h w. taken_by s form.now tail v h w) }
+        (evaluated_expression s result.now false h w) (λ v h w. taken_by s form.now tail v h w) }
 {
     match form {
         Form::Assign { value, .. } => value,
@@ -58,15 +58,15 @@ pub fn operand_of(form: &Form) -> &Expr
 
 /// The operands of a node with two, the left one first.
 pub fn both_operands(form: &Form) -> (&Expr, &Expr)
-    requires { group_of form.now ≡ Group.Two }
+    requires { evaluation_group form.now ≡ EvaluationGroup.Two }
     ensures left { (s : evaluation.Surroundings) → (h : state.Here) → (w : state.World) →
-        left_of s form.now h w ≡ expression s result.0.now false h w }
+        left_operand s form.now h w ≡ evaluated_expression s result.0.now false h w }
     ensures right { (s : evaluation.Surroundings) → (h : state.Here) → (w : state.World) →
-        right_of s form.now h w ≡ expression s result.1.now false h w }
+        right_of s form.now h w ≡ evaluated_expression s result.1.now false h w }
     ensures whole { (s : evaluation.Surroundings) → (tail : Bool) → (h : state.Here) →
         (w : state.World) → inside s form.now tail h w ≡ both (is_left_first
         (scope h) (expr_view result.0.now) (expr_view result.1.now))
-        (left_of s form.now) (right_of s form.now) h w (λ a b h w. joined_by s form.now a b h w) }
+        (left_operand s form.now) (right_of s form.now) h w (λ a b h w. joined_by s form.now a b h w) }
 {
     match form {
         Form::Operator(_, left, right) => (left, right),

@@ -7,7 +7,7 @@ use Rattle.std.proofs.lemmas.Nat.{pow-add}
 use Rattle.std.proofs.lemmas.Option.{slice_get_within}
 use Rattle.bs_words.specs.declared.values.Value.{Value}
 use Rattle.bs_words.specs.declared.values.Value.TheVariants.{Word, Block, Function}
-use Rattle.cmm_data.specs.Contents.{DataByte, Plain, OfFunction, number_of, word_of_bytes, cell_of, cells_of}
+use Rattle.cmm_data.specs.Contents.{DataByte, Plain, OfFunction, byte_number, word_of_bytes, cell_of, cells_of}
 use Rattle.rv_layout_rules.specs.Laid.{address_of_place, address_of_value}
 use Rattle.lin_machine.proofs.Growing.{get_front}
 use Rattle.first_statics.proofs.Bytes.{WordsFit, power_rises}
@@ -63,7 +63,7 @@ IsCell count (Word w) = w < 2 ^ 64
 IsCell count (Function f) = f < count
 IsCell count (Block serial offset) = ⊥
 
-byte_below : (count : ℕ) (b : DataByte) → IsDataByte count b → number_of b < 256
+byte_below : (count : ℕ) (b : DataByte) → IsDataByte count b → byte_number b < 256
 byte_below count (Plain b) h = h
 byte_below count (OfFunction f) h = omega arith
 
@@ -77,7 +77,7 @@ word_below count (b ∷ bs) p =
     let next : 2 ^ (8 + 8 * n) ≡ 2 ^ 8 * 2 ^ (8 * n) = pow-add 2 8 (8 * n) in
     let same : 8 + 8 * n ≡ 8 * suc n = omega arith in
     let m : ℕ = 2 ^ (8 * n) in
-    subst (λ k. number_of b + 256 * w < 2 ^ k) same (subst (λ k. number_of b + 256 * w < k) (sym next) (let r : number_of b + 256 * w < 256 * m = omega (arith, few, less) in r))
+    subst (λ k. byte_number b + 256 * w < 2 ^ k) same (subst (λ k. byte_number b + 256 * w < k) (sym next) (let r : byte_number b + 256 * w < 256 * m = omega (arith, few, less) in r))
 
 cell_is : (count : ℕ) (bs : List DataByte) → length bs ≤ 8 → AllByRecursion (IsDataByte count) bs → IsCell count (cell_of bs)
 cell_is count [] le p = omega arith

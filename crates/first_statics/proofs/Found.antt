@@ -10,7 +10,7 @@ use Rattle.bs_words.specs.Fits.{data_limit, data_start}
 use Rattle.bs_words.specs.Memory.{StaticList, Memory, InStatic, in_statics, cell_at}
 use Rattle.bs_words.specs.declared.values.Value.{Value}
 use Rattle.bs_words.specs.declared.values.Value.TheVariants.{Word, Block, Function}
-use Rattle.cmm_data.specs.Contents.{DataByte, little_endian, symbol_bytes, bytes_at, bytes_of_items, word_of_bytes, cell_of, cells_of, is_root_datum, root_at, roots_among, static_list}
+use Rattle.cmm_data.specs.Contents.{DataByte, little_endian, symbol_bytes, bytes_at, bytes_of_items, word_of_bytes, cell_of, cells_of, is_root_datum, root_of_item, roots_among, static_list}
 use Rattle.cmm_data.specs.Faults.{keeps_rule, first_fault}
 use Rattle.cmm_data.specs.Placement.{PlacedItem, size_at, items_from, start_behind, end_behind, end_of_lists, lists_behind, items_of_lists, value_of_symbol, data_end}
 use Rattle.cmm_data.proofs.Laws.{end_of_items-above}
@@ -189,7 +189,7 @@ root_symbol file None small h some = absurd (false≢true some)
 
 -- a root item that is here
 root_datum : (file : FileTree) (address : ℕ) (datum : DatumTree) (r : ℕ) → data_end file < 2 ^ 64 → keeps_rule address datum ≡ true → IsDatumGiven file datum →
-    AmongNumbers r (root_at address datum) → IsRootDatum file address datum r
+    AmongNumbers r (root_of_item address datum) → IsRootDatum file address datum r
 root_datum file address (Val (Some w)) r small keeps given (inl e) =
     let both = and_parts (address % 8 == 0) (w % 2 == 1) keeps in
     record {
@@ -225,7 +225,7 @@ root_item file address (i ∷ items) r small within none given among =
     let next = address + size_at address i.datum in
     let sound = sound-first address i items within none in
     ⊎_elim (first sound.rule) (λ later. second (root_item file next items r small sound.within sound.behind given.1 later))
-    (among_append r (root_at address i.datum) (roots_among (items_from next items)) among)
+    (among_append r (root_of_item address i.datum) (roots_among (items_from next items)) among)
   where
     next : ℕ
     next = address + size_at address i.datum
@@ -233,7 +233,7 @@ root_item file address (i ∷ items) r small within none given among =
     own : List DataByte
     own = bytes_at (value_of_symbol file) address i.datum
 
-    first : keeps_rule address i.datum ≡ true → AmongNumbers r (root_at address i.datum) → IsRootItem file address (i ∷ items) r
+    first : keeps_rule address i.datum ≡ true → AmongNumbers r (root_of_item address i.datum) → IsRootItem file address (i ∷ items) r
     first rule among =
         let d = root_datum file address i.datum r small rule given.0 among in
         record {
@@ -265,14 +265,14 @@ item_low : (address : ℕ) (items : List DataItemTree) (r : ℕ) → AmongNumber
 item_low address [] r among = absurd among
 item_low address (i ∷ items) r among =
     let next = address + size_at address i.datum in
-    ⊎_elim (own address i.datum r) (λ later. let l = item_low next items r later in omega (arith, l)) (among_append r (root_at address i.datum) (roots_among (items_from next items)) among)
+    ⊎_elim (own address i.datum r) (λ later. let l = item_low next items r later in omega (arith, l)) (among_append r (root_of_item address i.datum) (roots_among (items_from next items)) among)
   where
     by : (b : Bool) (address r : ℕ) → AmongNumbers r (cond b (address ∷ []) []) → address ≤ r
     by true address r (inl e) = omega (arith, e)
     by true address r (inr z) = absurd z
     by false address r z = absurd z
 
-    own : (address : ℕ) (datum : DatumTree) (r : ℕ) → AmongNumbers r (root_at address datum) → address ≤ r
+    own : (address : ℕ) (datum : DatumTree) (r : ℕ) → AmongNumbers r (root_of_item address datum) → address ≤ r
     own address datum r among = by (is_root_datum datum) address r among
 
 split_roots : (end : ℕ) (d : DataListTree) (lists : List DataListTree) (r : ℕ) → AmongNumbers r (roots_among (items_of_lists (lists_behind end (d ∷ lists)))) →
@@ -281,7 +281,7 @@ split_roots end d lists r among =
     let own = items_from (start_behind end) d.items in
     let later = items_of_lists (lists_behind (end_behind end d) lists) in
     among_append r (roots_among own) (roots_among later)
-    (subst (AmongNumbers r) (flat_map-append (λ (i : PlacedItem). root_at i.address i.datum) own later) among)
+    (subst (AmongNumbers r) (flat_map-append (λ (i : PlacedItem). root_of_item i.address i.datum) own later) among)
 
 pub root_low : (end : ℕ) (lists : List DataListTree) (r : ℕ) → AmongNumbers r (roots_among (items_of_lists (lists_behind end lists))) → end ≤ r
 root_low end [] r among = absurd among

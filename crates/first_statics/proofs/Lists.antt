@@ -10,7 +10,7 @@ use Rattle.bs_words.specs.Fits.{data_limit, data_start}
 use Rattle.bs_words.specs.Memory.{StaticList}
 use Rattle.bs_words.specs.declared.values.Value.{Value}
 use Rattle.bs_words.specs.declared.values.Value.TheVariants.{Word, Block, Function}
-use Rattle.cmm_data.specs.Contents.{DataByte, Plain, OfFunction, little_endian, zeros, integer, symbol_bytes, bytes_at, bytes_of_items, cells_of, static_list, statics}
+use Rattle.cmm_data.specs.Contents.{DataByte, Plain, OfFunction, little_endian, zeros, bytes_of_integer, symbol_bytes, bytes_at, bytes_of_items, cells_of, static_list, statics}
 use Rattle.cmm_data.specs.Faults.{keeps_rule, first_fault, data_fault_of}
 use Rattle.cmm_data.specs.Placement.{size_at, items_from, start_behind, end_behind, end_of_lists, lists_behind, lists_of, items_of_lists, value_of_symbol, data_bytes}
 use Rattle.cmm_data.proofs.Steps.{length-bytes_at, end-within}
@@ -39,7 +39,7 @@ function_bytes : (count f k : ℕ) → f < count → AllByRecursion (IsDataByte 
 function_bytes count f zero h = tt
 function_bytes count f (suc k) h = (h, function_bytes count f k h)
 
-integer_bytes : (count k : ℕ) (word : Option ℕ) → AllByRecursion (IsDataByte count) (integer k word)
+integer_bytes : (count k : ℕ) (word : Option ℕ) → AllByRecursion (IsDataByte count) (bytes_of_integer k word)
 integer_bytes count k (Some word) = little_bytes count k word
 integer_bytes count k None = zero_bytes count k
 
@@ -97,7 +97,7 @@ plain_zeros : (k : ℕ) → AllByRecursion IsPlain (zeros k)
 plain_zeros zero = tt
 plain_zeros (suc k) = (tt, plain_zeros k)
 
-plain_integer : (k : ℕ) (word : Option ℕ) → AllByRecursion IsPlain (integer k word)
+plain_integer : (k : ℕ) (word : Option ℕ) → AllByRecursion IsPlain (bytes_of_integer k word)
 plain_integer k (Some word) = plain_little k word
 plain_integer k None = plain_zeros k
 

@@ -6,7 +6,7 @@ ghost use Rattle.lin_ir.specs.Walks.{OneDepth};
 ghost use Rattle.lin_flow.specs.Nodes.{AreWalkedTo};
 ghost use Rattle.frame_tables.specs.Pushed.{AreTabled, AreCounted};
 
-use lin_flow::{Labels, Walks, search_walks};
+use lin_flow::{LineLabels, Walks, search_walks};
 use lin_ir::Lin;
 use lin_laws::Position;
 use std::alloc::{AllocError, Global};
@@ -44,7 +44,7 @@ pub fn pushed_traps(alloc: Global, lin: &Lin) -> Result<Vec<u32>, AllocError>
     requires within { FitsDescriptors lin.now }
     ensures { IfOk result (λ traps. AreCounted lin.now (λ left. slice_index traps.items left)) }
 {
-    let labels = Labels::of_function(alloc, lin)?;
+    let labels = LineLabels::of_function(alloc, lin)?;
     let Walks { search, nodes: _ } = search_walks(alloc, lin, &labels)?;
     let traps = table_of(alloc, lin, search.positions.as_slice())?;
     Ok(traps)

@@ -11,7 +11,7 @@ use crate::entries::describe_all;
 use bs_words::List;
 use dataflow::{Flow, Place, live_in_any_order};
 use lin_flow::lines::REGISTERS;
-use lin_flow::{Labels, Search, Walks, search_walks, spread};
+use lin_flow::{LineLabels, Search, Walks, search_walks, spread};
 use lin_ir::{Descr, Lin};
 use mach_ir::Seq;
 use std::alloc::{AllocError, Global};
@@ -26,7 +26,7 @@ struct Searched {
 }
 
 /// Searches what walks come to, and what comes after frame points to which none comes.
-fn search_points(alloc: Global, lin: &Lin, labels: &Labels) -> Result<Searched, AllocError>
+fn search_points(alloc: Global, lin: &Lin, labels: &LineLabels) -> Result<Searched, AllocError>
     requires { IsText lin.now labels.now }
     ensures { IfOk result (λ s. IsSearchedForPoints lin.now s.search s.reached s.nodes.items) }
 {
@@ -87,7 +87,7 @@ pub fn descriptors(alloc: Global, lin: &Lin) -> Result<Seq<Descr>, AllocError>
     ensures exact { IfOk result (AreExact lin.now) }
     ensures count { IfOk result (λ ds. length ds ≡ frame_point_count lin.now.code) }
 {
-    let labels = Labels::of_function(alloc, lin)?;
+    let labels = LineLabels::of_function(alloc, lin)?;
     let Searched {
         search,
         nodes,

@@ -13,7 +13,7 @@ use Rattle.lin_laws.specs.Graph.{line_index}
 use Rattle.lin_laws.specs.Numbers.{consecutive_from}
 use Rattle.lin_flow.specs.Labels.{line_of_label}
 use Rattle.mach_ir.specs.Labels.{place_to}
-use Rattle.lin_flow.specs.declared.labels.Labels.{Labels}
+use Rattle.lin_flow.specs.declared.labels.LineLabels.{LineLabels}
 
 pub run_none : (a : ℕ) → consecutive_from a 0 ≡ []
 unfolding consecutive_from
@@ -47,7 +47,7 @@ label_more m l p i next e = by (has_label l i.op)
     by false = refl
 
 -- the places of labels
-pub switch_done : (labels : Labels) (p : ℕ) (places ls slice : List ℕ) (f : Flow) → f ≡ flow.Switch ls → slice ≡ ls →
+pub switch_done : (labels : LineLabels) (p : ℕ) (places ls slice : List ℕ) (f : Flow) → f ≡ flow.Switch ls → slice ≡ ls →
     ((p : ℕ) → places ≡ map (place_to (line_of_label labels) p) (map At slice)) → places ≡ map (place_to (line_of_label labels) p) (targets (lin.Flow f))
 switch_done labels p places ls slice f e s h =
     subst (λ (g : Flow). places ≡ map (place_to (line_of_label labels) p) (targets (lin.Flow g))) (sym e)

@@ -10,32 +10,32 @@ use Rattle.lin_laws.specs.declared.position.Position.{Position}
 use Rattle.bs_words.proofs.Lists.{first_in, pushed_kept, pushed_here, pushed_cases}
 use Rattle.lin_flow.specs.Nodes.{Landed}
 use Rattle.lin_flow.specs.Search.{all_positions, groups_of, search_members, HasMember, AreGrouped, Grown, PositionEntered, IsThere, HasFirst}
-use Rattle.lin_flow.specs.declared.search.Group as group
+use Rattle.lin_flow.specs.declared.search.PositionGroup as group
 use Rattle.lin_flow.specs.declared.search.Search.{Search}
 
 -- ---- groups
 
-members_same : (gs : List group.Group) (k : ℕ) (g : group.Group) → k < length gs → search_members (set gs k g) k ≡ g.members.items
+members_same : (gs : List group.PositionGroup) (k : ℕ) (g : group.PositionGroup) → k < length gs → search_members (set gs k g) k ≡ g.members.items
 members_same gs k g within =
-    let f : group.Group → List ℕ = λ x. x.members.items in
+    let f : group.PositionGroup → List ℕ = λ x. x.members.items in
     let w : k < length (map f gs) = omega (arith, length-map gs f, within) in
     ap (λ (l : List (List ℕ)). get_or l k []) (map-set f gs k g) ∙ get_or-set_same (map f gs) k (f g) [] w
 
-members_other : (gs : List group.Group) (k j : ℕ) (g : group.Group) → j ≢ k → search_members (set gs k g) j ≡ search_members gs j
+members_other : (gs : List group.PositionGroup) (k j : ℕ) (g : group.PositionGroup) → j ≢ k → search_members (set gs k g) j ≡ search_members gs j
 members_other gs k j g ne =
-    let f : group.Group → List ℕ = λ x. x.members.items in
+    let f : group.PositionGroup → List ℕ = λ x. x.members.items in
     ap (λ (l : List (List ℕ)). get_or l j []) (map-set f gs k g) ∙ get_or-set_other (map f gs) k j (f g) [] ne
 
-members_read : (gs : List group.Group) (k : ℕ) (g : group.Group) → k < length gs → g ≡ get_or gs k g → search_members gs k ≡ g.members.items
+members_read : (gs : List group.PositionGroup) (k : ℕ) (g : group.PositionGroup) → k < length gs → g ≡ get_or gs k g → search_members gs k ≡ g.members.items
 members_read gs k g within read =
-    let f : group.Group → List ℕ = λ x. x.members.items in
+    let f : group.PositionGroup → List ℕ = λ x. x.members.items in
     get_or-map f gs k g [] within ∙ ap f (sym read)
 
-pub has_member : (old new : List group.Group) (k member : ℕ) (g g' : group.Group) → k < length old → g ≡ get_or old k g →
+pub has_member : (old new : List group.PositionGroup) (k member : ℕ) (g g' : group.PositionGroup) → k < length old → g ≡ get_or old k g →
     g'.members.items ≡ g.members.items ++ member ∷ [] → new ≡ set old k g' → HasMember old new k member
 has_member old new k member g g' within read more is =
     let here : search_members new k ≡ search_members old k ++ member ∷ [] =
-    ap (λ (l : List group.Group). search_members l k) is
+    ap (λ (l : List group.PositionGroup). search_members l k) is
     ∙ (members_same old k g' within ∙ (more ∙ ap (λ (l : List ℕ). l ++ member ∷ []) (sym (members_read old k g within read)))) in
     record {
       len = ap length is ∙ length-set old k g';
@@ -46,7 +46,7 @@ has_member old new k member g g' within read more is =
           (subst (λ xs. Contains xs q) (sym here)
           (Contains-append_left (search_members old k) (member ∷ []) q (subst (λ n. Contains (search_members old n) q) e c))))
           (λ (ne : j ≢ k).
-          subst (λ xs. Contains xs q) (sym (ap (λ (l : List group.Group). search_members l j) is ∙ members_other old k j g' ne)) c)
+          subst (λ xs. Contains xs q) (sym (ap (λ (l : List group.PositionGroup). search_members l j) is ∙ members_other old k j g' ne)) c)
           (cases_eq j k);
       here = subst (λ xs. Contains xs member) (sym here) (Contains-push (search_members old k) member);
     }

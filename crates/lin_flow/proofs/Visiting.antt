@@ -25,12 +25,12 @@ use Rattle.mach_ir.specs.Labels.{place_to}
 use Rattle.lin_flow.specs.Nodes.{landing_to, steps_to, Landed, IsText, IsNodeOfLine, VisitedPosition, IsSearchReady, AreWalkedTo, Spreads}
 use Rattle.lin_flow.specs.Search.{all_positions, groups_of, Grown, AreCountable}
 use Rattle.lin_flow.specs.Sizes.{IsCountable, HaveSmall}
-use Rattle.lin_flow.specs.declared.labels.Labels.{Labels}
+use Rattle.lin_flow.specs.declared.labels.LineLabels.{LineLabels}
 use Rattle.lin_flow.specs.declared.search.Search.{Search}
 
 -- ---- places
 
-pub places_within : (labels : Labels) (p count : ℕ) → ((l : ℕ) → line_of_label labels l < count) → suc p < count → (ts : List Target) →
+pub places_within : (labels : LineLabels) (p count : ℕ) → ((l : ℕ) → line_of_label labels l < count) → suc p < count → (ts : List Target) →
     All (λ q. q < count) (map (place_to (line_of_label labels) p) ts)
 places_within labels p count in_labels next [] = All-nil (λ q. q < count)
 places_within labels p count in_labels next (On ∷ ts) =
@@ -38,11 +38,11 @@ places_within labels p count in_labels next (On ∷ ts) =
 places_within labels p count in_labels next (At l ∷ ts) =
     All-cons (λ q. q < count) (line_of_label labels l) (map (place_to (line_of_label labels) p) ts) (in_labels l) (places_within labels p count in_labels next ts)
 
-pub labels_within : (m : Lin) (labels : Labels) (count : ℕ) → AreLabelsOf m labels → count ≡ suc (length m.code) → (l : ℕ) →
+pub labels_within : (m : Lin) (labels : LineLabels) (count : ℕ) → AreLabelsOf m labels → count ≡ suc (length m.code) → (l : ℕ) →
     line_of_label labels l < count
 labels_within m labels count is len l = let e = is.each l in omega (arith, e, len)
 
-module _ (m : Lin) (labels : Labels) (is : AreLabelsOf m labels) where
+module _ (m : Lin) (labels : LineLabels) (is : AreLabelsOf m labels) where
   step_same : (p : ℕ) (t : Target) → place_to (line_of_label labels) p t ≡ place_at m p t
   step_same p On = refl
   step_same p (At l) = is.each l
@@ -61,12 +61,12 @@ module _ (m : Lin) (labels : Labels) (is : AreLabelsOf m labels) where
 
 -- ---- the place of a line
 
-pub all_within : (labels : Labels) (p count : ℕ) (ts : List Target) (ps slice : List ℕ) → slice ≡ ps → ps ≡ map (place_to (line_of_label labels) p) ts →
+pub all_within : (labels : LineLabels) (p count : ℕ) (ts : List Target) (ps slice : List ℕ) → slice ≡ ps → ps ≡ map (place_to (line_of_label labels) p) ts →
     ((l : ℕ) → line_of_label labels l < count) → suc p < count → All (λ q. q < count) slice
 all_within labels p count ts ps slice e f in_labels next =
     subst (All (λ q. q < count)) (sym (e ∙ f)) (places_within labels p count in_labels next ts)
 
-pub node_of : (labels : Labels) (old mid new : Search) (i : Line) (p : ℕ) (tries after places : List ℕ) (node : place.Place) →
+pub node_of : (labels : LineLabels) (old mid new : Search) (i : Line) (p : ℕ) (tries after places : List ℕ) (node : place.Place) →
     after ≡ tries_after i.op tries → places ≡ map (place_to (line_of_label labels) p) (targets i.op) →
     Grown old mid (map (λ q. position q after) places) →
     AreNumbersOf (all_positions mid) (contents node.next) (map (λ q. position q after) places) →
@@ -87,7 +87,7 @@ node_of labels old mid new i p tries after places node e f g next h aside reads 
       writes = writes;
     }
 
-pub node_made : (labels : Labels) (old mid new : Search) (i : Line) (p : ℕ) (tries after places next aside : List ℕ) (raises : Bool)
+pub node_made : (labels : LineLabels) (old mid new : Search) (i : Line) (p : ℕ) (tries after places next aside : List ℕ) (raises : Bool)
     (node : place.Place) → after ≡ tries_after i.op tries → places ≡ map (place_to (line_of_label labels) p) (targets i.op) →
     Grown old mid (map (λ q. position q after) places) → AreNumbersOf (all_positions mid) next (map (λ q. position q after) places) →
     raises ≡ may_raise i.op → Landed mid new (landing_to labels raises tries) aside → contents node.next ≡ next →
@@ -135,7 +135,7 @@ module _ (m : Lin) (numbered : AreNumbered m) (countable : IsCountable m) where
   pub results_small : (p : ℕ) (i : Line) → slice_get m.code p ≡ Some i → HaveSmall i.results
   results_small p i e = small_spots m.slots i.results (results_numbered m numbered p i (drop (suc p) m.code) (drop_at m.code p i e)) countable.slots
 
-module _ (m : Lin) (labels : Labels) (text : IsText m labels) where
+module _ (m : Lin) (labels : LineLabels) (text : IsText m labels) where
   abbrev bound : ℕ
   bound = m.slots + 32
 

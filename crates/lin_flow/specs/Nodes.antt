@@ -12,17 +12,17 @@ use Rattle.mach_ir.specs.Labels.{place_to}
 use Rattle.lin_laws.specs.Numbers.{val_numbers, written_numbers}
 use Rattle.lin_flow.specs.Search.{all_positions, groups_of, Grown, AreGrouped, AreCountable}
 use Rattle.lin_flow.specs.Sizes.{IsCountable}
-use Rattle.lin_flow.specs.declared.labels.Labels.{Labels}
+use Rattle.lin_flow.specs.declared.labels.LineLabels.{LineLabels}
 use Rattle.lin_flow.specs.declared.search.Search.{Search}
 
 -- where a raise leads, by the table of labels
-abbrev pub landing_to : Labels → Bool → List ℕ → List Position
+abbrev pub landing_to : LineLabels → Bool → List ℕ → List Position
 landing_to labels false tries = []
 landing_to labels true [] = []
 landing_to labels true (h ∷ tries) = position (line_of_label labels h) tries ∷ []
 
 -- where a line goes on, by the table of labels
-abbrev pub steps_to : Labels → Line → ℕ → List ℕ → List Position
+abbrev pub steps_to : LineLabels → Line → ℕ → List ℕ → List Position
 steps_to labels i p tries =
     map (λ q. position q (tries_after i.op tries)) (map (place_to (line_of_label labels) p) (targets i.op))
 
@@ -32,13 +32,13 @@ pub record Landed (old new : Search) (ys : List Position) (ns : List ℕ) : Type
   pub numbers : AreNumbersOf (all_positions new) ns ys
 
 -- a function whose locations and lines have numbers, and the table of its labels
-pub record IsText (m : Lin) (labels : Labels) : Type 0 where
+pub record IsText (m : Lin) (labels : LineLabels) : Type 0 where
   pub numbered : AreNumbered m
   pub table : AreLabelsOf m labels
   pub countable : IsCountable m
 
 -- the place of the graph for a line, and the positions after it
-pub record IsNodeOfLine (labels : Labels) (old new : Search) (i : Line) (p : ℕ) (tries : List ℕ)
+pub record IsNodeOfLine (labels : LineLabels) (old new : Search) (i : Line) (p : ℕ) (tries : List ℕ)
     (node : place.Place) : Type 0 where
   pub grown : Grown old new (steps_to labels i p tries ++ landing_to labels (may_raise i.op) tries)
   pub next : AreNumbersOf (all_positions new) (contents node.next) (steps_to labels i p tries)

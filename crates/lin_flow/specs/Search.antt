@@ -2,21 +2,21 @@
 use Rattle.std.specs.Prelude.{◌≡◌, ◌⊎◌, ℕ, suc, ◌<◌, List, [], ◌∷◌, Some, map, length, slice_get, slice_index_or, Contains}
 use Rattle.mach_ir.specs.Sizes.{number_limit}
 use Rattle.lin_laws.specs.declared.position.Position.{Position}
-use Rattle.lin_flow.specs.declared.search.Group as group
+use Rattle.lin_flow.specs.declared.search.PositionGroup as group
 use Rattle.lin_flow.specs.declared.search.Search.{Search}
 
 abbrev pub all_positions : Search → List Position
 all_positions s = s.positions.items
 
-abbrev pub groups_of : Search → List group.Group
+abbrev pub groups_of : Search → List group.PositionGroup
 groups_of s = s.groups.items
 
 -- the members of a group; past the last group there are none
-abbrev pub search_members : List group.Group → ℕ → List ℕ
-search_members groups p = slice_index_or (map (λ (g : group.Group). g.members.items) groups) p []
+abbrev pub search_members : List group.PositionGroup → ℕ → List ℕ
+search_members groups p = slice_index_or (map (λ (g : group.PositionGroup). g.members.items) groups) p []
 
 -- a number is in its group, and none was taken out
-pub record HasMember (old new : List group.Group) (p member : ℕ) : Type 0 where
+pub record HasMember (old new : List group.PositionGroup) (p member : ℕ) : Type 0 where
   pub len : length new ≡ length old
   pub kept : (j q : ℕ) → Contains (search_members old j) q → Contains (search_members new j) q
   pub here : Contains (search_members new p) member

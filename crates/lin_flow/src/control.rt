@@ -5,7 +5,7 @@ ghost use Rattle.lin_ir.specs.Walks.{targets};
 ghost use Rattle.lin_ir.specs.Walks as walks;
 ghost use Rattle.lin_flow.specs.Labels.{line_of_label};
 
-use crate::labels::Labels;
+use crate::labels::LineLabels;
 use dataflow::{one_place, two_places};
 use lin_ir::{Flow, LinOp};
 use mach_ir::places_after_op;
@@ -23,7 +23,7 @@ pub fn may_raise(op: &LinOp) -> bool
 
 fn places_after_flow(
     alloc: Global,
-    labels: &Labels,
+    labels: &LineLabels,
     flow: &Flow,
     place: u32,
 ) -> Result<Vec<u32>, AllocError>
@@ -49,7 +49,7 @@ fn places_after_flow(
 /// Where the line at the place goes on, conditions ignored. The only error is want of memory.
 pub fn places_after(
     alloc: Global,
-    labels: &Labels,
+    labels: &LineLabels,
     op: &LinOp,
     place: u32,
 ) -> Result<Vec<u32>, AllocError>

@@ -37,19 +37,19 @@ fn own_label(op: &LinOp) -> Option<Label>
 /// The place after each label, of a label that occurs twice after the first; of any other the place
 /// after the last line.
 #[derive(Drop)]
-pub struct Labels {
+pub struct LineLabels {
     places: LabelPlaces,
 }
 
-impl Labels {
+impl LineLabels {
     /// The table of a function. The only error is want of memory.
-    pub fn of_function(alloc: Global, lin: &Lin) -> Result<Labels, AllocError>
+    pub fn of_function(alloc: Global, lin: &Lin) -> Result<LineLabels, AllocError>
         requires { length lin.now.code < 2 ^ 32 }
         ensures { IfOk result (AreLabelsOf lin.now) }
     {
         let code = lin.code.as_slice();
         let end = code.len() as u32;
-        let mut labels = Labels {
+        let mut labels = LineLabels {
             places: LabelPlaces::new(alloc, end),
         };
         let mut place = end;

@@ -14,7 +14,7 @@ pub mod search;
 mod tries;
 pub mod walks;
 
-pub use labels::Labels;
+pub use labels::LineLabels;
 pub use live::{LiveWalks, live_walks};
 pub use nodes::spread;
 pub use search::Search;

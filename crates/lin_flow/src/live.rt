@@ -6,7 +6,7 @@ ghost use Rattle.lin_flow.specs.Live.{ReadsOnFrom, ReadsOnAmong};
 ghost use Rattle.lin_flow.specs.Sizes.{IsCountable};
 ghost use Rattle.lin_flow.specs.Walked.{AreLive, IsReachedAt, IsReadAfter};
 
-use crate::labels::Labels;
+use crate::labels::LineLabels;
 use crate::lines::bound_of;
 use crate::nodes::node_numbered;
 use crate::search::Search;
@@ -41,7 +41,7 @@ pub fn live_walks(alloc: Global, lin: &Lin) -> Result<LiveWalks, AllocError>
     ensures { IfOk result (AreLive lin.now) }
 {
     let bound = bound_of(lin.slots);
-    let labels = Labels::of_function(alloc, lin)?;
+    let labels = LineLabels::of_function(alloc, lin)?;
     let Walks { search, nodes } = search_walks(alloc, lin, &labels)?;
     let reached = nodes.len() as u32;
     let flow = Flow {

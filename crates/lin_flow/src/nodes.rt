@@ -6,7 +6,7 @@ ghost use Rattle.lin_flow.specs.Sizes.{HaveSmall};
 ghost use Rattle.lin_flow.specs.Nodes.{landing_to, Landed, IsText, IsNodeOfLine, VisitedPosition, IsSearchReady, SpreadToAll};
 
 use crate::control::{may_raise, places_after};
-use crate::labels::Labels;
+use crate::labels::LineLabels;
 use crate::lines::{reads_of, writes_of};
 use crate::search::Search;
 use crate::tries::tries_after;
@@ -27,7 +27,7 @@ pub fn node_numbered(nodes: &[Place], number: u32) -> Option<&Place>
 /// The number of the position at the handler of the innermost trap, if one is pushed.
 fn enter_innermost(
     alloc: Global,
-    labels: &Labels,
+    labels: &LineLabels,
     search: &mut Search,
     tries: &[u32],
 ) -> Result<Vec<u32>, AllocError>
@@ -49,7 +49,7 @@ fn enter_innermost(
 /// The number of the position where a raise leads, if it leads to a handler of the function.
 fn enter_handler(
     alloc: Global,
-    labels: &Labels,
+    labels: &LineLabels,
     search: &mut Search,
     raises: bool,
     tries: &[u32],
@@ -68,7 +68,7 @@ fn enter_handler(
 /// The place of the graph that is the position at this line with these traps.
 fn node_of_line(
     alloc: Global,
-    labels: &Labels,
+    labels: &LineLabels,
     search: &mut Search,
     line: &Line,
     place: u32,
@@ -101,7 +101,7 @@ fn node_of_line(
 fn node_at(
     alloc: Global,
     lin: &Lin,
-    labels: &Labels,
+    labels: &LineLabels,
     search: &mut Search,
     position: &Position,
 ) -> Result<Place, AllocError>
@@ -130,7 +130,7 @@ fn node_at(
 fn visit(
     alloc: Global,
     lin: &Lin,
-    labels: &Labels,
+    labels: &LineLabels,
     search: &mut Search,
     number: usize,
 ) -> Result<Place, AllocError>
@@ -151,7 +151,7 @@ fn visit(
 pub fn spread(
     alloc: Global,
     lin: &Lin,
-    labels: &Labels,
+    labels: &LineLabels,
     search: &mut Search,
     nodes: &mut Vec<Place>,
 ) -> Result<(), AllocError>

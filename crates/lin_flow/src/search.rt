@@ -9,7 +9,7 @@ use std::alloc::{AllocError, Global};
 
 /// Numbers of positions.
 #[derive(Drop)]
-pub struct Group {
+pub struct PositionGroup {
     /// The numbers, in the order in which they came.
     pub members: Vec<u32>,
 }
@@ -21,7 +21,7 @@ pub struct Search {
     pub positions: Vec<Position>,
 
     /// The group of each place.
-    pub groups: Vec<Group>,
+    pub groups: Vec<PositionGroup>,
 }
 
 fn same_tries(one: &[u32], other: &[u32]) -> bool
@@ -31,7 +31,7 @@ fn same_tries(one: &[u32], other: &[u32]) -> bool
 }
 
 /// Adds a member to a group.
-fn add_member(groups: &mut Vec<Group>, place: u32, member: u32) -> Result<(), AllocError>
+fn add_member(groups: &mut Vec<PositionGroup>, place: u32, member: u32) -> Result<(), AllocError>
     requires { place < length groups.old.items }
     ensures { IfOk result (λ _. HasMember groups.old.items groups.new.items place member) }
 {
@@ -49,7 +49,7 @@ impl Search {
         let count = last + 1;
         let mut groups = Vec::with_capacity(alloc, count)?;
         for _place in 0..count {
-            groups.push(Group {
+            groups.push(PositionGroup {
                 members: Vec::new(alloc),
             })?;
         }

@@ -3,7 +3,7 @@ ghost use Rattle.std.specs.Prelude.{IfOk};
 ghost use Rattle.lin_flow.specs.Nodes.{IsText};
 ghost use Rattle.lin_flow.specs.Walked.{IsWalked};
 
-use crate::labels::Labels;
+use crate::labels::LineLabels;
 use crate::nodes::spread;
 use crate::search::Search;
 use dataflow::Place;
@@ -23,7 +23,7 @@ pub struct Walks {
 /// Searches where walks from the entry come.
 ///
 /// Each position is visited once. That there are more than numbers is want of memory.
-pub fn search_walks(alloc: Global, lin: &Lin, labels: &Labels) -> Result<Walks, AllocError>
+pub fn search_walks(alloc: Global, lin: &Lin, labels: &LineLabels) -> Result<Walks, AllocError>
     requires { IsText lin.now labels.now }
     ensures { IfOk result (λ walks. IsWalked lin.now walks.search walks.nodes.items) }
 {

@@ -3,7 +3,7 @@ use Rattle.std.proofs.Common.{◌≡◌, ◌≢◌, ℕ, zero, suc, ◌+◌, ◌
 use Rattle.std.specs.List.{AllByRecursion}
 use Rattle.std.proofs.lemmas.Bool.{eqb-true, leb-true}
 use Rattle.std.proofs.lemmas.Option.{slice_get-map, slice_get_within, get_or_from_slice_get}
-use Rattle.bs_words.specs.Memory.{Cell, HeapBlock, InBlock, InHeader, Memory, cell_at, cell_of_block, in_block, sizes, value_in}
+use Rattle.bs_words.specs.Memory.{Cell, HeapBlock, InBlock, InHeader, Memory, cell_at, cell_of_block, in_block, sizes, value_in_cell}
 use Rattle.bs_words.specs.Word.{add_word}
 use Rattle.bs_words.specs.declared.values.Value.{Value}
 use Rattle.bs_words.specs.declared.values.Value.TheVariants.{Word, Block, Function}
@@ -85,7 +85,7 @@ module _ (s : Fixed) (placed : List Placed) (m : List Region) (regions : HasRegi
   -- where the bytes of a block lie
   pub in_block_at : (k from : ℕ) (b : HeapBlock) (at : ℕ) → slice_get a.memory.blocks k ≡ Some b → from % 8 ≡ 0 → from + 8 ≤ 8 * (length b.cells + 1) →
       at + 8 ≡ start_of placed k + from →
-      is_among_cells (cell_of_block k (from / 8)) a.unwritten ≡ false → IsCellAt s placed m at (value_in a.memory (cell_of_block k (from / 8)))
+      is_among_cells (cell_of_block k (from / 8)) a.unwritten ≡ false → IsCellAt s placed m at (value_in_cell a.memory (cell_of_block k (from / 8)))
   in_block_at k from b at there even inside e written =
       let i : k < length placed = let w = slice_get_within a.memory.blocks k b there in let n = blocks_count in omega (arith, w, n) in
       let near = start_inside placed k h.old.inside i in
@@ -100,7 +100,7 @@ module _ (s : Fixed) (placed : List Placed) (m : List Region) (regions : HasRegi
     where
       by_place : (n : ℕ) → from / 8 ≡ n → k < length placed → (start_of placed k % 8 ≡ 0) × (0x30000008 ≤ start_of placed k)
           × (start_of placed k ≤ 0x38010000) →
-          is_among_cells (cell_of_block k n) a.unwritten ≡ false → StandsFor s placed (memory_word m at) (value_in a.memory (cell_of_block k n))
+          is_among_cells (cell_of_block k n) a.unwritten ≡ false → StandsFor s placed (memory_word m at) (value_in_cell a.memory (cell_of_block k n))
       by_place zero q i near written =
           let here : at ≡ start_of placed k - 8 = omega (arith, e, q, even, near) in
           let head = h.stand.header k b.header i (unheaded_by (is_among_cells (InHeader k) a.unwritten)
@@ -116,7 +116,7 @@ module _ (s : Fixed) (placed : List Placed) (m : List Region) (regions : HasRegi
           let held : (blocks_of a).cell k j ≡ Some v.0 = unwritten_by (is_among_cells (InBlock k j) a.unwritten)
           (cell_in (slice_get a.memory.blocks k) j) v.0 written (ap (λ o. cell_in o j) there ∙ v.1) in
           let size : cells_of_block placed k ≡ length b.cells = h.stand.sizes k i ∙ ap size_in there in
-          let value : value_in a.memory (InBlock k j) ≡ v.0 =
+          let value : value_in_cell a.memory (InBlock k j) ≡ v.0 =
           ap (λ (c : HeapBlock). slice_index_or c.cells j (Word 0)) (get_or_from_slice_get a.memory.blocks k b (record { header = 0; cells = [] }) there)
           ∙ get_or_from_slice_get b.cells j v.0 (Word 0) v.1 in
           subst (StandsFor s placed (memory_word m at)) (sym value)
@@ -124,18 +124,18 @@ module _ (s : Fixed) (placed : List Placed) (m : List Region) (regions : HasRegi
 
   -- the address of a value, and the cell that is there
   pub cell_there : (x : Value) (cell : Cell) → cell_at a.memory 8 x ≡ Some cell → is_among_cells cell a.unwritten ≡ false →
-      IsCellAt s placed m (value_word s.image placed x) (value_in a.memory cell)
+      IsCellAt s placed m (value_word s.image placed x) (value_in_cell a.memory cell)
   cell_there (Word w) cell e written =
       let t = static_whole s.image a.memory w cell h.lie e in
-      let held : statics_of a.memory w ≡ Some (value_in a.memory cell) = t.2 in
-      let place = h.statics.place w (value_in a.memory cell) held in
+      let held : statics_of a.memory w ≡ Some (value_in_cell a.memory cell) = t.2 in
+      let place = h.statics.place w (value_in_cell a.memory cell) held in
       let short = s.functions.tables.bytes.short in
       let p2 = t.1 in
       let readable = data_readable s.image s.heap s.base m regions w t.0 place.1 t.1 in
       record {
         stands = record {
-          is = sym (held_readable s m regions w readable) ∙ h.statics.cell w (value_in a.memory cell) held;
-          known = h.statics.known w (value_in a.memory cell) held;
+          is = sym (held_readable s m regions w readable) ∙ h.statics.cell w (value_in_cell a.memory cell) held;
+          known = h.statics.known w (value_in_cell a.memory cell) held;
         };
         readable = readable;
         low = place.1;
@@ -144,12 +144,12 @@ module _ (s : Fixed) (placed : List Placed) (m : List Region) (regions : HasRegi
   cell_there (Block k o) cell e written = by_even (o % 8 == 0) refl e
     where
       by_size : (n : Option ℕ) → slice_get (sizes a.memory) k ≡ n → o % 8 ≡ 0 → in_block k n ((o + 8) % 2 ^ 64) 8 ≡ Some cell →
-          IsCellAt s placed m (value_word s.image placed (Block k o)) (value_in a.memory cell)
+          IsCellAt s placed m (value_word s.image placed (Block k o)) (value_in_cell a.memory cell)
       by_size None f even g = absurd (cc)
       by_size (Some n) f even g = by_room (nat_le ((o + 8) % 2 ^ 64 + 8) (8 * (n + 1))) refl g
         where
           by_room : (t : Bool) → nat_le ((o + 8) % 2 ^ 64 + 8) (8 * (n + 1)) ≡ t → cond t (Some (cell_of_block k ((o + 8) % 2 ^ 64 / 8))) None ≡ Some cell →
-              IsCellAt s placed m (value_word s.image placed (Block k o)) (value_in a.memory cell)
+              IsCellAt s placed m (value_word s.image placed (Block k o)) (value_in_cell a.memory cell)
           by_room false t g = absurd (cc)
           by_room true t g =
               let same : cell_of_block k ((o + 8) % 2 ^ 64 / 8) ≡ cell = some_is g in
@@ -161,7 +161,7 @@ module _ (s : Fixed) (placed : List Placed) (m : List Region) (regions : HasRegi
               let ends = words_end placed k h.old.inside i in
               let count : cells_of_block placed k ≡ n = h.stand.sizes k i ∙ ap size_in b.1 ∙ size in
               let most : (o + 8) % 2 ^ 64 ≤ 2 ^ 32 = omega (arith, room, ends, count) in
-              subst (λ q. IsCellAt s placed m (value_word s.image placed (Block k o)) (value_in a.memory q)) same
+              subst (λ q. IsCellAt s placed m (value_word s.image placed (Block k o)) (value_in_cell a.memory q)) same
               (in_block_at k ((o + 8) % 2 ^ 64) b.0 (value_word s.image placed (Block k o)) b.1 (omega (arith, even)) (omega (arith, room, size))
               (block_address (start_of placed k) o near.1 near.2 most)
               (subst (λ q. is_among_cells q a.unwritten ≡ false) (sym same) written))
@@ -170,7 +170,7 @@ module _ (s : Fixed) (placed : List Placed) (m : List Region) (regions : HasRegi
               some_is e = cc
 
       by_even : (t : Bool) → (o % 8 == 0) ≡ t → cond t (in_block k (slice_get (sizes a.memory) k) ((o + 8) % 2 ^ 64) 8) None ≡ Some cell →
-          IsCellAt s placed m (value_word s.image placed (Block k o)) (value_in a.memory cell)
+          IsCellAt s placed m (value_word s.image placed (Block k o)) (value_in_cell a.memory cell)
       by_even false t g = absurd (cc)
       by_even true t g = by_size (slice_get (sizes a.memory) k) refl (eqb-true (o % 8) 0 t) g
   cell_there (Function f) cell e written = absurd (cc)

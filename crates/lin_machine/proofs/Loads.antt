@@ -1,7 +1,7 @@
 -- Lines that load 8 bytes.
 use Rattle.std.proofs.Common.{◌≡◌, ◌≢◌, ℕ, zero, suc, ◌+◌, ◌^◌, ◌<◌, ◌⊎◌, inl, Bool, true, false, cond, List, [], ◌∷◌, length, Option, Some, None, Result, Ok, Err, slice_index, refl, ap, ◌∙◌, sym, subst}
 use Rattle.bs_words.specs.Fits.{fits, misfit}
-use Rattle.bs_words.specs.Memory.{Cell, cell_at, end_of_data, loaded_from, of_type, type_of_chunk, value_in, width}
+use Rattle.bs_words.specs.Memory.{Cell, cell_at, end_of_data, loaded_from, value_of_type, type_of_chunk, value_in_cell, width}
 use Rattle.bs_words.specs.Memory as memory
 use Rattle.bs_words.specs.Word.{add_word}
 use Rattle.bs_words.specs.declared.types.Chunk.{Chunk}
@@ -50,7 +50,7 @@ whole_width : {k : Chunk} → IsWhole k → width k ≡ 8
 whole_width whole_int = refl
 whole_width whole_val = refl
 
-pub fit_is : (end : ℕ) (t : Ty) (v z : Value) → of_type end t v ≡ Ok z → v ≡ z
+pub fit_is : (end : ℕ) (t : Ty) (v z : Value) → value_of_type end t v ≡ Ok z → v ≡ z
 fit_is end t v z e = by_test (fits end t v) e
   where
     by_test : (b : Bool) → cond b (Ok v) (Err (misfit t)) ≡ Ok z → v ≡ z
@@ -59,9 +59,9 @@ fit_is end t v z e = by_test (fits end t v) e
 
 -- what is loaded is the cell's value
 pub loaded_value : {k : Chunk} → IsWhole k → (a : Around) (cell : Cell) (offset : ℕ) (z : Value) → loaded_from k a.memory offset (Some cell) ≡ Ok z →
-    value_in a.memory cell ≡ z
-loaded_value whole_int a cell offset z e = fit_is (end_of_data a.memory) (type_of_chunk chunk.Int) (value_in a.memory cell) z e
-loaded_value whole_val a cell offset z e = fit_is (end_of_data a.memory) (type_of_chunk chunk.Val) (value_in a.memory cell) z e
+    value_in_cell a.memory cell ≡ z
+loaded_value whole_int a cell offset z e = fit_is (end_of_data a.memory) (type_of_chunk chunk.Int) (value_in_cell a.memory cell) z e
+loaded_value whole_val a cell offset z e = fit_is (end_of_data a.memory) (type_of_chunk chunk.Val) (value_in_cell a.memory cell) z e
 
 module _ (s : Fixed) (laid : Laid) (live : List Line → Type 0) (entry : ℕ → ℕ) (c : Below) (place : ActivationSetting) (named : NamedAt) (code : Lin) (next : List Line)
     (v : View) (young : List Placed) (held file : Locations) (a : Around) (none : a.raised ≡ None) (within : Within s laid v young 0 held a c)
@@ -75,7 +75,7 @@ module _ (s : Fixed) (laid : Laid) (live : List Line → Type 0) (entry : ℕ �
       ((x : Value) → held p.loc ≡ Some x → Fetches s laid young a c held v.place n1 scratch ra x) →
       ((z : Value) → Keeps s laid young a c rest (assign_spot r z held) (v.place + n1 + n) m t z) →
       ((x z : Value) (cell : Cell) (u : View) → cell_at a.memory 8 (moved_by offset x) ≡ Some cell → is_among_cells cell a.unwritten ≡ false →
-      value_in a.memory cell ≡ z →
+      value_in_cell a.memory cell ≡ z →
       u.place ≡ v.place + n1 → Within s laid u young 0 held a c → StandsFor s (blocks_by_serial u young) (slice_index u.registers ra) x →
       Changes s u n rs u.memory (λ w. StandsFor s (blocks_by_serial u young) (slice_index w.registers t) z)) →
       FollowsStep (n1 + (n + m)) s laid live entry c v
@@ -98,7 +98,7 @@ module _ (s : Fixed) (laid : Laid) (live : List Line → Type 0) (entry : ℕ �
           (on_act place code (record { op = lin.Op (op.Access (access.Load k offset)); args = p ∷ []; results = r ∷ [] }) next file a (one_result a o))
       by_result x cell (Err kind) e w f h = tt
       by_result x cell (Ok z) e w f h =
-          let same : value_in a.memory cell ≡ z =
+          let same : value_in_cell a.memory cell ≡ z =
           loaded_value whole a cell (memory.offset_in_cell (moved_by offset x)) z (ap (loaded_from k a.memory (memory.offset_in_cell (moved_by offset x)))
           (sym e) ∙ f) in
           let there : cell_at a.memory 8 (moved_by offset x) ≡ Some cell = subst (λ b. cell_at a.memory b (moved_by offset x) ≡ Some cell)
@@ -134,7 +134,7 @@ module _ (s : Fixed) (laid : Laid) (live : List Line → Type 0) (entry : ℕ �
 pub load_works :
     (s : Fixed) (laid : Laid) (u : View) (young : List Placed) (held : Locations) (a : Around) (c : Below) → Within s laid u young 0 held a c →
     (t ra offset imm : ℕ) → suc t < 32 → suc t ≢ 2 → offset < 2 ^ 64 →
-    (x z : Value) (cell : Cell) → cell_at a.memory 8 (moved_by offset x) ≡ Some cell → is_among_cells cell a.unwritten ≡ false → value_in a.memory cell ≡ z →
+    (x z : Value) (cell : Cell) → cell_at a.memory 8 (moved_by offset x) ≡ Some cell → is_among_cells cell a.unwritten ≡ false → value_in_cell a.memory cell ≡ z →
     imm_i imm ≡ offset →
     StandsFor s (blocks_by_serial u young) (slice_index u.registers (suc ra)) x → IsInstructionAt s u.place (Load Ld (suc t) (suc ra) imm) →
     Changes s u 1 (suc t ∷ []) u.memory (λ w. StandsFor s (blocks_by_serial u young) (slice_index w.registers (suc t)) z)

@@ -2,7 +2,7 @@
 use Rattle.std.proofs.Common.{◌≡◌, ℕ, suc, ◌+◌, ◌-◌, ◌/◌, ◌%◌, ◌^◌, ◌<◌, ◌≤◌, Bool, true, false, cond, ◌&&◌, ◌==◌, nat_le, List, [], ◌∷◌, length, Some, None, refl, ap, arith, ◌∙◌, sym, subst}
 use Rattle.std.proofs.lemmas.Bool.{and_from, and_parts, cond-true, eq-eqb, eqb-true, le-leb, leb-true}
 use Rattle.bs_words.specs.Fits.{data_start}
-use Rattle.bs_words.specs.Memory.{Cell, HeapBlock, InStatic, Memory, StaticList, cell_at, end_of_statics, in_statics, value_in}
+use Rattle.bs_words.specs.Memory.{Cell, HeapBlock, InStatic, Memory, StaticList, cell_at, end_of_statics, in_statics, value_in_cell}
 use Rattle.bs_words.specs.declared.values.Value.TheVariants.{Word}
 use Rattle.image_form.specs.Tables.{Tables}
 use Rattle.rv_machine.specs.Memory.{Region, memory_word, write}
@@ -108,20 +108,20 @@ one_byte x = eq-eqb (x % 1) 0 (omega arith)
 
 -- the cell that an access lies in, by the address of its first byte
 pub static_at : (memory : Memory) (x : ℕ) (cell : Cell) → x % 8 ≡ 0 → in_statics 0 memory.statics x 1 ≡ Some cell →
-    statics_of memory x ≡ Some (value_in memory cell)
+    statics_of memory x ≡ Some (value_in_cell memory cell)
 static_at memory x cell even e =
     cond-true (x % 8 == 0) _ _ (eq-eqb (x % 8) 0 even) ∙ ap (static_in memory) (cond-true (x % 1 == 0) (in_statics 0 memory.statics x 1) None (one_byte x) ∙ e)
 
 -- a cell of 8 bytes is whole
 pub static_whole : (image : Tables) (memory : Memory) (x : ℕ) (cell : Cell) → StaticsLie image memory → cell_at memory 8 (Word x) ≡ Some cell →
-    (x % 8 ≡ 0) × (x + 8 ≤ data_start + length image.bytes) × (statics_of memory x ≡ Some (value_in memory cell))
+    (x % 8 ≡ 0) × (x + 8 ≤ data_start + length image.bytes) × (statics_of memory x ≡ Some (value_in_cell memory cell))
 static_whole image memory x cell lie e = by_even (x % 8 == 0) refl e
   where
     at_zero : (x : ℕ) → x + 0 ≡ x
     at_zero x = omega arith
 
     by_even : (t : Bool) → (x % 8 == 0) ≡ t → cond t (in_statics 0 memory.statics x 8) None ≡ Some cell →
-        (x % 8 ≡ 0) × (x + 8 ≤ data_start + length image.bytes) × (statics_of memory x ≡ Some (value_in memory cell))
+        (x % 8 ≡ 0) × (x + 8 ≤ data_start + length image.bytes) × (statics_of memory x ≡ Some (value_in_cell memory cell))
     by_even false t e = absurd (cc)
     by_even true t e =
         let even = eqb-true (x % 8) 0 t in

@@ -1,7 +1,7 @@
 -- The text's memory as the services of the machine see it: headers and cells that have not been
 -- written hold nothing.
 use Rattle.std.specs.Prelude.{ℕ, ◌%◌, ◌==◌, cond, length, Option, Some, None, slice_get}
-use Rattle.bs_words.specs.Memory.{Memory, HeapBlock, Cell, InHeader, InBlock, cell_at, value_in}
+use Rattle.bs_words.specs.Memory.{Memory, HeapBlock, Cell, InHeader, InBlock, cell_at, value_in_cell}
 use Rattle.bs_words.specs.declared.values.Value.{Value}
 use Rattle.bs_words.specs.declared.values.Value.TheVariants.{Word}
 use Rattle.mach_ir.specs.Acts.{Around, is_among_cells}
@@ -31,7 +31,7 @@ blocks_of a = record {
 
 abbrev pub static_in : Memory → Option Cell → Option Value
 static_in memory None = None
-static_in memory (Some cell) = Some (value_in memory cell)
+static_in memory (Some cell) = Some (value_in_cell memory cell)
 
 -- the static cells by address, also the last one of a list where its bytes do not fill it
 abbrev pub statics_of : Memory → ℕ → Option Value

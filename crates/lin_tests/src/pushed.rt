@@ -7,7 +7,7 @@ ghost use Rattle.lin_flow.specs.Sizes.{IsCountable};
 ghost use Rattle.lin_laws.specs.Graph.{AreNumbered};
 ghost use Rattle.lin_tests.specs.Positions.{Agree, AreAgreed, Fits, ArePositions};
 
-use lin_flow::{Labels, Walks, search_walks};
+use lin_flow::{LineLabels, Walks, search_walks};
 use lin_ir::Lin;
 use lin_laws::Position;
 use std::alloc::{AllocError, Global};
@@ -65,7 +65,7 @@ fn positions_of(alloc: Global, lin: &Lin) -> Result<Vec<Position>, AllocError>
     requires countable { IsCountable lin.now }
     ensures { IfOk result (λ positions. ArePositions lin.now positions.items) }
 {
-    let labels = Labels::of_function(alloc, lin)?;
+    let labels = LineLabels::of_function(alloc, lin)?;
     let Walks { search, nodes: _ } = search_walks(alloc, lin, &labels)?;
     Ok(search.positions)
 }

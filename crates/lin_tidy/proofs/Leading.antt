@@ -14,7 +14,7 @@ use Rattle.lin_ir.specs.declared.lin.Lin.{Lin}
 use Rattle.lin_ir.specs.declared.lin.Spot.{Spot}
 use Rattle.lin_laws.proofs.Places.{ends_label, place_is}
 use Rattle.lin_flow.specs.Labels.{line_of_label, AreLabelsOf}
-use Rattle.lin_flow.specs.declared.labels.Labels.{Labels}
+use Rattle.lin_flow.specs.declared.labels.LineLabels.{LineLabels}
 use Rattle.lin_tidy_rules.specs.Redirecting.{is_label_line, first_goes, leads_to, leaves_to, next_label, followed, final_label, last_exit}
 use Rattle.lin_tidy_rules.proofs.Following.{line, label_is}
 use Rattle.lin_unused.proofs.Between.{drop_line}
@@ -77,19 +77,19 @@ module _ (told : LinOp → (args results : List Spot) → Option ℕ) where
 -- ---- one jump after the other
 
 -- the code after a label, by the places of labels
-after_is : (m : Lin) (labels : Labels) (slice : List Line) (l place : ℕ) → AreLabelsOf m labels → slice ≡ m.code → place ≡ line_of_label labels l →
+after_is : (m : Lin) (labels : LineLabels) (slice : List Line) (l place : ℕ) → AreLabelsOf m labels → slice ≡ m.code → place ≡ line_of_label labels l →
     drop place slice ≡ after_label l m.code
 after_is m labels slice l place table same at =
     ap (drop place) same ∙ ap (λ p. drop p m.code) (at ∙ table.each l) ∙ place_is m (ends_label l m.code)
 
 -- the label to which one jumps from a label
-pub next_is : (m : Lin) (labels : Labels) (slice : List Line) (l place : ℕ) (o : Option ℕ) → AreLabelsOf m labels → slice ≡ m.code →
+pub next_is : (m : Lin) (labels : LineLabels) (slice : List Line) (l place : ℕ) (o : Option ℕ) → AreLabelsOf m labels → slice ≡ m.code →
     place ≡ line_of_label labels l → o ≡ leads_to (drop place slice) → next_label m l ≡ unwrap_or o l
 next_is m labels slice l place o table same at e =
     ap (λ o. unwrap_or o l) (sym (e ∙ ap leads_to (after_is m labels slice l place table same at)))
 
 -- and the exit there
-pub exit_is_at : (m : Lin) (labels : Labels) (slice : List Line) (l last place : ℕ) (o : Option ℕ) → AreLabelsOf m labels → slice ≡ m.code →
+pub exit_is_at : (m : Lin) (labels : LineLabels) (slice : List Line) (l last place : ℕ) (o : Option ℕ) → AreLabelsOf m labels → slice ≡ m.code →
     last ≡ final_label m l → place ≡ line_of_label labels last → o ≡ leaves_to (drop place slice) → option_map (final_label m) o ≡ last_exit m l
 exit_is_at m labels slice l last place o table same is at e =
     ap (option_map (final_label m))

@@ -16,7 +16,7 @@ use Rattle.lin_ir.specs.declared.lin.Spot.{Spot}
 use Rattle.lin_laws.specs.Graph.{HaveNumbers, AreNumbered}
 use Rattle.lin_laws.proofs.Places.{ends_label, place_is, after_within}
 use Rattle.lin_flow.specs.Labels.{line_of_label, AreLabelsOf}
-use Rattle.lin_flow.specs.declared.labels.Labels.{Labels}
+use Rattle.lin_flow.specs.declared.labels.LineLabels.{LineLabels}
 use Rattle.lin_tidy_rules.specs.Leaving.{with_code}
 use Rattle.linearise_rules.specs.Lowered.{opposite_test, limit_above}
 use Rattle.lin_tidy_rules.specs.Turning.{Head, Turn, branch_line, turned_line, turned_lines, tested_again, label_put, label_here, label_on, head_by, head_at, stands_first, exit_head, turn_for, line_turn, turn_at, is_on, is_led_to, opened_at, turned_all}
@@ -125,13 +125,13 @@ exit_there m free l i next o told some =
     ap (λ (i : Line). exit_head m free i.op i.args i.results next) ((told l).0 some)
 
 -- the code after a label, by the table of places
-pub after_place : (m : Lin) (labels : Labels) (l place : ℕ) → AreLabelsOf m labels → place ≡ line_of_label labels l →
+pub after_place : (m : Lin) (labels : LineLabels) (l place : ℕ) → AreLabelsOf m labels → place ≡ line_of_label labels l →
     drop place m.code ≡ after_label l m.code
 after_place m labels l place table at = ap (λ p. drop p m.code) (at ∙ table.each l) ∙ place_is m (ends_label l m.code)
 
 -- ---- which label the test keeps
 
-pub keeps_by_place : (m : Lin) (labels : Labels) (l place k : ℕ) (i : Line) (next : List Line) → AreLabelsOf m labels →
+pub keeps_by_place : (m : Lin) (labels : LineLabels) (l place k : ℕ) (i : Line) (next : List Line) → AreLabelsOf m labels →
     place ≡ line_of_label labels l → drop k m.code ≡ i ∷ next → nat_le place (k + 1) ≡ nat_le (length next) (length (after_label l m.code))
 keeps_by_place m labels l place k i next table at e =
     let there : place ≡ length m.code - length (after_label l m.code) = at ∙ table.each l in

@@ -6,7 +6,7 @@ ghost use Rattle.lin_flow.specs.Labels.{AreLabelsOf};
 ghost use Rattle.lin_tidy_rules.specs.Redirecting.{exit_or_jump, redirected_operation, redirect, leads_to, leaves_to, final_label, last_exit, redirected_all};
 ghost use Rattle.lin_tidy.specs.Targets.{first_line, target_in, exit_in, AreTargets};
 
-use lin_flow::Labels;
+use lin_flow::LineLabels;
 use lin_ir::{Flow, Lin, LinOp, Line};
 use lin_unused::forms::{exit_of, is_label, jump_of};
 use mach_ir::{Label, Seq};
@@ -42,7 +42,7 @@ fn exit_from(code: &[Line], place: usize) -> Option<Label>
 
 /// The label to which control goes on from a label by labels and jumps alone. Jumps that lead round
 /// are followed once for each line.
-fn last_label(lin: &Lin, labels: &Labels, label: Label) -> Label
+fn last_label(lin: &Lin, labels: &LineLabels, label: Label) -> Label
     requires { AreLabelsOf lin.now labels.now }
     ensures { result ≡ final_label lin.now label }
 {
@@ -60,7 +60,7 @@ fn last_label(lin: &Lin, labels: &Labels, label: Label) -> Label
 
 /// The label to which control goes on from a label by labels and jumps, one exit, and labels and
 /// jumps again.
-fn last_exit(lin: &Lin, labels: &Labels, label: Label) -> Option<Label>
+fn last_exit(lin: &Lin, labels: &LineLabels, label: Label) -> Option<Label>
     requires { AreLabelsOf lin.now labels.now }
     ensures { result ≡ last_exit lin.now label }
 {
@@ -129,7 +129,7 @@ impl Targets {
     }
 
     /// Enters where control comes from the label of a line, if it has one.
-    fn put_line(&mut self, lin: &Lin, labels: &Labels, line: &Line) -> Result<(), AllocError>
+    fn put_line(&mut self, lin: &Lin, labels: &LineLabels, line: &Line) -> Result<(), AllocError>
         requires { AreLabelsOf lin.now labels.now }
         ensures to { IfOk result (λ _. (l : ℕ) → target_in self.new l ≡
             cond (has_label l line.now.op) (final_label lin.now l) (target_in self.old l)) }
@@ -160,7 +160,7 @@ impl Targets {
         requires { length lin.now.code < 2 ^ 32 }
         ensures { IfOk result (AreTargets lin.now) }
     {
-        let labels = Labels::of_function(alloc, lin)?;
+        let labels = LineLabels::of_function(alloc, lin)?;
         let mut targets = Targets::new(alloc);
         for line in lin.code.as_slice() {
             targets.put_line(lin, &labels, line)?;

@@ -10,7 +10,7 @@ ghost use Rattle.lin_tidy_rules.specs.Turning.{is_on, line_turn, branch_line, te
 ghost use Rattle.lin_tidy.specs.Sizes.{HasLabels};
 ghost use Rattle.lin_tidy.specs.Loops.{head_view, turn_view, turns_in, is_opened, opened_in, first_turn, others_of, turned_by, AreChanges};
 
-use lin_flow::Labels;
+use lin_flow::LineLabels;
 use lin_ir::{Flow, Lin, LinOp, Line, Spot};
 use lin_unused::forms::{exit_of, goes_away, own_label};
 use linearise::{bare, opposite_test};
@@ -164,7 +164,12 @@ fn stands_first(label: Label, code: &[Line], place: u32) -> bool
 
 /// The branch to which the line at the place leads, if it is an exit to one that is not
 /// there already.
-fn exit_head(lin: &Lin, labels: &Labels, free: u32, place: u32) -> Result<Option<Head>, AllocError>
+fn exit_head(
+    lin: &Lin,
+    labels: &LineLabels,
+    free: u32,
+    place: u32,
+) -> Result<Option<Head>, AllocError>
     requires place { place < length lin.now.code }
     requires room { free + 2 * length lin.now.code < 2 ^ 32 }
     requires labels { AreLabelsOf lin.now labels.now }
@@ -186,7 +191,12 @@ fn exit_head(lin: &Lin, labels: &Labels, free: u32, place: u32) -> Result<Option
 
 /// What the line at the place becomes, if it is an exit to a branch. The label of the branch is
 /// kept where it is before the exit.
-fn line_turn(lin: &Lin, labels: &Labels, free: u32, place: u32) -> Result<Option<Turn>, AllocError>
+fn line_turn(
+    lin: &Lin,
+    labels: &LineLabels,
+    free: u32,
+    place: u32,
+) -> Result<Option<Turn>, AllocError>
     requires place { place < length lin.now.code }
     requires room { free + 2 * length lin.now.code < 2 ^ 32 }
     requires labels { AreLabelsOf lin.now labels.now }
@@ -265,7 +275,7 @@ impl Changes {
         requires { free + 2 * length lin.now.code < 2 ^ 32 }
         ensures { IfOk result (AreChanges lin.now free lin.now.code) }
     {
-        let labels = Labels::of_function(alloc, lin)?;
+        let labels = LineLabels::of_function(alloc, lin)?;
         let mut changes = Changes::new(alloc, lin.code.len())?;
         let mut place = lin.code.len() as u32;
         while place > 0 {

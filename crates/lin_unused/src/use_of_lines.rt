@@ -12,7 +12,7 @@ ghost use Rattle.lin_unused.specs.Forms.{IsNoSelfMove};
 use crate::forms::{is_label, is_landing, jump_of, no_self_moves, self_move};
 use crate::vals::as_vals;
 use lin_flow::lines::number_of;
-use lin_flow::{Labels, LiveWalks, Walks, live_walks, search_walks};
+use lin_flow::{LineLabels, LiveWalks, Walks, live_walks, search_walks};
 use lin_ir::{Lin, Line};
 use std::alloc::{AllocError, Global};
 
@@ -34,7 +34,7 @@ fn labels_between(code: &[Line], from: usize, to: usize) -> bool
 }
 
 /// Whether the line at the place jumps to where control comes without it.
-fn is_skipped(lin: &Lin, labels: &Labels, place: u32) -> bool
+fn is_skipped(lin: &Lin, labels: &LineLabels, place: u32) -> bool
     requires place { place < length lin.now.code }
     requires small { length lin.now.code < 2 ^ 32 }
     requires labels { AreLabelsOf lin.now labels.now }
@@ -52,7 +52,7 @@ fn is_skipped(lin: &Lin, labels: &Labels, place: u32) -> bool
 
 /// Whether the line at a place that walks come to has no use: it moves a location to itself that is
 /// not read, or jumps to where control comes without it.
-fn is_idle(lin: &Lin, walks: &LiveWalks, labels: &Labels, place: u32) -> bool
+fn is_idle(lin: &Lin, walks: &LiveWalks, labels: &LineLabels, place: u32) -> bool
     requires place { place < length lin.now.code }
     requires countable { IsCountable lin.now }
     requires numbered { AreNumbered lin.now }
@@ -67,7 +67,7 @@ fn is_idle(lin: &Lin, walks: &LiveWalks, labels: &Labels, place: u32) -> bool
 
 /// Whether the line at the place has no use. What walks come to, and what they read, is that of the
 /// function as vals.
-fn is_useless(lin: &Lin, walks: &LiveWalks, labels: &Labels, place: u32) -> bool
+fn is_useless(lin: &Lin, walks: &LiveWalks, labels: &LineLabels, place: u32) -> bool
     requires place { place < length lin.now.code }
     requires countable { IsCountable lin.now }
     requires numbered { AreNumbered lin.now }
@@ -93,7 +93,7 @@ fn by_reads(alloc: Global, lin: &Lin) -> Result<Vec<bool>, AllocError>
     let count = lin.code.len() as u32;
     let vals = as_vals(alloc, lin)?;
     let walks = live_walks(alloc, &vals)?;
-    let labels = Labels::of_function(alloc, lin)?;
+    let labels = LineLabels::of_function(alloc, lin)?;
     let mut flags = Vec::with_capacity(alloc, lin.code.len())?;
     for place in 0..count {
         flags.push(is_useless(lin, &walks, &labels, place))?;
@@ -102,7 +102,7 @@ fn by_reads(alloc: Global, lin: &Lin) -> Result<Vec<bool>, AllocError>
 }
 
 /// Whether the line at the place has no use, in a function where none moves a location to itself.
-fn is_passed_over(lin: &Lin, walks: &Walks, reached: u32, labels: &Labels, place: u32) -> bool
+fn is_passed_over(lin: &Lin, walks: &Walks, reached: u32, labels: &LineLabels, place: u32) -> bool
     requires place { place < length lin.now.code }
     requires small { length lin.now.code < 2 ^ 32 }
     requires still { All IsNoSelfMove lin.now.code }
@@ -127,7 +127,7 @@ fn by_walks(alloc: Global, lin: &Lin) -> Result<Vec<bool>, AllocError>
     ensures { IfOk result (λ flags. AreUseFlags lin.now flags.items) }
 {
     let count = lin.code.len() as u32;
-    let labels = Labels::of_function(alloc, lin)?;
+    let labels = LineLabels::of_function(alloc, lin)?;
     let walks = search_walks(alloc, lin, &labels)?;
     let reached = walks.nodes.len() as u32;
     let mut flags = Vec::with_capacity(alloc, lin.code.len())?;
@@ -146,7 +146,7 @@ fn by_labels(alloc: Global, lin: &Lin) -> Result<Vec<bool>, AllocError>
     ensures { IfOk result (λ flags. AreUseFlags lin.now flags.items) }
 {
     let count = lin.code.len() as u32;
-    let labels = Labels::of_function(alloc, lin)?;
+    let labels = LineLabels::of_function(alloc, lin)?;
     let mut flags = Vec::with_capacity(alloc, lin.code.len())?;
     for place in 0..count {
         flags.push(is_skipped(lin, &labels, place))?;

@@ -1,7 +1,7 @@
 -- Steps that make no call: what follows them says nothing of calls.
 use Rattle.std.proofs.Common.{ℕ, zero, suc, Bool, true, false, cond, not, ◌&&◌, ◌||◌, nat_eq, nat_lt, List, [], ◌∷◌, length, Option, Some, None, Result, Ok, Err, slice_get, sym, subst}
 use Rattle.bs_words.specs.Fits.{fits}
-use Rattle.bs_words.specs.Memory.{Cell, InBlock, InHeader, InStatic, Memory, cell_at, loaded, sizes, stored, value_in, width}
+use Rattle.bs_words.specs.Memory.{Cell, InBlock, InHeader, InStatic, Memory, cell_at, loaded, sizes, stored, value_in_cell, width}
 use Rattle.bs_words.specs.Operators.{apply, word_in}
 use Rattle.bs_words.specs.declared.types.Chunk.{Chunk}
 use Rattle.bs_words.specs.declared.types.Chunk.TheVariants as chunk
@@ -197,7 +197,7 @@ header_no chunk.I32 a q x v = tt
 header_no chunk.Val a q x v = tt
 
 first_no : (k : Chunk) (a : Around) (cell : Cell) (x v : Value) → NoAsk (first_written k a cell x v)
-first_no k a (InHeader q) x v = header_no k a q (value_in a.memory (InHeader q)) v
+first_no k a (InHeader q) x v = header_no k a q (value_in_cell a.memory (InHeader q)) v
 first_no k a (InBlock q j) x v = only_no (nat_eq (width k) 8) _ (after_no a (without (InBlock q j) a.unwritten) (stored k a.memory x v))
 first_no k a (InStatic l j) x v = tt
 

@@ -2,7 +2,7 @@
 use Rattle.std.proofs.Common.{◌≡◌, ◌≢◌, ℕ, zero, suc, ◌+◌, ◌-◌, ◌*◌, ◌/◌, ◌%◌, ◌^◌, ◌<◌, ◌≤◌, inl, inr, Bool, true, false, cond, ◌==◌, nat_le, List, length, Option, Some, None, slice_get, refl, ap, arith, ◌∙◌, sym, subst}
 use Rattle.std.proofs.lemmas.Bool.{cond-true, eq-eqb, eqb-true, le-leb, leb-true}
 use Rattle.bs_words.specs.Fits.{data_start}
-use Rattle.bs_words.specs.Memory.{Cell, InStatic, cell_at, cell_of_block, in_block, in_statics, offset_in_cell, sizes, value_in, HeapBlock, InBlock, InHeader, IsWidth}
+use Rattle.bs_words.specs.Memory.{Cell, InStatic, cell_at, cell_of_block, in_block, in_statics, offset_in_cell, sizes, value_in_cell, HeapBlock, InBlock, InHeader, IsWidth}
 use Rattle.bs_words.specs.Word.{add_word}
 use Rattle.bs_words.specs.declared.values.Value.{Value}
 use Rattle.bs_words.specs.declared.values.Value.TheVariants.{Word, Block, Function}
@@ -70,7 +70,7 @@ pub record Reached (s : Fixed) (placed : List Placed) (m : List Region) (a : Aro
   pub below : at < 0x38010000
   pub lies : Lies placed a at cell
   -- what is there once it has been written
-  pub is : is_among_cells cell a.unwritten ≡ false → StandsFor s placed (held_word m at) (value_in a.memory cell)
+  pub is : is_among_cells cell a.unwritten ≡ false → StandsFor s placed (held_word m at) (value_in_cell a.memory cell)
 
 module _ (s : Fixed) (placed : List Placed) (m : List Region) (regions : HasRegions (extents s.image s.heap s.base) m) (a : Around)
     (h : HeapStands s placed m a) (w : ℕ) (width : IsWidth w) where
@@ -208,7 +208,7 @@ module _ (s : Fixed) (placed : List Placed) (m : List Region) (regions : HasRegi
       first_in 0 data_start a.memory.statics (x - x % 8) (x % 8) w cell h.lie.lists (omega arith) (width_some w width) inside
       (subst (λ y. in_statics 0 a.memory.statics y w ≡ Some cell) sum p.1) in
       let value = static_at a.memory (x - x % 8) cell (omega arith) there in
-      let place = h.statics.place (x - x % 8) (value_in a.memory cell) value in
+      let place = h.statics.place (x - x % 8) (value_in_cell a.memory cell) value in
       let high = listed_below 0 data_start a.memory.statics x w cell h.lie.lists p.1 in
       let ends = h.lie.ends in
       let lies = static_of (x - x % 8) cell there in
@@ -228,8 +228,8 @@ module _ (s : Fixed) (placed : List Placed) (m : List Region) (regions : HasRegi
         below = (let short = s.functions.tables.bytes.short in let top = place.2 in omega (arith, short, top));
         lies = lies.3;
         is = λ written. record {
-          is = h.statics.cell (x - x % 8) (value_in a.memory cell) value;
-          known = h.statics.known (x - x % 8) (value_in a.memory cell) value;
+          is = h.statics.cell (x - x % 8) (value_in_cell a.memory cell) value;
+          known = h.statics.known (x - x % 8) (value_in_cell a.memory cell) value;
         };
       }
   reached (Block k o) cell e =
@@ -260,7 +260,7 @@ module _ (s : Fixed) (placed : List Placed) (m : List Region) (regions : HasRegi
         no_limit = λ q. omega (arith, q, high);
         below = up.below;
         lies = lies;
-        is = λ written. subst (λ z. StandsFor s placed z (value_in a.memory cell))
+        is = λ written. subst (λ z. StandsFor s placed z (value_in_cell a.memory cell))
             (sym (held_readable s m regions (add_word (start_of placed k) (o - o % 8)) up.readable))
             (cell_there s placed m regions a h (Block k (o - o % 8)) cell there written).stands;
       }

@@ -3,7 +3,7 @@ use Rattle.std.proofs.Common.{◌≡◌, ℕ, zero, suc, ◌+◌, ◌-◌, ◌/�
 use Rattle.std.specs.List.{AllByRecursion, Contains}
 use Rattle.std.proofs.lemmas.List.Elements.{All-nil, All-cons}
 use Rattle.bs_words.specs.Fits.{data_start}
-use Rattle.bs_words.specs.Memory.{InStatic, Memory, StaticList, cell_at, value_in}
+use Rattle.bs_words.specs.Memory.{InStatic, Memory, StaticList, cell_at, value_in_cell}
 use Rattle.bs_words.specs.Memory as memory
 use Rattle.bs_words.specs.declared.types.Chunk.TheVariants as chunk
 use Rattle.bs_words.specs.declared.values.Value.{Value}
@@ -77,26 +77,26 @@ module _ (y : ℕ) (v : Value) where
   IsOne = ((y ≡ 0x10000000) × (v ≡ Word 0)) ⊎ ((y ≡ 0x10000008) × (v ≡ Word 7))
 
   by_index : (index : ℕ) (l : StaticList) → slice_get (whole ∷ cut ∷ []) index ≡ Some l → l.start ≤ y → y + 1 ≤ l.start + l.size → y % 8 ≡ 0 →
-      v ≡ value_in one_byte (InStatic (0 + index) ((y - l.start) / 8)) → IsOne
+      v ≡ value_in_cell one_byte (InStatic (0 + index) ((y - l.start) / 8)) → IsOne
   by_index zero l e low high even is =
       let same : whole ≡ l = cc in
       let start : 0x10000000 ≡ l.start = ap (λ (k : StaticList). k.start) same in
       let size : 8 ≡ l.size = ap (λ (k : StaticList). k.size) same in
       let first : (y - l.start) / 8 ≡ 0 = omega (arith, start, size, low, high) in
-      inl (omega (arith, start, size, low, high, even), is ∙ ap (λ i. value_in one_byte (InStatic 0 i)) first)
+      inl (omega (arith, start, size, low, high, even), is ∙ ap (λ i. value_in_cell one_byte (InStatic 0 i)) first)
   by_index (suc zero) l e low high even is =
       let same : cut ≡ l = cc in
       let start : 0x10000008 ≡ l.start = ap (λ (k : StaticList). k.start) same in
       let size : 1 ≡ l.size = ap (λ (k : StaticList). k.size) same in
       let first : (y - l.start) / 8 ≡ 0 = omega (arith, start, size, low, high) in
-      inr (omega (arith, start, size, low, high, even), is ∙ ap (λ i. value_in one_byte (InStatic 1 i)) first)
+      inr (omega (arith, start, size, low, high, even), is ∙ ap (λ i. value_in_cell one_byte (InStatic 1 i)) first)
   by_index (suc (suc index)) l e low high even is = absurd (cc)
 
   pub cells_are : statics_of one_byte y ≡ Some v → IsOne
   cells_are e =
       let f = first_at one_byte y v e in
       let r = is_in 0 (whole ∷ cut ∷ []) y f.cell f.there in
-      by_index r.index r.list r.there r.low r.high f.even (f.is ∙ ap (value_in one_byte) r.is)
+      by_index r.index r.list r.there r.low r.high f.even (f.is ∙ ap (value_in_cell one_byte) r.is)
 
 module _ (image : Tables) (bytes : image.bytes ≡ 0 ∷ 0 ∷ 0 ∷ 0 ∷ 0 ∷ 0 ∷ 0 ∷ 0 ∷ 7 ∷ []) (no_roots : image.roots ≡ []) where
   count : length image.bytes ≡ 9

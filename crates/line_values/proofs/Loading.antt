@@ -1,6 +1,6 @@
 -- Loads of every chunk follow their lines.
 use Rattle.std.proofs.Common.{◌≡◌, ℕ, suc, ◌+◌, ◌*◌, ◌/◌, ◌%◌, ◌^◌, ◌<◌, ◌≤◌, ◌⊎◌, inl, inr, Bool, true, false, cond, List, [], ◌∷◌, ◌++◌, length, Option, Some, None, Result, Ok, Err, slice_index, refl, ap, arith, ◌∙◌, sym, subst, ⊎_elim, append_assoc}
-use Rattle.bs_words.specs.Memory.{Cell, cell_at, end_of_data, extended, loaded_as, loaded_from, offset_in_cell, part, value_in, width, IsWidth}
+use Rattle.bs_words.specs.Memory.{Cell, cell_at, end_of_data, extended, loaded_as, loaded_from, offset_in_cell, part, value_in_cell, width, IsWidth}
 use Rattle.bs_words.specs.Memory as memory
 use Rattle.bs_words.specs.declared.types.Chunk.{Chunk}
 use Rattle.bs_words.specs.declared.types.Chunk.TheVariants as chunk
@@ -138,7 +138,7 @@ module _ (s : Fixed) (n : NameAddresses) (laid : Laid) (m : Lin) (slots : m.slot
       ⊎_elim (λ e. inl e) (λ f. ⊎_elim (λ e. inr (inl e)) (λ g. ⊎_elim (λ e. inr (inr e)) (λ z. absurd z) g) f) i
 
   loads : (x z : Value) (cell : Cell) → held p.loc ≡ Some x → cell_at a.memory (width ch) (moved_by offset x) ≡ Some cell → is_among_cells cell a.unwritten ≡ false →
-      loaded_as ch (end_of_data a.memory) (offset_in_cell (moved_by offset x)) (value_in a.memory cell) ≡ Ok z →
+      loaded_as ch (end_of_data a.memory) (offset_in_cell (moved_by offset x)) (value_in_cell a.memory cell) ≡ Ok z →
       LeadsFurther s v k (λ w. Within s laid w young 0 (assign_spot r z held) a c)
   loads x z cell h there written e =
       let base : Register = register_of T1 p.loc in
@@ -172,8 +172,8 @@ module _ (s : Fixed) (n : NameAddresses) (laid : Laid) (m : Lin) (slots : m.slot
       let from : ℕ = reach.byte in
       let value : ℕ = register_loaded (load_width ch) (part (held_word u.memory reach.at) reach.byte (width ch)) in
       let stands : StandsFor s (blocks_by_serial u young) (register_loaded (load_width ch) (part (held_word u.memory reach.at) reach.byte (width ch))) z =
-      loaded_stands s (blocks_by_serial u young) (end_of_data a.memory) (held_word u.memory reach.at) reach.byte (held_below u.memory reach.at w.usable.regions.each) ch (value_in a.memory cell) z
-      lies reach.inside (subst (λ b. loaded_as ch (end_of_data a.memory) b (value_in a.memory cell) ≡ Ok z) reach.offset e) in
+      loaded_stands s (blocks_by_serial u young) (end_of_data a.memory) (held_word u.memory reach.at) reach.byte (held_below u.memory reach.at w.usable.regions.each) ch (value_in_cell a.memory cell) z
+      lies reach.inside (subst (λ b. loaded_as ch (end_of_data a.memory) b (value_in_cell a.memory cell) ≡ Ok z) reach.offset e) in
       let first = ad.gets x (no_function a (width ch) offset x cell there) u at w sx in
       let code : IsInstructionAt s (u.place + g3.own) (Load (load_width ch) (suc tg.t) (suc ad.r) (address_offset offset % 4096)) =
       subst (λ y. IsInstructionAt s (y + g3.own) (Load (load_width ch) (suc tg.t) (suc ad.r) (address_offset offset % 4096))) (sym at)

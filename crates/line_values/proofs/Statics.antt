@@ -3,7 +3,7 @@ use Rattle.std.proofs.Common.{◌≡◌, ◌≢◌, ℕ, zero, suc, ◌+◌, ◌
 use Rattle.std.proofs.lemmas.Bool.{and_parts, eqb-true, leb-true, or_cases}
 use Rattle.std.proofs.lemmas.Option.{same_Some, slice_get_within, get_or_from_slice_get}
 use Rattle.bs_words.specs.Fits.{data_start, fits}
-use Rattle.bs_words.specs.Memory.{Cell, InStatic, Memory, StaticList, end_of_data, end_of_statics, in_statics, is_root, type_in, type_of_static, value_in, with_value}
+use Rattle.bs_words.specs.Memory.{Cell, InStatic, Memory, StaticList, end_of_data, end_of_statics, in_statics, is_root, type_in, type_of_static, value_in_cell, with_cell_value}
 use Rattle.bs_words.specs.declared.types.Ty.TheVariants as ty
 use Rattle.bs_words.specs.declared.values.Value.{Value}
 use Rattle.bs_words.specs.declared.values.Value.TheVariants.{Word, Block, Function}
@@ -126,7 +126,7 @@ pub record IsFirst (memory : Memory) (y : ℕ) (v : Value) : Type 0 where
   pub even : y % 8 ≡ 0
   pub cell : Cell
   pub there : in_statics 0 memory.statics y 1 ≡ Some cell
-  pub is : v ≡ value_in memory cell
+  pub is : v ≡ value_in_cell memory cell
 
 pub first_at : (memory : Memory) (y : ℕ) (v : Value) → statics_of memory y ≡ Some v → IsFirst memory y v
 first_at memory y v e = by_even (y % 8 == 0) refl e
@@ -154,7 +154,7 @@ module _ (s : Fixed) (placed : List Placed) (m : List Region) (regions : HasRegi
   no_list = record { start = 0; size = 0; cells = [] }
 
   abbrev after : Memory
-  after = with_value a.memory (InStatic list index) x
+  after = with_cell_value a.memory (InStatic list index) x
 
   zero_more : (i : ℕ) → 0 + i ≡ i
   zero_more i = omega arith
@@ -185,18 +185,18 @@ module _ (s : Fixed) (placed : List Placed) (m : List Region) (regions : HasRegi
   at_is = let e = same_cell.1 in let w = own_cells in let lo = inside.low in let ev = even in omega (arith, e, w, lo, ev)
 
   at_place : (at % 8 ≡ 0) × (data_start ≤ at) × (at < data_start + length s.image.bytes)
-  at_place = h.statics.place at (value_in a.memory (InStatic list index)) (static_at a.memory at (InStatic list index) even there)
+  at_place = h.statics.place at (value_in_cell a.memory (InStatic list index)) (static_at a.memory at (InStatic list index) even there)
 
   at_held : IsHeld m at
   at_held = let p = at_place in data_held s m regions at p.1 p.2
 
-  after_cells : (y : ℕ) → in_statics 0 (with_value a.memory (InStatic list index) x).statics y 1 ≡ in_statics 0 a.memory.statics y 1
+  after_cells : (y : ℕ) → in_statics 0 (with_cell_value a.memory (InStatic list index) x).statics y 1 ≡ in_statics 0 a.memory.statics y 1
   after_cells y =
       ap (λ (l : StaticList). in_statics 0 (slice_set a.memory.statics list (record l { cells = slice_set l.cells index x })) y 1) own_is
       ∙ in_same 0 a.memory.statics list (slice_set inside.list.cells index x) inside.list y own_there
 
   -- the cell that was written
-  value_here : value_in (with_value a.memory (InStatic list index) x) (InStatic list index) ≡ x
+  value_here : value_in_cell (with_cell_value a.memory (InStatic list index) x) (InStatic list index) ≡ x
   value_here =
       ap (λ (l : StaticList). slice_index_or l.cells index (Word 0))
       (get_or-set_same a.memory.statics list _ no_list (slice_get_within a.memory.statics list inside.list own_there))
@@ -204,11 +204,11 @@ module _ (s : Fixed) (placed : List Placed) (m : List Region) (regions : HasRegi
       ∙ get_or-set_same inside.list.cells index x (Word 0) in_cells
 
   -- and another one
-  value_other : (j i : ℕ) → ((j ≡ list) → i ≢ index) → value_in (with_value a.memory (InStatic list index) x) (InStatic j i) ≡ value_in a.memory (InStatic j i)
+  value_other : (j i : ℕ) → ((j ≡ list) → i ≢ index) → value_in_cell (with_cell_value a.memory (InStatic list index) x) (InStatic j i) ≡ value_in_cell a.memory (InStatic j i)
   value_other j i d =
       ⊎_elim
       (λ (e : j ≡ list).
-      subst (λ z. value_in (with_value a.memory (InStatic list index) x) (InStatic z i) ≡ value_in a.memory (InStatic z i)) (sym e)
+      subst (λ z. value_in_cell (with_cell_value a.memory (InStatic list index) x) (InStatic z i) ≡ value_in_cell a.memory (InStatic z i)) (sym e)
       (ap (λ (l : StaticList). slice_index_or l.cells i (Word 0))
       (get_or-set_same a.memory.statics list _ no_list (slice_get_within a.memory.statics list inside.list own_there))
       ∙ get_or-set_other (slice_index_or a.memory.statics list no_list).cells index i x (Word 0) (d e)))
@@ -216,15 +216,15 @@ module _ (s : Fixed) (placed : List Placed) (m : List Region) (regions : HasRegi
       (same_or_not j list)
 
   -- a static cell as it is then
-  static_as : (y : ℕ) (v : Value) → statics_of (with_value a.memory (InStatic list index) x) y ≡ Some v →
+  static_as : (y : ℕ) (v : Value) → statics_of (with_cell_value a.memory (InStatic list index) x) y ≡ Some v →
       ((y ≡ at) × (v ≡ x)) ⊎ ((y ≢ at) × (statics_of a.memory y ≡ Some v))
   static_as y v e =
-      let f = first_at (with_value a.memory (InStatic list index) x) y v e in
+      let f = first_at (with_cell_value a.memory (InStatic list index) x) y v e in
       let g : in_statics 0 a.memory.statics y 1 ≡ Some f.cell = sym (after_cells y) ∙ f.there in
       ⊎_elim
       (λ (q : y ≡ at).
       let same : f.cell ≡ InStatic list index = same_static g (subst (λ z. in_statics 0 a.memory.statics z 1 ≡ Some (InStatic list index)) (sym q) there) in
-      inl (q, f.is ∙ ap (value_in (with_value a.memory (InStatic list index) x)) same ∙ value_here))
+      inl (q, f.is ∙ ap (value_in_cell (with_cell_value a.memory (InStatic list index) x)) same ∙ value_here))
       (λ (n : y ≢ at).
       let r = is_in 0 a.memory.statics y f.cell g in
       let apart : (0 + r.index ≡ list) → (y - r.list.start) / 8 ≢ index = λ i k.
@@ -232,9 +232,9 @@ module _ (s : Fixed) (placed : List Placed) (m : List Region) (regions : HasRegi
       ∙ i) r.there) own_there in
       let start : r.list.start ≡ inside.list.start = ap (λ (l : StaticList). l.start) same in
       let lo = r.low in let w = own_cells in let ev = f.even in let al = at_is in omega (arith, start, lo, w, ev, al, k)) in
-      let old : v ≡ value_in a.memory f.cell =
-      f.is ∙ ap (value_in (with_value a.memory (InStatic list index) x)) r.is ∙ value_other (0 + r.index) ((y - r.list.start) / 8) apart
-      ∙ ap (value_in a.memory) (sym r.is) in
+      let old : v ≡ value_in_cell a.memory f.cell =
+      f.is ∙ ap (value_in_cell (with_cell_value a.memory (InStatic list index) x)) r.is ∙ value_other (0 + r.index) ((y - r.list.start) / 8) apart
+      ∙ ap (value_in_cell a.memory) (sym r.is) in
       inr (n, static_at a.memory y f.cell f.even g ∙ ap Some (sym old)))
       (same_or_not y at)
     where
@@ -255,7 +255,7 @@ module _ (s : Fixed) (placed : List Placed) (m : List Region) (regions : HasRegi
       kind_by (is_root a.memory.roots at) refl (ap (λ t. fits (end_of_data a.memory) (type_of_static t) x) (sym root) ∙ fit)
 
   -- the lists lie as they did
-  lies_after : StaticsLie s.image (with_value a.memory (InStatic list index) x)
+  lies_after : StaticsLie s.image (with_cell_value a.memory (InStatic list index) x)
   lies_after = record {
     lists = subst (λ (l : StaticList). AreBehind data_start (slice_set a.memory.statics list (record l { cells = slice_set l.cells index x }))) (sym own_is)
         (behind_same data_start a.memory.statics list (slice_set inside.list.cells index x) inside.list own_there
@@ -266,7 +266,7 @@ module _ (s : Fixed) (placed : List Placed) (m : List Region) (regions : HasRegi
     roots = h.lie.roots;
   }
 
-  pub static_stored : HeapStands s placed (hold m at value) (record a { memory = with_value a.memory (InStatic list index) x })
+  pub static_stored : HeapStands s placed (hold m at value) (record a { memory = with_cell_value a.memory (InStatic list index) x })
   static_stored =
       let p = at_place in
       let short = s.functions.tables.bytes.short in

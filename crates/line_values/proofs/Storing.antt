@@ -1,7 +1,7 @@
 -- Stores of every chunk follow their lines.
 use Rattle.std.proofs.Common.{◌≡◌, ℕ, ◌+◌, ◌-◌, ◌*◌, ◌%◌, ◌^◌, ◌<◌, ◌≤◌, ◌⊎◌, inl, inr, Bool, true, false, cond, List, [], length, Some, Result, Ok, Err, refl, ap, arith, ◌∙◌, sym, subst, ⊎_elim, slice_get, slice_set, slice_index_or, nat_eq, nat_lt, nat_le}
 use Rattle.bs_words.specs.Fits.{data_start, fits, misfit}
-use Rattle.bs_words.specs.Memory.{Cell, cell_at, end_of_data, offset_in_cell, value_in, width, HeapBlock, InBlock, InHeader, InStatic, Memory, in_statics, put_in, put_part, put_whole, replaced, stored_as, stored_in, type_in, type_of_cells, with_value}
+use Rattle.bs_words.specs.Memory.{Cell, cell_at, end_of_data, offset_in_cell, value_in_cell, width, HeapBlock, InBlock, InHeader, InStatic, Memory, in_statics, put_in, put_part, put_whole, replaced, stored_as, stored_in, type_in, type_of_cells, with_cell_value}
 use Rattle.bs_words.specs.Memory as memory
 use Rattle.bs_words.specs.declared.types.Chunk.{Chunk}
 use Rattle.bs_words.specs.declared.types.Chunk.TheVariants as chunk
@@ -39,16 +39,16 @@ ok_memory e = cc
 -- a memory in which a cell has a value that fits it
 record Puts (s : Fixed) (placed : List Placed) (memory after : Memory) (cell : Cell) (w : ℕ) : Type 0 where
   pub value : Value
-  pub is : after ≡ with_value memory cell value
+  pub is : after ≡ with_cell_value memory cell value
   pub fits_cell : fits (end_of_data memory) (type_in memory cell) value ≡ true
   pub stands : StandsFor s placed w value
 
 put_by : (end : ℕ) (memory after : Memory) (cell : Cell) (v : Value) → put_in end memory cell v ≡ Ok after →
-    (after ≡ with_value memory cell v) × (fits end (type_in memory cell) v ≡ true)
+    (after ≡ with_cell_value memory cell v) × (fits end (type_in memory cell) v ≡ true)
 put_by end memory after cell v e = by_test (fits end (type_in memory cell) v) refl e
   where
-    by_test : (t : Bool) → fits end (type_in memory cell) v ≡ t → cond t (Ok (with_value memory cell v)) (Err (misfit (type_in memory cell))) ≡ Ok after →
-        (after ≡ with_value memory cell v) × (t ≡ true)
+    by_test : (t : Bool) → fits end (type_in memory cell) v ≡ t → cond t (Ok (with_cell_value memory cell v)) (Err (misfit (type_in memory cell))) ≡ Ok after →
+        (after ≡ with_cell_value memory cell v) × (t ≡ true)
     by_test true t e = (sym (ok_memory e), refl)
     by_test false t e = absurd (cc)
 
@@ -79,10 +79,10 @@ module _ (s : Fixed) (placed : List Placed) (memory after : Memory) (cell : Cell
       at_zero : replaced old 0 8 w ≡ w
       at_zero = omega (arith, small, fits_w)
 
-  part_puts : (bytes : ℕ) → StandsFor s placed old (value_in memory cell) →
-      put_part (end_of_data memory) memory cell from bytes (value_in memory cell) v ≡ Ok after → Puts s placed memory after cell (replaced old from bytes w)
+  part_puts : (bytes : ℕ) → StandsFor s placed old (value_in_cell memory cell) →
+      put_part (end_of_data memory) memory cell from bytes (value_in_cell memory cell) v ≡ Ok after → Puts s placed memory after cell (replaced old from bytes w)
   part_puts bytes before e =
-      let g = part_by (end_of_data memory) memory after cell from bytes (value_in memory cell) v e in
+      let g = part_by (end_of_data memory) memory after cell from bytes (value_in_cell memory cell) v e in
       let p = put_by (end_of_data memory) memory after cell (Word (replaced g.0 from bytes g.1)) g.4 in
       let is_old : old ≡ g.0 = (subst (StandsFor s placed old) g.2 before).is in
       let is_new : w ≡ g.1 = (subst (StandsFor s placed w) g.3 stands).is in
@@ -94,7 +94,7 @@ module _ (s : Fixed) (placed : List Placed) (memory after : Memory) (cell : Cell
       }
 
   -- a store of a whole cell, or into a cell that has been written
-  puts : (k : Chunk) → from + width k ≤ 8 → (width k ≡ 8) ⊎ StandsFor s placed old (value_in memory cell) →
+  puts : (k : Chunk) → from + width k ≤ 8 → (width k ≡ 8) ⊎ StandsFor s placed old (value_in_cell memory cell) →
       stored_as k (end_of_data memory) memory cell from v ≡ Ok after → Puts s placed memory after cell (replaced old from (width k) w)
   puts chunk.Int l before e = whole_puts ty.Int l e
   puts chunk.Val l before e = whole_puts ty.Val l e

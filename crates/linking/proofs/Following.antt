@@ -16,7 +16,7 @@ use Rattle.cmm_meaning.specs.Setting.{setting_of}
 use Rattle.cmm_meaning.specs.State.{Doing, Asked, Callee, Inside, Outside, Called, World}
 use Rattle.correctness.specs.Setting.{AreWords}
 use Rattle.mach_ir.specs.Runs.{ActivationSetting, Step, Continues, Pays, Deepens, Waits, FinishesBy, Finishes, FinishesRaising, IsStuck, Tally, RunProgress, Running, Asking, Ended, Wrong, units_of, kept_of, run_onward, runs}
-use Rattle.meaning_fuel.specs.Whole.{whole}
+use Rattle.meaning_fuel.specs.Whole.{file_surroundings}
 use Rattle.meaning_laws.specs.Fitting.{memory_after, FitsCallee, Answered, answered, answered_raise, unfit, unanswered}
 use Rattle.meaning_laws.specs.Links.{Call, OfFunction, OfOutside, asked_in, done_by, FitsCall, fits_function, CameBack, gave, threw, Came, asked_by, spent_by, OnItsOwn, CallsBetween, no_more, next}
 use Rattle.meaning_laws.specs.Units.{IsPrefixOf, Later, world_of}
@@ -130,7 +130,7 @@ module _ (S : Type 0) (p : Program S) (pace : Words S) (file : FileTree) (layout
 
   abbrev pub Serves : ℕ → Type 0
   Serves bound =
-      (a : Below) (call : Called) (v : World) (x : X) → v.left < bound → FitsCallee (setting_of (whole file layout)) call.function call.arguments →
+      (a : Below) (call : Called) (v : World) (x : X) → v.left < bound → FitsCallee (setting_of (file_surroundings file layout)) call.function call.arguments →
       IsGivenTo IsGiven (OfFunction call) v → Entry a call.function call.below call.arguments v.memory (outer_of v) x →
       DoesCall X turn see stack heap most words (Back a) v x (callees file layout (suc v.left) call v)
 
@@ -168,19 +168,19 @@ module _ (S : Type 0) (p : Program S) (pace : Words S) (file : FileTree) (layout
 
     abbrev LinkOf : ℕ → Type 0
     LinkOf k =
-        (s : S) (w last : World) (calls : List Came) (asked : List Asked) (units need : ℕ) (x : X) → CallsBetween (whole file layout) bound w calls last →
+        (s : S) (w last : World) (calls : List Came) (asked : List Asked) (units need : ℕ) (x : X) → CallsBetween (file_surroundings file layout) bound w calls last →
         AllGiven IsGiven calls →
         (tally_of (runs (p.step f c) k s (tally asked calls units need))).asked ≡ asked ++ map asked_by calls →
         IsMoving (runs (p.step f c) k s (tally asked calls units need)) → IsReached S p f c s → p.stack c s ≤ need → At a f below s (outer_of w) x →
         Reaches a f below last calls units (pace.owed f s) 0 (pace.ahead f s) (runs (p.step f c) k s (tally asked calls units need)) x
 
     facts_of : (k : ℕ) (s : S) (w last : World) (calls : List Came) (asked : List Asked) (units need : ℕ) →
-        CallsBetween (whole file layout) bound w calls last →
+        CallsBetween (file_surroundings file layout) bound w calls last →
         (tally_of (runs (p.step f c) k s (tally asked calls units need))).asked ≡ asked ++ map asked_by calls →
         IsMoving (runs (p.step f c) k s (tally asked calls units need)) →
         Facts S p (p.step f c) need (p.heap s) (units + units_called calls) (runs (p.step f c) k s (tally asked calls units need))
     facts_of k s w last calls asked units need between same m =
-        facts S p (p.step f c) c (λ s. regular.step f c s) (whole file layout) bound k s w last calls asked units need between same m
+        facts S p (p.step f c) c (λ s. regular.step f c s) (file_surroundings file layout) bound k s w last calls asked units need between same m
 
     -- ---- what has been done, and makes no call, goes on
 
@@ -212,7 +212,7 @@ module _ (S : Type 0) (p : Program S) (pace : Words S) (file : FileTree) (layout
 
     after_step : (k : ℕ) → LinkOf k → (x : Step S) (stack' heap' left : ℕ) → IsRegularStep S p c stack' heap' x → StepForward S words (pace.ahead f) left x →
         ((u : S) → StepLeadsTo S u x → IsReached S p f c u) → {w last : World} {calls : List Came} (asked : List Asked) (units need : ℕ) (y : X) → stack' ≤ need →
-        CallsBetween (whole file layout) bound w calls last → AllGiven IsGiven calls →
+        CallsBetween (file_surroundings file layout) bound w calls last → AllGiven IsGiven calls →
         (tally_of (run_onward (runs (p.step f c) k) x (tally asked calls units need))).asked ≡ asked ++ map asked_by calls →
         IsMoving (run_onward (runs (p.step f c) k) x (tally asked calls units need)) → After x (outer_of w) y →
         Reaches a f below last calls units (owed_after x) (paid_by x) left (run_onward (runs (p.step f c) k) x (tally asked calls units need)) y
@@ -285,7 +285,7 @@ module _ (S : Type 0) (p : Program S) (pace : Words S) (file : FileTree) (layout
         (stack' heap' cost left ahead : ℕ) → cost + left ≤ ahead → IsRegularStep S p c stack' heap' x →
         StepForward S words (pace.ahead f) left x → ((u : S) → StepLeadsTo S u x → IsReached S p f c u) →
         (w last : World) (calls : List Came) (asked : List Asked) (units need : ℕ)
-        (y : X) → stack' ≤ need → CallsBetween (whole file layout) bound w calls last → AllGiven IsGiven calls →
+        (y : X) → stack' ≤ need → CallsBetween (file_surroundings file layout) bound w calls last → AllGiven IsGiven calls →
         (tally_of (run_onward (runs (p.step f c) k) x (tally asked calls units need))).asked ≡ asked ++ map asked_by calls →
         IsMoving (run_onward (runs (p.step f c) k) x (tally asked calls units need)) → (s h : ℕ) →
         s ≤ (tally_of (run_onward (runs (p.step f c) k) x (tally asked calls units need))).need →
@@ -327,7 +327,7 @@ module _ (S : Type 0) (p : Program S) (pace : Words S) (file : FileTree) (layout
 
     function_served : (cost : ℕ) (call : Called) (before : World) (x : X) (P : Doing → Outer → X → Type 0) (above : Below) →
         EventuallyHolds X turn see stack heap 0 0 before.made (Near 1 cost (Entry above call.function call.below call.arguments before.memory (outer_of before))) x →
-        before.left < bound → FitsCallee (setting_of (whole file layout)) call.function call.arguments → IsGivenTo IsGiven (OfFunction call) before →
+        before.left < bound → FitsCallee (setting_of (file_surroundings file layout)) call.function call.arguments → IsGivenTo IsGiven (OfFunction call) before →
         {d : Doing} {after : World} → CameBack (callees file layout (suc before.left) call before) d after → Later before after →
         ((v : Outer) (y : X) → Back above d v y → P d v y) →
         EventuallyHolds X turn see stack heap after.stack_need (heap_need after.memory) after.made (Served 1 cost before.left after.left (P d (outer_of after))) x
@@ -421,7 +421,7 @@ module _ (S : Type 0) (p : Program S) (pace : Words S) (file : FileTree) (layout
         IsRegularStep S p c stack' heap' (Waits call go) → StepForward S words (pace.ahead f) left (Waits call go) →
         ((u : S) → StepLeadsTo S u (Waits call go) → IsReached S p f c u) →
         (last : World) (came : Came) (calls : List Came) (asked : List Asked) (units need : ℕ) (y : X) →
-        stack' ≤ need → CallsBetween (whole file layout) bound came.after calls last → AllGiven IsGiven calls →
+        stack' ≤ need → CallsBetween (file_surroundings file layout) bound came.after calls last → AllGiven IsGiven calls →
         heap_need call.memory ≤ heap_need (memory_after came.doing) → call ≡ asked_by came →
         (tally_of (run_onward (runs (p.step f c) k) (go came.doing) (tally (asked ++ call ∷ []) calls (units_of call.callee units) need))).asked ≡
         (asked ++ call ∷ []) ++ map asked_by calls →
@@ -468,7 +468,7 @@ module _ (S : Type 0) (p : Program S) (pace : Words S) (file : FileTree) (layout
     asks : (k : ℕ) → LinkOf k → (call : Asked) (go : Doing → Step S) (stack' heap' cost left ahead : ℕ) → cost + left ≤ ahead →
         IsRegularStep S p c stack' heap' (Waits call go) → StepForward S words (pace.ahead f) left (Waits call go) →
         ((u : S) → StepLeadsTo S u (Waits call go) → IsReached S p f c u) → {w last : World} {calls : List Came} (asked : List Asked) (units need : ℕ) (y : X) →
-        stack' ≤ need → CallsBetween (whole file layout) bound w calls last → AllGiven IsGiven calls →
+        stack' ≤ need → CallsBetween (file_surroundings file layout) bound w calls last → AllGiven IsGiven calls →
         (tally_of (run_onward (runs (p.step f c) k) (Waits call go) (tally asked calls units need))).asked ≡ asked ++ map asked_by calls →
         IsMoving (run_onward (runs (p.step f c) k) (Waits call go) (tally asked calls units need)) →
         AsksThis cost call go (outer_of w) y →
@@ -489,7 +489,7 @@ module _ (S : Type 0) (p : Program S) (pace : Words S) (file : FileTree) (layout
         (by came.call refl fit did given.0 (subst (λ q. AsksThis cost q go (outer_of w) y) at.head carries)
         (ap (λ (q : Asked). unit_of q.callee) at.head))
       where
-        by : (q : Call) → came.call ≡ q → FitsCall (whole file layout) q → CameBack (done_by (whole file layout) q came.before) came.doing came.after →
+        by : (q : Call) → came.call ≡ q → FitsCall (file_surroundings file layout) q → CameBack (done_by (file_surroundings file layout) q came.before) came.doing came.after →
             IsGivenTo IsGiven q came.before →
             AsksThis cost (asked_in came.before.memory q) go (outer_of w) y →
             unit_of call.callee ≡ unit_of (asked_in came.before.memory q).callee →
@@ -534,7 +534,7 @@ module _ (S : Type 0) (p : Program S) (pace : Words S) (file : FileTree) (layout
 
     tails : (k : ℕ) (call : Asked) (kept : Ret) (cost ahead : ℕ) → cost ≤ ahead →
         {w last : World} {calls : List Came} (asked : List Asked) (units need : ℕ) (y : X) →
-        CallsBetween (whole file layout) bound w calls last → AllGiven IsGiven calls →
+        CallsBetween (file_surroundings file layout) bound w calls last → AllGiven IsGiven calls →
         (tally_of (run_onward (runs (p.step f c) k) (FinishesBy call kept) (tally asked calls units need))).asked ≡ asked ++ map asked_by calls →
         TailsThis cost call (outer_of w) y →
         Reaches a f below last calls units 0 0 ahead (run_onward (runs (p.step f c) k) (FinishesBy call kept) (tally asked calls units need)) y
@@ -570,7 +570,7 @@ module _ (S : Type 0) (p : Program S) (pace : Words S) (file : FileTree) (layout
         unit_at_most (Inside callee) = omega arith
         unit_at_most (Outside row frame) = omega arith
 
-        by : (q : Call) → came.call ≡ q → FitsCall (whole file layout) q → CameBack (done_by (whole file layout) q came.before) came.doing came.after →
+        by : (q : Call) → came.call ≡ q → FitsCall (file_surroundings file layout) q → CameBack (done_by (file_surroundings file layout) q came.before) came.doing came.after →
             IsGivenTo IsGiven q came.before →
             TailsThis cost (asked_in came.before.memory q) (outer_of w) y →
             unit_of call.callee ≡ unit_of (asked_in came.before.memory q).callee →
@@ -600,7 +600,7 @@ module _ (S : Type 0) (p : Program S) (pace : Words S) (file : FileTree) (layout
     acts : (k : ℕ) → LinkOf k → (x : Step S) (owed stack' heap' cost left ahead : ℕ) → cost + left ≤ ahead → IsRegularStep S p c stack' heap' x →
         StepForward S words (pace.ahead f) left x → ((u : S) → StepLeadsTo S u x → IsReached S p f c u) →
         (w last : World) (calls : List Came) (asked : List Asked) (units need : ℕ)
-        (y : X) → stack' ≤ need → CallsBetween (whole file layout) bound w calls last → AllGiven IsGiven calls →
+        (y : X) → stack' ≤ need → CallsBetween (file_surroundings file layout) bound w calls last → AllGiven IsGiven calls →
         (tally_of (run_onward (runs (p.step f c) k) x (tally asked calls units need))).asked ≡ asked ++ map asked_by calls →
         IsMoving (run_onward (runs (p.step f c) k) x (tally asked calls units need)) → CarriesThis owed cost x (outer_of w) y →
         Reaches a f below last calls units owed 0 ahead (run_onward (runs (p.step f c) k) x (tally asked calls units need)) y
@@ -642,7 +642,7 @@ module _ (S : Type 0) (p : Program S) (pace : Words S) (file : FileTree) (layout
     acts k ih IsStuck owed stack' heap' cost left ahead room g forth reached w last calls asked units need y fits between given same m carries = absurd m
 
     stands : (s : S) {w last : World} {calls : List Came} (asked : List Asked) (units need ahead : ℕ) (x : X) →
-        CallsBetween (whole file layout) bound w calls last →
+        CallsBetween (file_surroundings file layout) bound w calls last →
         asked ≡ asked ++ map asked_by calls → At a f below s (outer_of w) x →
         Reaches a f below last calls units (pace.owed f s) 0 ahead (Running s (tally asked calls units need)) x
     stands s {w} {last} asked units need ahead x (no_more o) same at =

@@ -22,7 +22,7 @@ use Rattle.guarded_machine.specs.Guarded.{guarded_after, guarded_of}
 use Rattle.guarded_machine.proofs.Runs.{IsRefused, guarded_orderly, needed_until, never_needless, same_or_refused, same_run}
 use Rattle.image_form.specs.Tables.{Tables, Func}
 use Rattle.machine_laws.specs.Steps.{IsFrontOf}
-use Rattle.meaning_fuel.specs.Whole.{whole}
+use Rattle.meaning_fuel.specs.Whole.{file_surroundings}
 use Rattle.meaning_laws.specs.Fitting.{FitsCallee, CallsFitAndGrow}
 use Rattle.meaning_laws.proofs.Given.{callees_give}
 use Rattle.meaning_laws.proofs.LinksWhole.{whole_calls_fit}
@@ -131,9 +131,9 @@ module _ (S : Type 0) (p : Program S) (w : Words S) (most words : ℕ) (file : F
         let e : Evaluation = callees file layout (suc n) (first_call entry args) world in
         let there : slice_get (map comps_of (functions file)) entry ≡ Some (comps_of f) = slice_get-map comps_of (functions file) entry
         ∙ ap (option_map comps_of) entered.of_file in
-        let fits : FitsCallee (setting_of (whole file layout)) entry (map Word args) = record
+        let fits : FitsCallee (setting_of (file_surroundings file layout)) entry (map Word args) = record
         { parameters = comps_of f; callee = there; fit = entered.args_fit } in
-        let calls : CallsFitAndGrow (whole file layout) = whole_calls_fit file layout in
+        let calls : CallsFitAndGrow (file_surroundings file layout) = whole_calls_fit file layout in
         told_of Now (guarded_of schedule) seen stack heap most words layout (data_end file) (result_of (body_type f)) (λ d o x. Back setup a.bottom d o x)
         stub_here world
         (begun image row args answers stack heap) e (callees_give file layout (suc n) (first_call entry args) f world entered.of_file entered.args_fit)

@@ -15,12 +15,12 @@ use Rattle.bs_words.specs.declared.values.Value.TheVariants.{Word}
 use Rattle.cmm_data.specs.Placement.{data_end, value_of_symbol}
 use Rattle.cmm_tree.specs.Tree.{FunctionTree, FileTree, functions, comps_of}
 use Rattle.cmm_meaning.specs.Layout.{Layout, observed}
-use Rattle.cmm_meaning.specs.Run.{made, nobody, answered, frame_answered, outside, callees}
+use Rattle.cmm_meaning.specs.Run.{with_call_made, nobody, answered, frame_answered, outside, callees}
 use Rattle.cmm_meaning.specs.Setting.{setting_of}
 use Rattle.cmm_meaning.specs.State.{Doing, Gave, Threw, Asked, Called, World}
 use Rattle.cmm_meaning.specs.Evaluation.{NotProper, Evaluation, Gives, Exits, Raises, Stops, fit_parameters}
 use Rattle.correctness.specs.Setting.{AreWords}
-use Rattle.meaning_fuel.specs.Whole.{whole}
+use Rattle.meaning_fuel.specs.Whole.{file_surroundings}
 use Rattle.meaning_laws.specs.Fitting.{FitsCallee}
 use Rattle.meaning_laws.specs.Links.{Call, OfFunction, OfOutside, asked_in, done_by, FitsCall, fits_function, CameBack, gave, threw, Came, asked_by, doing_of, CallsBetween, no_more, next, EndsSo, Linked}
 use Rattle.meaning_laws.specs.Links as links
@@ -77,7 +77,7 @@ module _ (file : FileTree) (layout : Layout) (IsGiven : List Value → Memory �
   frame_known arguments result call (suc n ∷ a ∷ answers) w given words came = by (fits (data_end file) ty.Val (Word a)) came
     where
       by : (fit : Bool) → {d : Doing} {u : World} →
-          CameBack (cond fit (Raises (Word a) nobody (made call answers w)) (Stops (NotProper (misfit ty.Val)) (made call answers w))) d u → BackKnown d u
+          CameBack (cond fit (Raises (Word a) nobody (with_call_made call answers w)) (Stops (NotProper (misfit ty.Val)) (with_call_made call answers w))) d u → BackKnown d u
       by true threw = ((passed.answer arguments w.memory a given words.1.0).1, words.1.1)
       by false came = elim came [ ]
 
@@ -114,7 +114,7 @@ module _ (file : FileTree) (layout : Layout) (IsGiven : List Value → Memory �
 
   abbrev ServesKnown : ℕ → Type 0
   ServesKnown bound =
-      (call : Called) (v : World) → v.left < bound → FitsCallee (setting_of (whole file layout)) call.function call.arguments →
+      (call : Called) (v : World) → v.left < bound → FitsCallee (setting_of (file_surroundings file layout)) call.function call.arguments →
       IsGiven call.arguments v.memory → AreWords v.answers →
       (d : Doing) (u : World) → CameBack (callees file layout (suc v.left) call v) d u → BackKnown d u
 
@@ -132,17 +132,17 @@ module _ (file : FileTree) (layout : Layout) (IsGiven : List Value → Memory �
     given_so (OfFunction call) v known words = (known, words)
     given_so (OfOutside row frame arguments) v known words = tt
 
-    back_so : (q : Call) (v : World) → v.left < w.left → FitsCall (whole file layout) q →
+    back_so : (q : Call) (v : World) → v.left < w.left → FitsCall (file_surroundings file layout) q →
         IsGiven (asked_in v.memory q).arguments (asked_in v.memory q).memory → AreWords v.answers →
-        (d : Doing) (u : World) → CameBack (done_by (whole file layout) q v) d u → BackKnown d u
+        (d : Doing) (u : World) → CameBack (done_by (file_surroundings file layout) q v) d u → BackKnown d u
     back_so (OfFunction call) v fewer (fits_function fit) known words d u came = serves call v fewer fit known words d u came
     back_so (OfOutside row frame arguments) v fewer fit known words d u came = outside_known row frame arguments v known words came
 
-    module _ {e : Evaluation} (l : Linked (whole file layout) w.left (function_alone file layout call tree w.memory) w e) where
+    module _ {e : Evaluation} (l : Linked (file_surroundings file layout) w.left (function_alone file layout call tree w.memory) w e) where
       abbrev Rest : List Came → Type 0
       Rest rest = AllGiven IsGiven rest × AllByRecursion IsDone (map doing_of rest) × AreWords l.last.answers
 
-      known_from : (done : List Came) {rest : List Came} {v last : World} → CallsBetween (whole file layout) w.left v rest last → last ≡ l.last →
+      known_from : (done : List Came) {rest : List Came} {v last : World} → CallsBetween (file_surroundings file layout) w.left v rest last → last ≡ l.last →
           l.calls ≡ done ++ rest →
           AllByRecursion IsDone (map doing_of done) → AreWords v.answers → Rest rest
       known_from done (no_more o) same all known words = (tt, tt, subst (λ (z : World). AreWords z.answers) same (subst AreWords (sym o.answers) words))
@@ -181,7 +181,7 @@ module _ (file : FileTree) (layout : Layout) (IsGiven : List Value → Memory �
             last = λ q u z. given_so q l.last ((subst (IsKnownEvaluation IsGiven IsDone) z run_known).1) all_known.2;
           }
 
-      ends_known : {run all : Evaluation} {d : Doing} {u : World} → EndsSo (whole file layout) w.left l.last run all → CameBack all d u →
+      ends_known : {run all : Evaluation} {d : Doing} {u : World} → EndsSo (file_surroundings file layout) w.left l.last run all → CameBack all d u →
           IsKnownEvaluation IsGiven IsDone run →
           (world_of run).memory ≡ l.last.memory → BackKnown d u
       ends_known (links.gives {v = v}) gave known same = (subst (λ m. IsDone (Gave v m)) same known.1, all_known.2)

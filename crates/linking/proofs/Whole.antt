@@ -19,7 +19,7 @@ use Rattle.cmm_meaning.specs.State.{Doing, Gave, Threw, Asked, Called, World, He
 use Rattle.cmm_meaning.specs.Evaluation.{Stop, OutOfFuel, NotProper, NoAnswer, Asking, Evaluation, Gives, Raises, Stops, fit_parameters}
 use Rattle.correctness.specs.Setting.{AreWords}
 use Rattle.mach_ir.specs.Runs.{ActivationSetting, RunProgress, runs, first_tally}
-use Rattle.meaning_fuel.specs.Whole.{whole}
+use Rattle.meaning_fuel.specs.Whole.{file_surroundings}
 use Rattle.meaning_laws.specs.Fitting.{memory_after, FitsCallee, Answered, answered, answered_raise, unfit, unanswered}
 use Rattle.meaning_laws.specs.Handed.{AreHanded}
 use Rattle.meaning_laws.specs.Links.{Call, OfFunction, OfOutside, asked_in, done_by, FitsCall, fits_function, Came, asked_by, doing_of, spent_by, EndsSo, StoppedIn, stopped, left_by_exit, Linked}
@@ -97,7 +97,7 @@ moving p (keeps.asks e) = tt
 module _ (file : FileTree) (layout : Layout) (IsGiven : List Value → Memory → Type 0) (IsDone : Doing → Type 0) where
   -- its calls are given what is known, and what they did is known
   pub record KnownLink {bound : ℕ} {lone : List Doing → ℕ → Evaluation} {w : World} {e : Evaluation}
-      (l : Linked (whole file layout) bound lone w e) : Type 0 where
+      (l : Linked (file_surroundings file layout) bound lone w e) : Type 0 where
     pub given : AllGiven IsGiven l.calls
     pub done : AllByRecursion IsDone (map doing_of l.calls)
     pub last : (q : Call) (u : World) → l.run ≡ Stops (Asking (asked_in l.last.memory q)) u → IsGivenTo IsGiven q l.last
@@ -149,7 +149,7 @@ module _ (S : Type 0) (p : Program S) (pace : Words S) (file : FileTree) (layout
   reached : (call : Called) (tree : FunctionTree) (is : slice_get (functions file) call.function ≡ Some tree) →
       fit_parameters (data_end file) (comps_of tree) call.arguments ≡ true → (w : World) → ServesHere w.left → IsGiven call.arguments w.memory →
       (a : Below) (x : X) → Entry a call.function call.below call.arguments w.memory (outer_of w) x → {e : Evaluation}
-      (l : Linked (whole file layout) w.left (function_alone file layout call tree w.memory) w e) → KnownLink file layout IsGiven IsDone l →
+      (l : Linked (file_surroundings file layout) w.left (function_alone file layout call tree w.memory) w e) → KnownLink file layout IsGiven IsDone l →
       IsProperEnd l.run →
       Reached a call.function call.below w l.last l.calls l.own l.run x
   reached call tree is fit w serves given a x entry l know ok =
@@ -165,7 +165,7 @@ module _ (S : Type 0) (p : Program S) (pace : Words S) (file : FileTree) (layout
       let m : IsMoving r = moving p same.end in
       let calls : (tally_of r).asked ≡ map asked_by l.calls = same.calls ∙ l.asked in
       let fits = regular.start call.function c call.arguments w.memory runs_so.begun runs_so.begins in
-      let fact = facts S p (p.step call.function c) c (λ s. regular.step call.function c s) (whole file layout) w.left runs_so.steps runs_so.begun w
+      let fact = facts S p (p.step call.function c) c (λ s. regular.step call.function c s) (file_surroundings file layout) w.left runs_so.steps runs_so.begun w
       l.last l.calls [] 0 (c.below + c.frame) l.called calls m in
       let forth = forward.enter call.function c call.arguments w.memory runs_so.begun runs_so.begins in
       let onto = called_later l.called in
@@ -380,8 +380,8 @@ module _ (S : Type 0) (p : Program S) (pace : Words S) (file : FileTree) (layout
     stopped_in : (last v : World) (calls : List Came) (own : ℕ) (q : Call) (u : World) (why : Stop) →
         Stands w last calls own (Stops (Asking (asked_in last.memory q)) u) →
         Reached a f below w last calls own (Stops (Asking (asked_in last.memory q)) u) x → Later last v → last.left < w.left →
-        FitsCall (whole file layout) q → IsGivenTo IsGiven q last →
-        StoppedIn (done_by (whole file layout) q last) why v → DoesSo a w x (Stops why v)
+        FitsCall (file_surroundings file layout) q → IsGivenTo IsGiven q last →
+        StoppedIn (done_by (file_surroundings file layout) q last) why v → DoesSo a w x (Stops why v)
     stopped_in last v calls own (OfFunction call) u OutOfFuel s r later fewer (fits_function fit) given st =
         onward f below a w last calls own _ x s r call u v _ 1 refl later
         (λ b y entry. stops_so b y (stopped_so st) (serves b call last y fewer fit given entry))
@@ -416,7 +416,7 @@ module _ (S : Type 0) (p : Program S) (pace : Words S) (file : FileTree) (layout
     by_end : (last : World) (calls : List Came) (own : ℕ) (e all : Evaluation) → Stands w last calls own e →
         (IsProperEnd e → Reached a f below w last calls own e x) →
         ((q : Call) (u : World) → e ≡ Stops (Asking (asked_in last.memory q)) u → IsGivenTo IsGiven q last) →
-        EndsSo (whole file layout) w.left last e all → DoesSo a w x all
+        EndsSo (file_surroundings file layout) w.left last e all → DoesSo a w x all
     by_end last calls own e all s reach given (links.gives {v = v} {h = h} {u = u}) =
         let r = reach tt in
         let same_memory : Gave v u.memory ≡ Gave v last.memory = ap (Gave v) s.memory in
@@ -439,7 +439,7 @@ module _ (S : Type 0) (p : Program S) (pace : Words S) (file : FileTree) (layout
     by_end last calls own e all s reach given (links.in_callee {u = u} {v = v} {why = why} q fewer fit st later) =
         stopped_in last v calls own q u why s (reach tt) later fewer fit (given q u refl) st
 
-  called : (call : Called) (a : Below) (w : World) (x : X) → ServesHere w.left → FitsCallee (setting_of (whole file layout)) call.function call.arguments →
+  called : (call : Called) (a : Below) (w : World) (x : X) → ServesHere w.left → FitsCallee (setting_of (file_surroundings file layout)) call.function call.arguments →
       IsGivenTo IsGiven (OfFunction call) w → Entry a call.function call.below call.arguments w.memory (outer_of w) x →
       DoesSo a w x (callees file layout (suc w.left) call w)
   called call a w x serves fits given entry =
@@ -463,7 +463,7 @@ module _ (S : Type 0) (p : Program S) (pace : Words S) (file : FileTree) (layout
       called call a w x (λ b call v y fewer. serving depth b call v y (omega (arith, fewer, less))) fit given entry
 
   -- The machine does what the whole run of a function does.
-  pub does_whole : (call : Called) (a : Below) (w : World) (x : X) → FitsCallee (setting_of (whole file layout)) call.function call.arguments →
+  pub does_whole : (call : Called) (a : Below) (w : World) (x : X) → FitsCallee (setting_of (file_surroundings file layout)) call.function call.arguments →
       IsGivenTo IsGiven (OfFunction call) w → Entry a call.function call.below call.arguments w.memory (outer_of w) x →
       DoesSo a w x (callees file layout (suc w.left) call w)
   does_whole call a w x fits given entry = serving (suc w.left) a call w x (omega arith) fits given entry

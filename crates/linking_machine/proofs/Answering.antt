@@ -15,7 +15,7 @@ use Rattle.cmm_data.specs.Placement.{data_end}
 use Rattle.cmm_tree.specs.Tree.{FileTree}
 use Rattle.cmm_meaning.specs.Evaluation.{NoAnswer, NotProper, OutOfFuel, Asking, Evaluation, Gives, Exits, Raises, Stops}
 use Rattle.cmm_meaning.specs.Layout.{observed}
-use Rattle.cmm_meaning.specs.Run.{made, nobody, answered, frame_answered, outside}
+use Rattle.cmm_meaning.specs.Run.{with_call_made, nobody, answered, frame_answered, outside}
 use Rattle.cmm_meaning.specs.State.{Doing, Gave, Threw, Asked, Outside, World}
 use Rattle.correctness.specs.Setting.{layout_of, AreWords}
 use Rattle.guarded_machine.specs.Guarded.{guarded_after, guarded_of}
@@ -226,7 +226,7 @@ module _ (file : FileTree) (image : Tables) (lins : ℕ → Lin) (named : ℕ �
         (taken_is true sh (ret.Comp t) (zero ∷ a ∷ answers) er ea) words.1.1
     framed sh result (suc n ∷ a ∷ answers) er ea words = by (fits (data_end file) ty.Val (Word a))
       where
-        by : (b : Bool) → Answers (cond b (Raises (Word a) nobody (made call answers v)) (Stops (NotProper (misfit ty.Val)) (made call answers v)))
+        by : (b : Bool) → Answers (cond b (Raises (Word a) nobody (with_call_made call answers v)) (Stops (NotProper (misfit ty.Val)) (with_call_made call answers v)))
         by true = goes_after true sh (record { doing = Threw (Word a) v.memory; answers = answers })
             (taken_is true sh result (suc n ∷ a ∷ answers) er ea) words.1.1
         by false = tt

@@ -2,7 +2,7 @@
 use Rattle.std.proofs.Common.{◌≡◌, ℕ, zero, suc, ◌+◌, ◌≤◌, Bool, true, false, cond, ◌||◌, not, List, [], ◌∷◌, ◌++◌, Option, Some, None, Result, Ok, Err, length, refl, ap, sym, arith}
 use Rattle.std.specs.Prelude.{slice_get, nat_eq}
 use Rattle.std.proofs.lemmas.List.{map-append}
-use Rattle.bs_words.specs.Memory.{Memory, Cell, InHeader, InBlock, InStatic, heap_need, stored, value_in}
+use Rattle.bs_words.specs.Memory.{Memory, Cell, InHeader, InBlock, InStatic, heap_need, stored, value_in_cell}
 use Rattle.bs_words.specs.declared.types.Chunk.{Chunk}
 use Rattle.bs_words.specs.declared.types.Chunk.TheVariants as chunk
 use Rattle.bs_words.specs.declared.types.Comp.{Comp}
@@ -136,7 +136,7 @@ header_grows chunk.I32 a s old new = tt
 header_grows chunk.Val a s old new = tt
 
 first_grows : (k : Chunk) (a : Around) (cell : Cell) (x v : Value) → Grows a (first_written k a cell x v)
-first_grows k a (InHeader s) x v = header_grows k a s (value_in a.memory (InHeader s)) v
+first_grows k a (InHeader s) x v = header_grows k a s (value_in_cell a.memory (InHeader s)) v
 first_grows k a (InBlock s n) x v = grows_if a _ _ (store_grows a (without (InBlock s n) a.unwritten) (stored k a.memory x v)
     (stored_extended k a.memory x v))
 first_grows k a (InStatic l n) x v = tt

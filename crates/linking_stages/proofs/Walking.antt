@@ -1,7 +1,7 @@
 -- Runs of Linear keep to its walks: where a run is, some walk comes with the tries that are pushed there.
 use Rattle.std.proofs.Common.{◌≡◌, ℕ, zero, suc, Bool, true, false, cond, ◌||◌, not, List, [], ◌∷◌, ◌++◌, Option, Some, None, Result, Ok, Err, length, map, refl, sym, subst}
 use Rattle.std.specs.Prelude.{slice_get, nat_eq}
-use Rattle.bs_words.specs.Memory.{Memory, Cell, InHeader, InBlock, InStatic, stored, value_in}
+use Rattle.bs_words.specs.Memory.{Memory, Cell, InHeader, InBlock, InStatic, stored, value_in_cell}
 use Rattle.bs_words.specs.Operators.{word_in}
 use Rattle.bs_words.specs.declared.types.Chunk.{Chunk}
 use Rattle.bs_words.specs.declared.types.Chunk.TheVariants as chunk
@@ -131,7 +131,7 @@ module _ (f : LinOp) (a : Around) (next : (after : Around) → after.tries ≡ a
   header_keeps chunk.Val s old new = tt
 
   first_keeps : (k : Chunk) (cell : Cell) (x v : Value) → Keeps f a (first_written k a cell x v)
-  first_keeps k (InHeader s) x v = header_keeps k s (value_in a.memory (InHeader s)) v
+  first_keeps k (InHeader s) x v = header_keeps k s (value_in_cell a.memory (InHeader s)) v
   first_keeps k (InBlock s n) x v = keeps_if f a _ _ (store_keeps (without (InBlock s n) a.unwritten) (stored k a.memory x v))
   first_keeps k (InStatic l n) x v = tt
 

@@ -15,7 +15,7 @@ use Rattle.mach_ir.specs.Labels.{place_to}
 use Rattle.liveness.specs.Labels.{instruction_of_label, handler_places_in, AreLabelsOf}
 use Rattle.liveness.specs.Nodes.{AreEdgesAt}
 use Rattle.liveness.specs.declared.edges.Edges.{Edges}
-use Rattle.liveness.specs.declared.labels.Labels.{Labels}
+use Rattle.liveness.specs.declared.labels.InstructionLabels.{InstructionLabels}
 
 -- the place of the code after an instruction
 pub place_next : (m : Mach) (p : ℕ) (i : Instr) (next : List Instr) → drop p m.code ≡ i ∷ next → code_index m next ≡ suc p
@@ -49,14 +49,14 @@ handler_more m l p i next e = by (is_handler_of l i.op)
     by false = refl
 
 -- the places of labels
-pub switch_done : (labels : Labels) (p : ℕ) (places ls slice : List ℕ) (f : Mark) → f ≡ mark.Switch ls → slice ≡ ls →
+pub switch_done : (labels : InstructionLabels) (p : ℕ) (places ls slice : List ℕ) (f : Mark) → f ≡ mark.Switch ls → slice ≡ ls →
     ((p : ℕ) → places ≡ map (place_to (instruction_of_label labels) p) (map At slice)) → places ≡ map (place_to (instruction_of_label labels) p) (targets (mach.Mark f))
 switch_done labels p places ls slice f e s h =
     subst (λ (g : Mark). places ≡ map (place_to (instruction_of_label labels) p) (targets (mach.Mark g))) (sym e)
     (subst (λ xs. places ≡ map (place_to (instruction_of_label labels) p) (map At xs)) s (h p))
 
 -- where an instruction goes on, by the table and by the text
-pub places_to : (m : Mach) (labels : Labels) (p : ℕ) (i : Instr) (next : List Instr) → AreLabelsOf m labels → drop p m.code ≡ i ∷ next →
+pub places_to : (m : Mach) (labels : InstructionLabels) (p : ℕ) (i : Instr) (next : List Instr) → AreLabelsOf m labels → drop p m.code ≡ i ∷ next →
     (ts : List Target) → map (place_to (instruction_of_label labels) p) ts ≡ map (λ t. code_index m (code_at m.code next t)) ts
 places_to m labels p i next are e [] = refl
 places_to m labels p i next are e (t ∷ ts) =
@@ -67,13 +67,13 @@ places_to m labels p i next are e (t ∷ ts) =
     one On = sym (place_next m p i next e)
     one (At l) = are.places l
 
-pub handlers_to : (m : Mach) (labels : Labels) → AreLabelsOf m labels → (b : Bool) (tries : List ℕ) →
+pub handlers_to : (m : Mach) (labels : InstructionLabels) → AreLabelsOf m labels → (b : Bool) (tries : List ℕ) →
     handler_places_in labels b tries ≡ handler_places m b tries
 handlers_to m labels are false tries = refl
 handlers_to m labels are true [] = refl
 handlers_to m labels are true (l ∷ tries) = ap (λ q. q ∷ []) (are.handlers l)
 
-pub edges_made : (m : Mach) (labels : Labels) (p : ℕ) (i : Instr) (tries : List ℕ) (edges : Edges) → AreLabelsOf m labels →
+pub edges_made : (m : Mach) (labels : InstructionLabels) (p : ℕ) (i : Instr) (tries : List ℕ) (edges : Edges) → AreLabelsOf m labels →
     contents edges.next ≡ map (place_to (instruction_of_label labels) p) (targets i.op) →
     contents edges.aside ≡ handler_places_in labels (may_raise i.op) tries → AreEdgesAt m p i tries edges
 edges_made m labels p i tries edges are e h =

@@ -7,7 +7,7 @@ ghost use Rattle.mach_ir.specs.Walks as walks;
 ghost use Rattle.liveness.specs.Labels.{instruction_of_label, handler_places_in};
 
 use crate::backward::Backward;
-use crate::labels::Labels;
+use crate::labels::InstructionLabels;
 use dataflow::{one_place, two_places};
 use mach_ir::{Label, MachOp, Mark, places_after_op};
 use std::alloc::{AllocError, Global};
@@ -24,7 +24,7 @@ fn may_raise(op: &MachOp) -> bool
 
 fn places_after_mark(
     alloc: Global,
-    labels: &Labels,
+    labels: &InstructionLabels,
     mark: &Mark,
     place: u32,
 ) -> Result<Vec<u32>, AllocError>
@@ -62,7 +62,7 @@ fn places_after_mark(
 /// The only error is want of memory.
 pub fn places_after(
     alloc: Global,
-    labels: &Labels,
+    labels: &InstructionLabels,
     op: &MachOp,
     place: u32,
 ) -> Result<Vec<u32>, AllocError>
@@ -80,7 +80,7 @@ pub fn places_after(
 /// The only error is want of memory.
 pub fn places_aside(
     alloc: Global,
-    labels: &Labels,
+    labels: &InstructionLabels,
     op: &MachOp,
     tries: &Backward<u32>,
 ) -> Result<Vec<u32>, AllocError>

@@ -5,7 +5,7 @@ ghost use Rattle.liveness.specs.Nodes.{AreEdges, AreEdgesAt};
 
 use crate::backward::Backward;
 use crate::control::{places_after, places_aside};
-use crate::labels::Labels;
+use crate::labels::InstructionLabels;
 use bs_words::List;
 use mach_ir::{Instr, Mach};
 use std::alloc::{AllocError, Global};
@@ -34,7 +34,7 @@ pub fn no_edges(alloc: Global, mach: &Mach) -> Edges
 pub fn edges_of(
     alloc: Global,
     mach: &Mach,
-    labels: &Labels,
+    labels: &InstructionLabels,
     place: u32,
     instr: &Instr,
     tries: &Backward<u32>,

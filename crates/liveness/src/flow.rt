@@ -9,7 +9,7 @@ ghost use Rattle.liveness.specs.Nodes.{AreLivenessNodes, register_uses};
 use crate::backward::Backward;
 use crate::control::pass_tries;
 use crate::edges::edges_of;
-use crate::labels::Labels;
+use crate::labels::InstructionLabels;
 use crate::nodes::{last_node, node_of};
 use crate::numbers::first_free;
 use bs_words::List;
@@ -18,7 +18,11 @@ use mach_ir::Mach;
 use std::alloc::{AllocError, Global};
 
 /// The nodes of all places of the function.
-fn nodes_of(alloc: Global, mach: &Mach, labels: &Labels) -> Result<Vec<Place>, AllocError>
+fn nodes_of(
+    alloc: Global,
+    mach: &Mach,
+    labels: &InstructionLabels,
+) -> Result<Vec<Place>, AllocError>
     requires labels { AreLabelsOf mach.now labels.now }
     requires fits { suc (length mach.now.code) < 2 ^ 32 }
     ensures { IfOk result (λ nodes.
@@ -48,7 +52,7 @@ pub fn flow_of(alloc: Global, mach: &Mach) -> Result<Flow, AllocError>
     ensures formed { IfOk result IsFlowFormed }
 {
     let bound = first_free(mach);
-    let labels = Labels::of_function(alloc, mach)?;
+    let labels = InstructionLabels::of_function(alloc, mach)?;
     let nodes = nodes_of(alloc, mach, &labels)?;
     Ok(Flow {
         places: List::from_vec(nodes),

@@ -46,20 +46,20 @@ fn own_handler(op: &MachOp) -> Option<Label>
 /// The place after the mark of each label, and that of the mark of each handler. Of a label that
 /// occurs twice it is the first; of any other that after the last instruction.
 #[derive(Drop)]
-pub struct Labels {
+pub struct InstructionLabels {
     places: LabelPlaces,
     handlers: LabelPlaces,
 }
 
-impl Labels {
+impl InstructionLabels {
     /// The table of a function. The only error is want of memory.
-    pub fn of_function(alloc: Global, mach: &Mach) -> Result<Labels, AllocError>
+    pub fn of_function(alloc: Global, mach: &Mach) -> Result<InstructionLabels, AllocError>
         requires { length mach.now.code < 2 ^ 32 }
         ensures { IfOk result (AreLabelsOf mach.now) }
     {
         let code = mach.code.as_slice();
         let end = code.len() as u32;
-        let mut labels = Labels {
+        let mut labels = InstructionLabels {
             places: LabelPlaces::new(alloc, end),
             handlers: LabelPlaces::new(alloc, end),
         };

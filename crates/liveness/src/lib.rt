@@ -20,7 +20,7 @@ pub use backward::Backward;
 pub use control::pass_tries;
 pub use edges::{Edges, edges_of, no_edges};
 pub use flow::flow_of;
-pub use labels::Labels;
+pub use labels::InstructionLabels;
 pub use live_map::{LiveFlow, live, live_flow};
 pub use numbers::first_free;
 pub use written::numbers_of;

@@ -4,7 +4,7 @@
 use Rattle.std.specs.Prelude.{ℕ, zero, suc, ◌+◌, ◌%◌, ◌^◌, Bool, true, false, cond, ◌&&◌, ◌||◌, not, nat_eq, nat_lt, List, [], ◌∷◌, ◌++◌, Option, Some, None, Result, Ok, Err, length, replicate, slice_get}
 use Rattle.bs_words.specs.External.{External}
 use Rattle.bs_words.specs.Fits.{fits, type_of_comp}
-use Rattle.bs_words.specs.Memory.{Memory, HeapBlock, Cell, InHeader, InBlock, InStatic, sizes, loaded, stored, cell_at, width, value_in}
+use Rattle.bs_words.specs.Memory.{Memory, HeapBlock, Cell, InHeader, InBlock, InStatic, sizes, loaded, stored, cell_at, width, value_in_cell}
 use Rattle.bs_words.specs.Operators.{apply, condition_of, word_in}
 use Rattle.bs_words.specs.declared.operators.IntOp.TheVariants as operator
 use Rattle.bs_words.specs.declared.types.Chunk.{Chunk}
@@ -157,7 +157,7 @@ header_written k a s old new = Stuck
 
 -- a cell is first written as a whole, since a smaller store would read it
 abbrev pub first_written : Chunk → Around → Cell → Value → Value → Act
-first_written k a (InHeader s) x v = header_written k a s (value_in a.memory (InHeader s)) v
+first_written k a (InHeader s) x v = header_written k a s (value_in_cell a.memory (InHeader s)) v
 first_written k a (InBlock s n) x v =
     stuck_unless (nat_eq (width k) 8)
     (after_store a (without (InBlock s n) a.unwritten) (stored k a.memory x v))

@@ -1,7 +1,7 @@
 -- Where an operation leads, and what it does to the tries that are pushed, whatever the values are.
 use Rattle.std.proofs.Common.{◌≡◌, ℕ, zero, suc, Bool, true, false, cond, List, [], ◌∷◌, Option, Some, None, Result, Ok, Err, refl, sym}
 use Rattle.std.specs.Prelude.{slice_get}
-use Rattle.bs_words.specs.Memory.{Memory, Cell, InHeader, InBlock, InStatic, sizes, stored, value_in}
+use Rattle.bs_words.specs.Memory.{Memory, Cell, InHeader, InBlock, InStatic, sizes, stored, value_in_cell}
 use Rattle.bs_words.specs.Operators.{apply, word_in}
 use Rattle.bs_words.specs.declared.types.Chunk.{Chunk}
 use Rattle.bs_words.specs.declared.types.Chunk.TheVariants as chunk
@@ -140,7 +140,7 @@ header_in f chunk.I32 a s x v o = stuck_in
 
 first_in : (f : MachOp) (k : Chunk) (a : Around) (cell : Cell) (x v : Value) → Plain f →
     Turns f a.tries a.raised (acts.first_written k a cell x v)
-first_in f k a (InHeader s) x v o = header_in f k a s (value_in a.memory (InHeader s)) v o
+first_in f k a (InHeader s) x v o = header_in f k a s (value_in_cell a.memory (InHeader s)) v o
 first_in f k a (InBlock s n) x v o = only_in f _ _ (store_in f a _ (stored k a.memory x v) o)
 first_in f k a (InStatic l n) x v o = stuck_in
 

@@ -14,9 +14,9 @@ use Rattle.cmm_tree.specs.Tree.{Expression, FunctionTree, FileTree, functions, c
 use Rattle.cmm_meaning.specs.Layout.{Layout, observed}
 use Rattle.cmm_meaning.specs.State.{Doing, Gave, Threw, Called, Asked, asked_inside, asked_outside, World, Here, bound, deepened}
 use Rattle.cmm_meaning.specs.Evaluation.{Evaluation, Raises, Surroundings, tested, scoped_parameter, evaluated}
-use Rattle.cmm_meaning.specs.Run.{nobody, made, answered, frame_answered, answered_as, outside, activated, callees, first_world, first_call, finished, cmm_run}
+use Rattle.cmm_meaning.specs.Run.{nobody, with_call_made, answered, frame_answered, answered_as, outside, activated, callees, first_world, first_call, finished, cmm_run}
 use Rattle.cmm_meaning.specs.Alone.{done_inside, done_outside, call_inside, call_outside}
-use Rattle.meaning_fuel.specs.Whole.{whole}
+use Rattle.meaning_fuel.specs.Whole.{file_surroundings}
 use Rattle.meaning_fuel.proofs.Alike.{Spends, Pays, Alike, Same, Agree, with_calls, alike_tested, alike_same, spends_pays}
 use Rattle.meaning_fuel.proofs.Agreed.{same_evaluated}
 
@@ -87,7 +87,7 @@ spends_frame end result call [] w = tt
 spends_frame end result call (zero ∷ []) w = tt
 spends_frame end result call (suc n ∷ []) w = tt
 spends_frame end result call (zero ∷ a ∷ answers) w = omega arith
-spends_frame end result call (suc n ∷ a ∷ answers) w = raise_spends end (Word a) (made call answers w)
+spends_frame end result call (suc n ∷ a ∷ answers) w = raise_spends end (Word a) (with_call_made call answers w)
 
 spends_as : (frame : Bool) (end : ℕ) (result : Ret) (call : Made) (answers : List ℕ) (w : World) →
     Spends w.left (answered_as frame end result call answers w)
@@ -120,7 +120,7 @@ callees_pay file layout (suc depth) call w =
     })
     (slice_index layout.frames call.function) (slice_get (functions file) call.function) call.arguments call.below w
 
-pub whole_spending : (file : FileTree) (layout : Layout) → Spending (whole file layout)
+pub whole_spending : (file : FileTree) (layout : Layout) → Spending (file_surroundings file layout)
 whole_spending file layout =
     record {
       calls = λ call w. spends_pays false w.left (callees file layout (suc w.left) call w) (callees_pay file layout (suc w.left) call w);
@@ -181,7 +181,7 @@ depth_free file layout d e call w p q =
 -- a call is the activation of a function in the surroundings of the whole file
 pub whole_call : (file : FileTree) (layout : Layout) (call : Called) (w : World) →
     callees file layout (suc w.left) call w ≡
-    activated (whole file layout) (slice_index layout.frames call.function) (slice_get (functions file) call.function) call.arguments call.below w
+    activated (file_surroundings file layout) (slice_index layout.frames call.function) (slice_get (functions file) call.function) call.arguments call.below w
 whole_call file layout call w =
     let frame : ℕ = slice_index layout.frames call.function in
     let found : Option FunctionTree = slice_get (functions file) call.function in
@@ -193,7 +193,7 @@ whole_call file layout call w =
       outside = λ row frame arguments v less. outside_spends (data_end file) layout row frame arguments v;
     } in
     let r : Same false w.left (activated (around file layout w.left) frame found call.arguments call.below w)
-    (activated (whole file layout) frame found call.arguments call.below w) =
+    (activated (file_surroundings file layout) frame found call.arguments call.below w) =
     same_activated (around file layout w.left) whole_calls frame found call.arguments call.below w agrees in
     r.is
 
@@ -201,7 +201,7 @@ whole_call file layout call w =
 pub whole_run : (file : FileTree) (layout : Layout) (entry : ℕ) (arguments answers : List ℕ) (n : ℕ) →
     cmm_run file layout entry arguments answers n ≡
     finished layout
-    (activated (whole file layout) (slice_index layout.frames entry) (slice_get (functions file) entry) (map Word arguments) 0
+    (activated (file_surroundings file layout) (slice_index layout.frames entry) (slice_get (functions file) entry) (map Word arguments) 0
     (first_world file answers n))
 whole_run file layout entry arguments answers n =
     ap (finished layout) (whole_call file layout (first_call entry arguments) (first_world file answers n))

@@ -7,8 +7,8 @@ use Rattle.cmm_meaning.specs.Layout.{Layout}
 use Rattle.cmm_meaning.specs.Evaluation.{Surroundings}
 use Rattle.cmm_meaning.specs.Run.{outside, callees}
 
-abbrev pub whole : FileTree → Layout → Surroundings
-whole file layout =
+abbrev pub file_surroundings : FileTree → Layout → Surroundings
+file_surroundings file layout =
     record {
       end = data_end file;
       symbol = value_of_symbol file;

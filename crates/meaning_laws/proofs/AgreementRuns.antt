@@ -15,7 +15,7 @@ use Rattle.meaning_laws.specs.Does.{Leaves, Does, Ends, played}
 use Rattle.cmm_meaning.specs.Setting.{setting_of}
 use Rattle.meaning_laws.specs.Interaction.{does, function_does}
 use Rattle.meaning_laws.specs.Links.{lonely}
-use Rattle.meaning_fuel.specs.Whole.{whole}
+use Rattle.meaning_fuel.specs.Whole.{file_surroundings}
 use Rattle.meaning_fuel.proofs.Alike.{spends_pays}
 use Rattle.meaning_fuel.proofs.Depth.{Spending, outside_spends, callees_pay, whole_call, whole_spending, alone_spending}
 use Rattle.meaning_laws.proofs.Agreement.{Agrees, follow}
@@ -74,12 +74,12 @@ nested_plays file layout depth turns call tree w is enough =
 pub whole_plays : (file : FileTree) (layout : Layout) (turns : ℕ) (call : Called) (tree : FunctionTree) (w : World) →
     slice_get (functions file) call.function ≡ Some tree → w.left ≤ turns →
     let frame : ℕ = slice_index layout.frames call.function in
-    played (whole file layout) (function_does (setting_of (whole file layout)) turns frame tree call.arguments call.below w.memory) w ≡
+    played (file_surroundings file layout) (function_does (setting_of (file_surroundings file layout)) turns frame tree call.arguments call.below w.memory) w ≡
     callees file layout (suc w.left) call w
 whole_plays file layout turns call tree w is enough =
     let frame : ℕ = slice_index layout.frames call.function in
-    function_plays (whole file layout) (whole_spending file layout) turns frame tree call.arguments call.below w enough ∙
-    ap (λ o. activated (whole file layout) frame o call.arguments call.below w) (sym is) ∙
+    function_plays (file_surroundings file layout) (whole_spending file layout) turns frame tree call.arguments call.below w enough ∙
+    ap (λ o. activated (file_surroundings file layout) frame o call.arguments call.below w) (sym is) ∙
     sym (whole_call file layout call w)
 
 -- one function alone, on what is handed in for its calls

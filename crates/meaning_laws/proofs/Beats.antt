@@ -21,7 +21,7 @@ use Rattle.meaning_laws.specs.Links.{doing_of, Linked, lonely}
 use Rattle.meaning_laws.specs.Pace.{Paced, ends, pays, deepens, jumps, calls, calls_out, fails, spent, beats, beats_behind_call, beats_behind_external, beats_behind_unit, pending_calls}
 use Rattle.cmm_tree.specs.Measures.{nodes_in}
 use Rattle.meaning_laws.specs.Units.{world_of}
-use Rattle.meaning_fuel.specs.Whole.{whole}
+use Rattle.meaning_fuel.specs.Whole.{file_surroundings}
 use Rattle.meaning_laws.proofs.AgreementRuns.{alone_plays}
 use Rattle.meaning_laws.proofs.Covers.{Earned}
 use Rattle.meaning_laws.proofs.Covers as earned
@@ -222,7 +222,7 @@ pub own_beats : {s : Surroundings} {bound : ℕ} (file : FileTree) (layout : Lay
     (l : Linked s bound (function_alone file layout call tree w.memory) w run) (most turns : ℕ) → nodes_in tree.body ≤ most → l.own ≤ turns →
     l.own ≤ l.last.left
     + most * suc (beats (lonely (data_end file) (value_of_symbol file) (map comps_of (functions file)))
-    (function_does (setting_of (whole file layout)) turns (slice_index layout.frames call.function) tree call.arguments call.below w.memory)
+    (function_does (setting_of (file_surroundings file layout)) turns (slice_index layout.frames call.function) tree call.arguments call.below w.memory)
     (lone_world w.memory (map doing_of l.calls) l.own))
 own_beats file layout call tree w l most turns small enough =
     let spent = alone_beats most (data_end file) (value_of_symbol file) (map comps_of (functions file)) turns (slice_index layout.frames call.function) tree
@@ -235,7 +235,7 @@ own_beats file layout call tree w l most turns small enough =
 pub own_paid : {s : Surroundings} {bound : ℕ} (file : FileTree) (layout : Layout) (call : Called) (tree : FunctionTree) (w : World) {run : Evaluation}
     (l : Linked s bound (function_alone file layout call tree w.memory) w run) (turns : ℕ) → l.own ≤ turns →
     beats (lonely (data_end file) (value_of_symbol file) (map comps_of (functions file)))
-    (function_does (setting_of (whole file layout)) turns (slice_index layout.frames call.function) tree call.arguments call.below w.memory)
+    (function_does (setting_of (file_surroundings file layout)) turns (slice_index layout.frames call.function) tree call.arguments call.below w.memory)
     (lone_world w.memory (map doing_of l.calls) l.own) + (pending_calls l.run + l.last.left) ≤ l.own
 own_paid file layout call tree w l turns enough =
     let paid = alone_paid (data_end file) (value_of_symbol file) (map comps_of (functions file)) turns (slice_index layout.frames call.function) tree

@@ -6,7 +6,7 @@ use Rattle.std.proofs.lemmas.List.Sums.{sum_by-append}
 use Rattle.std.proofs.Math.Seq.{map-set_same}
 use Rattle.std.specs.Prelude.{slice_set, slice_index_or}
 use Rattle.bs_words.specs.Fits.{fits, misfit, data_start}
-use Rattle.bs_words.specs.Memory.{Memory, HeapBlock, StaticList, Cell, InHeader, InBlock, InStatic, sizes, heap_need, block_bytes, with_value, type_in, value_in, put_in, put_part, put_whole, replaced, stored_as, stored_in, stored, width, offset_in_cell, cell_at, end_of_statics, end_of_data, all_fit, type_of_cells, allocated}
+use Rattle.bs_words.specs.Memory.{Memory, HeapBlock, StaticList, Cell, InHeader, InBlock, InStatic, sizes, heap_need, block_bytes, with_cell_value, type_in, value_in_cell, put_in, put_part, put_whole, replaced, stored_as, stored_in, stored, width, offset_in_cell, cell_at, end_of_statics, end_of_data, all_fit, type_of_cells, allocated}
 use Rattle.bs_words.specs.declared.types.Chunk.{Chunk}
 use Rattle.bs_words.specs.declared.types.Chunk.TheVariants as chunk
 use Rattle.bs_words.specs.declared.types.Ty.{Ty}
@@ -14,7 +14,7 @@ use Rattle.bs_words.specs.declared.types.Ty.TheVariants as ty
 use Rattle.bs_words.specs.declared.values.Kind.{Kind}
 use Rattle.bs_words.specs.declared.values.Value.{Value}
 use Rattle.bs_words.specs.declared.values.Value.TheVariants.{Word, Block, Function}
-use Rattle.cmm_meaning.specs.Extends.{Shape, shape_of, Extent, extent_of, Extends}
+use Rattle.cmm_meaning.specs.Extends.{Shape, shape_of, StaticExtent, extent_of, Extends}
 
 -- ---- one after the other
 
@@ -61,7 +61,7 @@ extends_need {a} {b} e =
     let earlier : heap_need a ≡ sum (map bytes_in (map shape_of a.blocks)) = ap sum (bytes_shapes a.blocks) in
     omega arith
 
-abbrev end_of_extents : ℕ → List Extent → ℕ
+abbrev end_of_extents : ℕ → List StaticExtent → ℕ
 end_of_extents end [] = end
 end_of_extents end (e ∷ extents) = end_of_extents (e.start + e.size) extents
 
@@ -89,7 +89,7 @@ same_blocks : (m : Memory) (blocks : List HeapBlock) (statics : List StaticList)
 same_blocks m blocks statics p q =
     record { further = []; blocks = p ∙ sym (append-nil (map shape_of m.blocks)); statics = q; roots = refl }
 
-with_value_extends : (m : Memory) (cell : Cell) (value : Value) → Extends m (with_value m cell value)
+with_value_extends : (m : Memory) (cell : Cell) (value : Value) → Extends m (with_cell_value m cell value)
 with_value_extends m (InHeader serial) value = extends_same m
 with_value_extends m (InBlock serial index) value =
     let none : HeapBlock = record { header = 0; cells = [] } in
@@ -103,7 +103,7 @@ with_value_extends m (InStatic list index) value =
     let statics : StaticList = slice_index_or m.statics list none in
     same_blocks m m.blocks (slice_set m.statics list (record statics { cells = slice_set statics.cells index value })) refl
     (map-set_same extent_of m.statics list (record statics { cells = slice_set statics.cells index value }) none
-    (ap (λ (n : ℕ). let e : Extent = record { start = statics.start; size = statics.size; cells = n } in e) (length-set statics.cells index value)))
+    (ap (λ (n : ℕ). let e : StaticExtent = record { start = statics.start; size = statics.size; cells = n } in e) (length-set statics.cells index value)))
 
 extended_cond : (m : Memory) (b : Bool) (after : Memory) (kind : Kind) → Extends m after → Extended m (cond b (Ok after) (Err kind))
 extended_cond m true after kind e = extended e
@@ -131,12 +131,12 @@ put_whole_extended type end m cell value = by (fits end type value)
 stored_as_extended : (c : Chunk) (end : ℕ) (m : Memory) (cell : Cell) (offset : ℕ) (value : Value) → Extended m (stored_as c end m cell offset value)
 stored_as_extended chunk.Int end m cell offset value = put_whole_extended ty.Int end m cell value
 stored_as_extended chunk.Val end m cell offset value = put_whole_extended ty.Val end m cell value
-stored_as_extended chunk.U8 end m cell offset value = put_part_extended end m cell offset (width chunk.U8) (value_in m cell) value
-stored_as_extended chunk.I8 end m cell offset value = put_part_extended end m cell offset (width chunk.I8) (value_in m cell) value
-stored_as_extended chunk.U16 end m cell offset value = put_part_extended end m cell offset (width chunk.U16) (value_in m cell) value
-stored_as_extended chunk.I16 end m cell offset value = put_part_extended end m cell offset (width chunk.I16) (value_in m cell) value
-stored_as_extended chunk.U32 end m cell offset value = put_part_extended end m cell offset (width chunk.U32) (value_in m cell) value
-stored_as_extended chunk.I32 end m cell offset value = put_part_extended end m cell offset (width chunk.I32) (value_in m cell) value
+stored_as_extended chunk.U8 end m cell offset value = put_part_extended end m cell offset (width chunk.U8) (value_in_cell m cell) value
+stored_as_extended chunk.I8 end m cell offset value = put_part_extended end m cell offset (width chunk.I8) (value_in_cell m cell) value
+stored_as_extended chunk.U16 end m cell offset value = put_part_extended end m cell offset (width chunk.U16) (value_in_cell m cell) value
+stored_as_extended chunk.I16 end m cell offset value = put_part_extended end m cell offset (width chunk.I16) (value_in_cell m cell) value
+stored_as_extended chunk.U32 end m cell offset value = put_part_extended end m cell offset (width chunk.U32) (value_in_cell m cell) value
+stored_as_extended chunk.I32 end m cell offset value = put_part_extended end m cell offset (width chunk.I32) (value_in_cell m cell) value
 
 stored_in_extended : (c : Chunk) (m : Memory) (offset : ℕ) (o : Option Cell) (value : Value) → Extended m (stored_in c m offset o value)
 stored_in_extended c m offset None value = no_memory

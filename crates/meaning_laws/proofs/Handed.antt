@@ -18,7 +18,7 @@ use Rattle.cmm_meaning.specs.Setting.{setting_of}
 use Rattle.meaning_laws.specs.Links.{Call, OfFunction, OfOutside, asked_in, done_by, FitsCall, fits_function, CameBack, Came, asked_by, doing_of, CallsBetween, no_more, next, Linked}
 use Rattle.meaning_laws.specs.Links as links
 use Rattle.meaning_laws.specs.Units.{world_of, Later}
-use Rattle.meaning_fuel.specs.Whole.{whole}
+use Rattle.meaning_fuel.specs.Whole.{file_surroundings}
 use Rattle.meaning_laws.proofs.Given.{callees_give}
 use Rattle.meaning_laws.proofs.LinksWhole.{whole_calls_fit}
 
@@ -32,7 +32,7 @@ callee_from file f arguments parameters fit (Some tree) e m =
     record { tree = tree; is = e; fit = subst (λ comps. fit_parameters (data_end file) comps arguments ≡ true) (sym same) fit }
 
 -- The callee of a call whose arguments fit is a function of the file.
-pub callee_of : (file : FileTree) (layout : Layout) (f : ℕ) (arguments : List Value) → FitsCallee (setting_of (whole file layout)) f arguments → FoundCallee file f arguments
+pub callee_of : (file : FileTree) (layout : Layout) (f : ℕ) (arguments : List Value) → FitsCallee (setting_of (file_surroundings file layout)) f arguments → FoundCallee file f arguments
 callee_of file layout f arguments c =
     callee_from file f arguments c.parameters c.fit (slice_get (functions file) f) refl (sym (slice_get-map comps_of (functions file) f) ∙ c.callee)
 
@@ -50,23 +50,23 @@ outside_handed before links.gave (answered h further answers an) = outside_gave 
 outside_handed before links.threw (answered_raise v h further answers fit) = outside_threw fit
 
 module _ (file : FileTree) (layout : Layout) where
-  call_handed : (call : Call) (before : World) {d : Doing} {after : World} → FitsCall (whole file layout) call →
-      CameBack (done_by (whole file layout) call before) d after → Later before after → IsHanded file (asked_in before.memory call) d
+  call_handed : (call : Call) (before : World) {d : Doing} {after : World} → FitsCall (file_surroundings file layout) call →
+      CameBack (done_by (file_surroundings file layout) call before) d after → Later before after → IsHanded file (asked_in before.memory call) d
   call_handed (OfFunction call) before (fits_function fits_it) came later =
-      let r : CallsFitAndGrow (whole file layout) = whole_calls_fit file layout in
+      let r : CallsFitAndGrow (file_surroundings file layout) = whole_calls_fit file layout in
       let callee : FoundCallee file call.function call.arguments = callee_of file layout call.function call.arguments fits_it in
       function_handed callee before came later.onward.memory (callees_give file layout (suc before.left) call callee.tree before callee.is callee.fit) (r.fit call before)
   call_handed (OfOutside row frame arguments) before fit came later =
-      let r : CallsFitAndGrow (whole file layout) = whole_calls_fit file layout in
+      let r : CallsFitAndGrow (file_surroundings file layout) = whole_calls_fit file layout in
       outside_handed before came (r.answers row frame arguments before)
 
   -- What the calls of a function did in the run of a whole file is what is handed in for them.
-  pub called_handed : {bound : ℕ} {w v : World} {calls : List Came} → CallsBetween (whole file layout) bound w calls v →
+  pub called_handed : {bound : ℕ} {w v : World} {calls : List Came} → CallsBetween (file_surroundings file layout) bound w calls v →
       AreHanded file (map asked_by calls) (map doing_of calls)
   called_handed (no_more o) = none
   called_handed (next {c = c} o fewer fit did later rest) = more (call_handed c.call c.before fit did later) (called_handed rest)
 
   -- And so it is where a function runs alone beside the run of the whole file.
-  pub linked_handed : {bound : ℕ} {alone : List Doing → ℕ → Evaluation} {w : World} {e : Evaluation} (l : Linked (whole file layout) bound alone w e) →
+  pub linked_handed : {bound : ℕ} {alone : List Doing → ℕ → Evaluation} {w : World} {e : Evaluation} (l : Linked (file_surroundings file layout) bound alone w e) →
       AreHanded file (world_of l.run).asked (map doing_of l.calls)
   linked_handed l = subst (λ (calls : List Asked). AreHanded file calls (map doing_of l.calls)) (sym l.asked) (called_handed l.called)

@@ -13,7 +13,7 @@ use Rattle.meaning_laws.specs.Does.{Does}
 use Rattle.cmm_meaning.specs.Setting.{Setting, setting_of}
 use Rattle.meaning_laws.specs.Interaction.{function_does}
 use Rattle.meaning_laws.specs.Links.{Linked}
-use Rattle.meaning_fuel.specs.Whole.{whole}
+use Rattle.meaning_fuel.specs.Whole.{file_surroundings}
 use Rattle.meaning_laws.proofs.AgreementRuns.{nested, nested_plays, whole_plays, alone_plays}
 use Rattle.meaning_laws.proofs.LinksFirst.{played_first_linked}
 use Rattle.meaning_laws.proofs.LawfulForms.{running, running_lawful, function_pays}
@@ -64,13 +64,13 @@ module _ (file : FileTree) (layout : Layout) (call : Called) (tree : FunctionTre
       (running_lawful c w.left (bound_error_fits file) frame tree call.arguments call.below w.memory))
 
   -- The same where it is not asked how deep they nest.
-  pub whole_call_linked : Linked (whole file layout) w.left (function_alone file layout call tree w.memory) w (callees file layout (suc w.left) call w)
+  pub whole_call_linked : Linked (file_surroundings file layout) w.left (function_alone file layout call tree w.memory) w (callees file layout (suc w.left) call w)
   whole_call_linked =
-      let c : Setting = setting_of (whole file layout) in
+      let c : Setting = setting_of (file_surroundings file layout) in
       let d : Does = function_does c w.left frame tree call.arguments call.below w.memory in
       same_link
       (λ doings own le. alone_plays (data_end file) (value_of_symbol file) (map comps_of (functions file)) w.left frame tree call.arguments call.below w.memory doings own le)
       (whole_plays file layout w.left call tree w is (omega arith))
-      (played_first_linked (whole file layout) (whole_calls_fit file layout) (running c frame tree call.arguments call.below) d w
+      (played_first_linked (file_surroundings file layout) (whole_calls_fit file layout) (running c frame tree call.arguments call.below) d w
       (function_pays c w.left frame tree call.arguments call.below w.memory)
       (running_lawful c w.left (bound_error_fits file) frame tree call.arguments call.below w.memory))

@@ -11,7 +11,7 @@ use Rattle.bs_words.specs.declared.values.Value.TheVariants.{Word}
 use Rattle.cmm_meaning.specs.Layout.{Layout, observed}
 use Rattle.cmm_meaning.specs.State.{World}
 use Rattle.cmm_meaning.specs.Evaluation.{NotProper, NoAnswer, Raises, Stops}
-use Rattle.cmm_meaning.specs.Run.{nobody, made, answered, frame_answered, answered_as, outside}
+use Rattle.cmm_meaning.specs.Run.{nobody, with_call_made, answered, frame_answered, answered_as, outside}
 use Rattle.meaning_laws.specs.Units.{with_more, Continues, alike}
 use Rattle.meaning_laws.specs.Fitting.{no_value, a_word, Answered, answered_raise, unfit, unanswered}
 use Rattle.meaning_laws.specs.Fitting as fitting
@@ -22,7 +22,7 @@ answered_so end (ret.Comp c) call [] w = unanswered call
 answered_so end (ret.Comp c) call (a ∷ answers) w = fitting.answered nobody (call ∷ []) answers (a_word a)
 
 raises_so : (end : ℕ) (result : Ret) (v : Value) (call : Made) (answers : List ℕ) (w : World) (b : Bool) → fits end ty.Val v ≡ b →
-    Answered end result true w (cond b (Raises v nobody (made call answers w)) (Stops (NotProper (misfit ty.Val)) (made call answers w)))
+    Answered end result true w (cond b (Raises v nobody (with_call_made call answers w)) (Stops (NotProper (misfit ty.Val)) (with_call_made call answers w)))
 raises_so end result v call answers w true fit = answered_raise v nobody (call ∷ []) answers fit
 raises_so end result v call answers w false fit = unfit (misfit ty.Val) (call ∷ []) answers
 
@@ -41,10 +41,10 @@ answered_continues k (ret.Comp c) call [] w = alike (answered (ret.Comp c) call 
 answered_continues k (ret.Comp c) call (a ∷ answers) w = alike (answered (ret.Comp c) call (a ∷ answers) w)
 
 raises_continues : (k : ℕ) (v : Value) (call : Made) (answers : List ℕ) (w : World) (b : Bool) →
-    Continues k (cond b (Raises v nobody (made call answers w)) (Stops (NotProper (misfit ty.Val)) (made call answers w)))
-    (cond b (Raises v nobody (made call answers (with_more k w))) (Stops (NotProper (misfit ty.Val)) (made call answers (with_more k w))))
-raises_continues k v call answers w true = alike (Raises v nobody (made call answers w))
-raises_continues k v call answers w false = alike (Stops (NotProper (misfit ty.Val)) (made call answers w))
+    Continues k (cond b (Raises v nobody (with_call_made call answers w)) (Stops (NotProper (misfit ty.Val)) (with_call_made call answers w)))
+    (cond b (Raises v nobody (with_call_made call answers (with_more k w))) (Stops (NotProper (misfit ty.Val)) (with_call_made call answers (with_more k w))))
+raises_continues k v call answers w true = alike (Raises v nobody (with_call_made call answers w))
+raises_continues k v call answers w false = alike (Stops (NotProper (misfit ty.Val)) (with_call_made call answers w))
 
 frame_continues : (k end : ℕ) (result : Ret) (call : Made) (answers : List ℕ) (w : World) →
     Continues k (frame_answered end result call answers w) (frame_answered end result call answers (with_more k w))

@@ -17,7 +17,7 @@ use Rattle.cmm_meaning.specs.Setting.{setting_of}
 use Rattle.meaning_laws.specs.Interaction.{function_does}
 use Rattle.meaning_laws.specs.Fitting.{Lawful, RaisedFits, stopped, CallsFitAndGrow}
 use Rattle.meaning_laws.specs.Units.{with_more, world_of, Later, Continues, alike, further, CallsContinue}
-use Rattle.meaning_fuel.specs.Whole.{whole}
+use Rattle.meaning_fuel.specs.Whole.{file_surroundings}
 use Rattle.meaning_laws.proofs.AgreementRuns.{function_plays, nested, nested_spending}
 use Rattle.meaning_fuel.proofs.Depth.{Spending, depth_free}
 use Rattle.meaning_laws.proofs.Extends.{extends_same}
@@ -107,7 +107,7 @@ module _ (file : FileTree) (layout : Layout) where
 
   -- ---- where it is not asked how deep they nest
 
-  pub whole_calls_fit : CallsFitAndGrow (whole file layout)
+  pub whole_calls_fit : CallsFitAndGrow (file_surroundings file layout)
   whole_calls_fit =
       record {
         later =
@@ -117,7 +117,7 @@ module _ (file : FileTree) (layout : Layout) where
         answers = outside_answers (data_end file) layout;
       }
 
-  pub whole_calls_continue : CallsContinue (whole file layout)
+  pub whole_calls_continue : CallsContinue (file_surroundings file layout)
   whole_calls_continue =
       record {
         call = λ k call w.

@@ -15,14 +15,14 @@ use Rattle.cmm_tree.specs.Tree.{FunctionTree, FileTree, functions}
 use Rattle.cmm_meaning.specs.Layout.{Layout, observed}
 use Rattle.cmm_meaning.specs.State.{Doing, Gave, Threw, Called, Asked, asked_inside, asked_outside, World, Here, bound, deepened}
 use Rattle.cmm_meaning.specs.Evaluation.{OutOfFuel, NotProper, NoAnswer, Asking, Evaluation, Gives, Exits, Raises, Stops, Surroundings, tested, scoped_parameter, evaluated}
-use Rattle.cmm_meaning.specs.Run.{More, nobody, made, answered, frame_answered, answered_as, outside, activated, callees, first_world, first_call, finished, cmm_run}
+use Rattle.cmm_meaning.specs.Run.{More, nobody, with_call_made, answered, frame_answered, answered_as, outside, activated, callees, first_world, first_call, finished, cmm_run}
 use Rattle.cmm_meaning.specs.Alone.{done_inside, done_outside, lone_world, alone}
 use Rattle.meaning_laws.specs.Does.{played}
 use Rattle.cmm_meaning.specs.Setting.{setting_of}
 use Rattle.meaning_laws.specs.Interaction.{function_does}
 use Rattle.meaning_laws.specs.Links.{Linked, doing_of, lonely}
 use Rattle.meaning_laws.specs.Units.{world_of}
-use Rattle.meaning_fuel.specs.Whole.{whole}
+use Rattle.meaning_fuel.specs.Whole.{file_surroundings}
 use Rattle.meaning_fuel.proofs.Agreed.{same_evaluated}
 use Rattle.meaning_laws.proofs.AgreementRuns.{function_plays, nested}
 use Rattle.meaning_fuel.proofs.Alike.{AtMost, Below, Alike, Same, Agree, alike_tested, spends_pays}
@@ -73,7 +73,7 @@ frame_drained end result call [] w = tt
 frame_drained end result call (zero ∷ []) w = tt
 frame_drained end result call (suc n ∷ []) w = tt
 frame_drained end result call (zero ∷ a ∷ answers) w = omega arith
-frame_drained end result call (suc n ∷ a ∷ answers) w = raise_drained end (Word a) (made call answers w)
+frame_drained end result call (suc n ∷ a ∷ answers) w = raise_drained end (Word a) (with_call_made call answers w)
 
 as_drained : (frame : Bool) (end : ℕ) (result : Ret) (call : Made) (answers : List ℕ) (w : World) → AtMost true w.left (answered_as frame end result call answers w)
 as_drained true end result call answers w = frame_drained end result call answers w
@@ -99,7 +99,7 @@ callees_drained file layout (suc depth) call w deep =
       outside = λ row frame arguments v less. outside_made_drained (data_end file) layout row frame arguments v;
     })
 
-pub whole_drained : (n : ℕ) (file : FileTree) (layout : Layout) → Drained n (whole file layout)
+pub whole_drained : (n : ℕ) (file : FileTree) (layout : Layout) → Drained n (file_surroundings file layout)
 whole_drained n file layout =
     record {
       calls = λ call w less.

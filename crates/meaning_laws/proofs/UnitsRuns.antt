@@ -7,7 +7,7 @@ use Rattle.cmm_meaning.specs.State.{World}
 use Rattle.cmm_meaning.specs.Evaluation.{OutOfFuel, NotProper, NoAnswer, Asking, Evaluation, Gives, Exits, Raises, Stops}
 use Rattle.cmm_meaning.specs.Run.{Run, More, Improper, first_world, first_call, finished, cmm_run}
 use Rattle.meaning_laws.specs.Units.{with_more, world_of, in_world, IsPrefixOf, Onward, Continues, alike, further, RunsOn, same_run, longer_run, CallsContinue}
-use Rattle.meaning_fuel.specs.Whole.{whole}
+use Rattle.meaning_fuel.specs.Whole.{file_surroundings}
 use Rattle.meaning_laws.proofs.LinksWhole.{whole_calls_continue}
 use Rattle.meaning_laws.proofs.Units.{Begins-same}
 use Rattle.meaning_laws.proofs.Extends.{extends_need}
@@ -39,7 +39,7 @@ module _ (file : FileTree) (layout : Layout) (entry : ℕ) (arguments answers : 
   -- With k more units a run ends alike, or goes on from where it had none left.
   pub runs_on : RunsOn k (cmm_run file layout entry arguments answers n) (cmm_run file layout entry arguments answers (n + k))
   runs_on =
-      let calls_continue : CallsContinue (whole file layout) = whole_calls_continue file layout in
+      let calls_continue : CallsContinue (file_surroundings file layout) = whole_calls_continue file layout in
       finished_on layout k (calls_continue.call k (first_call entry arguments) (first_world file answers n))
 
 -- A run that is finished is the same with more units, but for the units left.

@@ -28,9 +28,9 @@ use Rattle.cmm_grammar.specs.declared.word.DataWord.{DataWord}
 use Rattle.cmm_grammar.specs.declared.word.DataWord.TheVariants as item
 use Rattle.cmm_grammar.specs.Parts.{ResultPart, BindingPart, CasePart, HandlerPart, HeadPart, ItemPart, FunctionItem, DataItem, item_of, expressions, bindings, cases, handlers, sequence_at, sequence}
 use Rattle.cmm_grammar.specs.Rewriting.{element, turn, while_loop}
-use Rattle.cmm_grammar.specs.Words.{leaf_of, word_of, passing, marked, comp_of, ret_of, head_of, chunk_word_of, width_of, unsigned_chunk, signed_chunk, data_keyword, data_word_of, val_of, is_close, is_colon, is_name, is_integer, is_float, is_string, is_with, is_case, is_and, is_data, is_function, is_alloc, is_symbol_token, ends_case, ends_handler}
+use Rattle.cmm_grammar.specs.Words.{leaf_of, word_or_zero, passing, marked, comp_of, ret_of, head_of, chunk_word_of, width_of, unsigned_chunk, signed_chunk, data_keyword, data_word_of, val_of, is_close, is_colon, is_name, is_integer, is_float_token, is_string, is_with, is_case, is_and, is_data, is_function, is_alloc, is_symbol_token, ends_case, ends_handler}
 use Rattle.cmm_grammar.specs.Rule.{Sort, Value, AToken, AnExpression, AParameter, ADeclaration, AResult, ABinding, AnIndex, ACase, AHandler, ALabel, AHead, AChunkWord, AWidth, ADataWord, ADatum, ADataItem, AnItem, Both, Rule, Give, One}
-use Rattle.cmm_grammar.specs.Grammar.{a_token, a_comp, a_result, operands, sequence_to_close, sequence_to_with, a_binding, a_mutable_binding, bindings_to_close, let_body, let_form, assign_form, arguments_of, app_form, extcall_rest, extcall_form, alloc_form, load_rest, store_rest, chunk_rest, chunked, load_form, store_form, paired, tripled, raise_form, pair_form, triple_form, float_form, seq_form, while_form, case_number, another_number, case_body, a_case, switch_form, a_parameter, parameters, label_rest, handler_rest, a_label, next_handler, more_handlers, labelled_handlers, bare_catch, bare_handler, catch_form, exit_rest, exit_form, try_form, form_of, form, a_data_integer, datum_of, a_data_item, data_items, data_list, a_function, item_rest, an_item}
+use Rattle.cmm_grammar.specs.Grammar.{a_token, a_comp, a_result, operands, sequence_to_close, sequence_to_with, a_binding, a_mutable_binding, bindings_to_close, let_body, let_form, assign_form, arguments_of, app_form, extcall_rest, extcall_form, alloc_form, load_rest, store_rest, chunk_rest, chunked, load_form, store_form, paired, tripled, raise_form, pair_form, triple_form, float_form, seq_form, while_form, case_number, another_number, case_body, a_case, switch_form, a_parameter, parameters, label_rest, handler_rest, a_label, next_handler, more_handlers, labelled_handlers, bare_catch, bare_handler, catch_form, exit_rest, exit_form, try_form, form_of, open_form, a_data_integer, datum_of, a_data_item, data_items, data_list, a_function, item_rest, an_item}
 use Rattle.cmm_grammar.specs.Spelling.{AreItems, none, more}
 use Rattle.moved_texts.specs.Moved.{moved_token, moved_tokens, moved_expression, moved_row, moved_bindings, moved_cases, moved_handlers, moved_parameter, moved_parameters, moved_indexes, moved_declared, moved_data_items, moved_item, moved_items}
 use Rattle.moved_texts.proofs.Rules.{moved_value, moved_values, moved_option, moved_item_part, RuleMoves}
@@ -336,7 +336,7 @@ module _ (d : ℕ) where
       refl,
       m_operands,
       λ es.
-          ap (λ row. Give AnExpression (Alloc (at + d) (header.at + d) (word_of (integer_value header.text)) row)) (rows es),
+          ap (λ row. Give AnExpression (Alloc (at + d) (header.at + d) (word_or_zero (integer_value header.text)) row)) (rows es),
     ),
   )
 
@@ -491,7 +491,7 @@ module _ (d : ℕ) where
           refl,
           (_, _, refl, (λ c. refl), m_case),
           λ cs.
-              ap (λ row. Give AnExpression (Switch (at + d) (size.at + d) (word_of (integer_value size.text)) (moved_expression d selector) row)) (all_cases cs),
+              ap (λ row. Give AnExpression (Switch (at + d) (size.at + d) (word_or_zero (integer_value size.text)) (moved_expression d selector) row)) (all_cases cs),
         ),
       ),
     ),
@@ -631,8 +631,8 @@ module _ (d : ℕ) where
   m_form_of at word_at head.Try = m_try at
   m_form_of at word_at head.Float = m_float at word_at
 
-  pub m_form : (at : ℕ) → RuleMoves d (form at) (form (at + d))
-  unfolding form
+  pub m_form : (at : ℕ) → RuleMoves d (open_form at) (open_form (at + d))
+  unfolding open_form
   m_form at = (_, _, refl, (_, refl, heads), λ w. m_form_of at w.0.at w.1)
 
   -- ---- static data
@@ -653,7 +653,7 @@ module _ (d : ℕ) where
   m_datum t item.Align = m_data_integer tree.Align (λ o. refl)
   m_datum t item.Text = (_, _, refl, tok is_string (λ t. refl), λ text. refl)
   m_datum t item.Global = (_, _, refl, tok is_symbol_token (λ t. refl), λ name. refl)
-  m_datum t item.Float = (_, _, refl, tok is_float (λ t. refl), λ f. refl)
+  m_datum t item.Float = (_, _, refl, tok is_float_token (λ t. refl), λ f. refl)
 
   m_data_item : RuleMoves d a_data_item a_data_item
   unfolding a_data_item

@@ -8,7 +8,7 @@ use Rattle.cmm_lex.specs.declared.state.OperatorPart.TheVariants as sign
 use Rattle.cmm_lex.specs.declared.state.State.{State}
 use Rattle.cmm_lex.specs.declared.state.State.TheVariants.{Start, Name, Number, Operator, Done, Dead}
 use Rattle.cmm_lex.specs.declared.token.TokenKind.{TokenKind}
-use Rattle.cmm_lex.specs.Automaton.{run, after, after_start, after_name, after_number, after_operator, after_decimal, accepts}
+use Rattle.cmm_lex.specs.Automaton.{run, state_after_byte, after_start, after_name, after_number, after_operator, after_decimal, accepts}
 use Rattle.cmm_lex.specs.Enclosed.{BeginsWith, AComment, opening, EndsString, quote, pair, byte}
 use Rattle.cmm_lex.specs.Lexing.{Splits, ended, gap, token, stopped}
 use Rattle.cmm_lex.specs.Token.{TokenTree}
@@ -35,8 +35,8 @@ splits_move d _ _ _ _ (stopped at bytes f is) e = absurd (let z : Some f ≡ Non
 
 -- ---- a line feed and a space end each token but a string
 
-line_ends : (s : State) → after s 10 ≡ Dead
-unfolding after after_start after_name after_number after_operator after_decimal
+line_ends : (s : State) → state_after_byte s 10 ≡ Dead
+unfolding state_after_byte after_start after_name after_number after_operator after_decimal
 line_ends Start = refl
 line_ends (Name name.Body) = refl
 line_ends (Name name.Slash) = refl
@@ -64,8 +64,8 @@ line_ends (Operator sign.Comparison) = refl
 line_ends (Done k) = refl
 line_ends Dead = refl
 
-space_ends : (s : State) → after s 32 ≡ Dead
-unfolding after after_start after_name after_number after_operator after_decimal
+space_ends : (s : State) → state_after_byte s 32 ≡ Dead
+unfolding state_after_byte after_start after_name after_number after_operator after_decimal
 space_ends Start = refl
 space_ends (Name name.Body) = refl
 space_ends (Name name.Slash) = refl
@@ -122,7 +122,7 @@ front_of (z ∷ zs) more (x ∷ xs) ys e h =
     (later.0, λ i. same i ∷ later.1 i)
 
 quote_dead : (xs : List ℕ) (k : Shape) → accepts (run Start (34 ∷ xs)) ≡ Some k → ⊥
-unfolding after accepts after_start
+unfolding state_after_byte accepts after_start
 quote_dead xs k a = let none : accepts (run Dead xs) ≡ None = run-dead xs in absurd (let z : None ≡ Some k = sym none ∙ a in cc)
 
 no_token_empty : (k : Shape) → accepts (run Start []) ≡ Some k → ⊥
@@ -142,19 +142,19 @@ AreBytes-back (x ∷ xs) ys h = AreBytes-back xs ys h.1
 
 -- ---- before a byte that ends each token but a string, and begins no comment
 
-module _ (end : ℕ) (ends : (s : State) → after s end ≡ Dead) (no_open : end ≡ 40 → ⊥) (no_star : end ≡ 42 → ⊥) where
+module _ (end : ℕ) (ends : (s : State) → state_after_byte s end ≡ Dead) (no_open : end ≡ 40 → ⊥) (no_star : end ≡ 42 → ⊥) where
   none_longer : (s : State) (text more xs ys : List ℕ) (k : Shape) → text ++ end ∷ more ≡ xs ++ ys → accepts (run s xs) ≡ Some k → length xs ≤ length text
   none_longer s text more [] ys k e a = omega arith
   none_longer s [] more (x ∷ xs) ys k e a =
       let same : ◌≡◌ {A = ℕ} end x = cc in
-      let dead : after s x ≡ Dead = ap (after s) (sym same) ∙ ends s in
-      let none : accepts (run (after s x) xs) ≡ None = ap (λ (t : State). accepts (run t xs)) dead ∙ run-dead xs in
+      let dead : state_after_byte s x ≡ Dead = ap (state_after_byte s) (sym same) ∙ ends s in
+      let none : accepts (run (state_after_byte s x) xs) ≡ None = ap (λ (t : State). accepts (run t xs)) dead ∙ run-dead xs in
       cc
   none_longer s (t ∷ text) more (x ∷ xs) ys k e a =
       let same : x ≡ t = cc in
       let tail : text ++ end ∷ more ≡ xs ++ ys = cc in
-      let there : accepts (run (after s t) xs) ≡ Some k = subst (λ (v : ℕ). accepts (run (after s v) xs) ≡ Some k) same a in
-      let shorter = none_longer (after s t) text more xs ys k tail there in
+      let there : accepts (run (state_after_byte s t) xs) ≡ Some k = subst (λ (v : ℕ). accepts (run (state_after_byte s v) xs) ≡ Some k) same a in
+      let shorter = none_longer (state_after_byte s t) text more xs ys k tail there in
       omega (arith, shorter)
 
   -- a token that is the longest stays so

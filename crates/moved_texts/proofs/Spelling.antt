@@ -4,7 +4,7 @@ use Rattle.cmm_lex.specs.Token.{TokenTree}
 use Rattle.cmm_tree.specs.Tree.{Nothing}
 use Rattle.cmm_grammar.specs.Words.{is_labelled, leaf_of}
 use Rattle.cmm_grammar.specs.Rule.{Sort, Value, AnExpression, Listed, Rule, Then, Expr, InsideOr, LabelledOr, Until, Repeat}
-use Rattle.cmm_grammar.specs.Grammar.{form}
+use Rattle.cmm_grammar.specs.Grammar.{open_form}
 use Rattle.cmm_grammar.specs.Spelling.{Spells, nothing, token, both, leaf, brackets, parenthesis, inside, inside_first, not_inside, labelled, not_labelled, ended, one_more, present, absent, last, another}
 use Rattle.moved_texts.specs.Moved.{moved_token, moved_tokens, moved_expression}
 use Rattle.moved_texts.proofs.Rules.{moved_value, moved_values, moved_option, RuleMoves}
@@ -20,7 +20,7 @@ still_labelled d (x ∷ y ∷ xs) = refl
 
 -- by what is known of an expression of one token and of a form
 module _ (d : ℕ) (leaves : (t : TokenTree) → leaf_of (moved_token d t) ≡ moved_option d AnExpression (leaf_of t))
-    (forms : (at : ℕ) → RuleMoves d (form at) (form (at + d))) where
+    (forms : (at : ℕ) → RuleMoves d (open_form at) (open_form (at + d))) where
   abbrev to : (s : Sort) → Value s → Value s
   to s a = moved_value d s a
 
@@ -44,7 +44,7 @@ module _ (d : ℕ) (leaves : (t : TokenTree) → leaf_of (moved_token d t) ≡ m
       subst (λ (q : Rule AnExpression). Spells AnExpression n q (Nothing (o.at + d)) (moved_token d o ∷ moved_token d c ∷ [])) (sym m)
       (brackets n (moved_token d o) (moved_token d c) h g)
   spells _ _ _ _ _ (parenthesis n o e xs h g) q m =
-      let inner = spells AnExpression n (form o.at) e xs g (form (o.at + d)) (forms o.at) in
+      let inner = spells AnExpression n (open_form o.at) e xs g (open_form (o.at + d)) (forms o.at) in
       subst (λ (q : Rule AnExpression). Spells AnExpression (suc n) q (moved_expression d e) (moved_token d o ∷ on xs)) (sym m)
       (parenthesis n (moved_token d o) (moved_expression d e) (on xs) h inner)
   spells _ _ _ _ _ (inside s n r o a xs h g) q m =

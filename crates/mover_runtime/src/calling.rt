@@ -187,7 +187,7 @@ fn answer_frame_call<K: Sink>(
     };
     let shown = observe_arguments(machine, &row.params);
     let plan = schedule.plan(machine.services());
-    match counting::collect(machine, plan) {
+    match counting::count_frame_call(machine, plan) {
         ServiceEnd::Goes => {
             *taken += 2;
             conclude(machine, row, &shown[..row.params.len()], answer, out)

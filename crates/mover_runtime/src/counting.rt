@@ -23,25 +23,25 @@ pub fn step(machine: &mut Machine<'_>) -> StepEnd
 }
 
 /// The allocation service.
-pub fn allocate(machine: &mut Machine<'_>, plan: Plan<'_>) -> ServiceEnd
+pub fn count_allocation(machine: &mut Machine<'_>, plan: Plan<'_>) -> ServiceEnd
     requires near { machine.old.pc < 2 ^ 32 }
     requires room { machine.old.retired < 2 ^ 64 - 1 }
     requires services { machine.old.services < 2 ^ 64 - 1 }
     ensures exact { Serves result (allocation_served (plan_of plan.entry) machine.old) machine.new }
     ensures retired { machine.new.retired ≤ suc machine.old.retired }
 {
-    alloc_service::allocate(machine, plan)
+    alloc_service::serve_allocation(machine, plan)
 }
 
 /// The move of the blocks at a frame call.
-pub fn collect(machine: &mut Machine<'_>, plan: Plan<'_>) -> ServiceEnd
+pub fn count_frame_call(machine: &mut Machine<'_>, plan: Plan<'_>) -> ServiceEnd
     requires near { machine.old.pc < 2 ^ 32 }
     requires services { machine.old.services < 2 ^ 64 - 1 }
     ensures exact { Serves result (collected (plan_of plan.entry) machine.old) machine.new }
     ensures place { machine.new.pc ≡ machine.old.pc }
     ensures retired { machine.new.retired ≡ machine.old.retired }
 {
-    alloc_service::collect(machine, plan)
+    alloc_service::serve_frame_call(machine, plan)
 }
 
 /// Goes on after an external call.

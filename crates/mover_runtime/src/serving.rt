@@ -91,9 +91,9 @@ pub fn service(machine: &mut Machine<'_>, schedule: &Schedule) -> ServiceEnd
 {
     let plan = schedule.plan(machine.services());
     if machine.register(Register::T2 as u8) == 3 {
-        alloc_service::allocate(machine, plan)
+        alloc_service::serve_allocation(machine, plan)
     } else {
-        alloc_service::collect(machine, plan)
+        alloc_service::serve_frame_call(machine, plan)
     }
 }
 
@@ -114,7 +114,7 @@ fn allocate<K: Sink>(
     ensures counts { Counts result (K.faults out.old) (K.faults out.new) }
     ensures retired { machine.new.retired ≤ suc machine.old.retired }
 {
-    match counting::allocate(machine, plan) {
+    match counting::count_allocation(machine, plan) {
         ServiceEnd::Goes => Ok(None),
         ServiceEnd::HeapOut => {
             let end = end_heap_out(out)?;

@@ -1,7 +1,7 @@
 -- A raised value is round none but handlers: where none is raised, an operation leaves none behind where it goes on.
 use Rattle.std.proofs.Common.{◌≡◌, ℕ, zero, suc, Bool, true, false, cond, List, [], ◌∷◌, Option, Some, None, Result, Ok, Err, refl}
 use Rattle.std.specs.Prelude.{slice_get}
-use Rattle.bs_words.specs.Memory.{Memory, Cell, InHeader, InBlock, InStatic, sizes, stored, value_in}
+use Rattle.bs_words.specs.Memory.{Memory, Cell, InHeader, InBlock, InStatic, sizes, stored, value_in_cell}
 use Rattle.bs_words.specs.Operators.{apply, word_in}
 use Rattle.bs_words.specs.declared.types.Chunk.{Chunk}
 use Rattle.bs_words.specs.declared.types.Chunk.TheVariants as chunk
@@ -106,7 +106,7 @@ header_calm chunk.U32 a s x v e = calm_stuck
 header_calm chunk.I32 a s x v e = calm_stuck
 
 first_calm : (k : Chunk) (a : Around) (cell : Cell) (x v : Value) → IsCalm a → Calm (acts.first_written k a cell x v)
-first_calm k a (InHeader s) x v e = header_calm k a s (value_in a.memory (InHeader s)) v e
+first_calm k a (InHeader s) x v e = header_calm k a s (value_in_cell a.memory (InHeader s)) v e
 first_calm k a (InBlock s n) x v e = only_calm _ _ (store_calm a _ (stored k a.memory x v) e)
 first_calm k a (InStatic l n) x v e = calm_stuck
 

@@ -3,7 +3,7 @@ use Rattle.std.specs.Prelude.{◌≡◌, ⊤, ℕ, ◌<◌, List, Option, Some, 
 use Rattle.std.specs.List.{AllByRecursion}
 use Rattle.rv_layout_rules.specs.declared.form.Form.{Form}
 use Rattle.rv_layout_rules.specs.Forms.{label_from, place_or_entry}
-use Rattle.rv_layout.specs.declared.labels.Labels.{Labels}
+use Rattle.rv_layout.specs.declared.labels.LabelOffsets.{LabelOffsets}
 use Rattle.rv_pieces.specs.declared.piece.Piece.{Piece}
 use Rattle.rv_pieces.specs.declared.piece.Piece.TheVariants.{Label}
 
@@ -22,11 +22,11 @@ label_noted places (Label l) at = slice_set places l (first_of_two (word_of_labe
 label_noted places _ at = places
 
 -- its place, or the entry
-abbrev pub words_of_labels : Labels → ℕ → ℕ
+abbrev pub words_of_labels : LabelOffsets → ℕ → ℕ
 words_of_labels table l = place_or_entry (word_of_label table.places.items l)
 
 -- The table has the labels of these pieces in these forms.
-pub record IsLabelTable (ps : List Piece) (forms : List Form) (table : Labels) : Type 0 where
+pub record IsLabelTable (ps : List Piece) (forms : List Form) (table : LabelOffsets) : Type 0 where
   pub each : (l : ℕ) → word_of_label table.places.items l ≡ label_from l 0 ps forms
 
 -- a label that is here is below this number

@@ -5,7 +5,7 @@ ghost use Rattle.rv_layout_rules.specs.Forms.{branch_form, jump_form, none_far, 
 ghost use Rattle.rv_layout_rules.specs.Forms.{AreForms};
 ghost use Rattle.rv_layout.specs.Tables.{words_of_labels};
 
-use crate::labels::{Labels, label_bound};
+use crate::labels::{LabelOffsets, label_bound};
 use rv_layout_rules::Form;
 use rv_pieces::Piece;
 use std::alloc::{AllocError, Global};
@@ -135,7 +135,7 @@ fn jump_form(from: u64, to: u64) -> Form
 }
 
 /// The shortest form in which a piece at this word reaches its label. In an image no callee is far.
-fn needed(labels: &Labels, at: u64, piece: &Piece) -> Form
+fn needed(labels: &LabelOffsets, at: u64, piece: &Piece) -> Form
     requires { at < 2 ^ 59 }
     ensures { result ≡ needed_form none_far (words_of_labels labels.now) at piece.now }
 {
@@ -167,7 +167,12 @@ struct Grown {
 }
 
 /// Makes each form longer that does not reach its label.
-fn grow(alloc: Global, code: &[Piece], forms: &[Form], labels: &Labels) -> Result<Grown, AllocError>
+fn grow(
+    alloc: Global,
+    code: &[Piece],
+    forms: &[Form],
+    labels: &LabelOffsets,
+) -> Result<Grown, AllocError>
     requires few { length code.now < 2 ^ 48 }
     requires same { length forms.now ≡ length code.now }
     ensures grown { IfOk result (λ grown.
@@ -201,7 +206,7 @@ pub fn forms_of(alloc: Global, code: &[Piece]) -> Result<Vec<Form>, AllocError>
     let mut forms = vec![in alloc; Form::Near; code.len()]?;
     let mut ranks: u64 = 0;
     loop {
-        let labels = Labels::of(alloc, code, forms.as_slice(), bound)?;
+        let labels = LabelOffsets::of(alloc, code, forms.as_slice(), bound)?;
         let Grown {
             forms: next,
             ranks: sum,

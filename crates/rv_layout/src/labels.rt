@@ -10,7 +10,7 @@ use std::alloc::{AllocError, Global};
 
 /// For each label of a function, by its number, the words before it.
 #[derive(Drop)]
-pub struct Labels {
+pub struct LabelOffsets {
     places: Vec<Option<u64>>,
 }
 
@@ -44,7 +44,7 @@ pub fn label_bound(code: &[Piece]) -> usize
     bound
 }
 
-impl Labels {
+impl LabelOffsets {
     /// The labels of pieces that are in these forms. `bound` is above their numbers.
     /// The only error is want of memory.
     pub fn of(
@@ -52,7 +52,7 @@ impl Labels {
         code: &[Piece],
         forms: &[Form],
         bound: usize,
-    ) -> Result<Labels, AllocError>
+    ) -> Result<LabelOffsets, AllocError>
         requires few { length code.now < 2 ^ 48 }
         requires same { length forms.now ≡ length code.now }
         requires below { LabelsBelow bound code.now }
@@ -64,7 +64,7 @@ impl Labels {
             note(&mut places, &code[index], at);
             at += words_of(&code[index], forms[index]);
         }
-        Ok(Labels { places })
+        Ok(LabelOffsets { places })
     }
 
     /// The words before a label. One that occurs nowhere counts as being at the entry.

@@ -17,6 +17,6 @@ mod words;
 pub use descs::put_descs;
 pub use forms::{forms_of, words_of};
 pub use instructions::put_piece;
-pub use labels::{Labels, label_bound};
+pub use labels::{LabelOffsets, label_bound};
 pub use sizes::{Sizes, too_large};
 pub use words::{Placed, put_words};

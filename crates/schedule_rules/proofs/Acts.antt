@@ -3,7 +3,7 @@ use Rattle.std.proofs.Common.{◌≡◌, ℕ, Bool, true, false, cond, List, [],
 use Rattle.std.proofs.Math.Seq.{map-set_same}
 use Rattle.std.specs.Prelude.{slice_set, slice_index_or}
 use Rattle.bs_words.specs.Fits.{fits, misfit}
-use Rattle.bs_words.specs.Memory.{Memory, HeapBlock, Cell, InHeader, InBlock, InStatic, sizes, with_value, type_in, value_in, put_in, put_part, put_whole, replaced, stored_as, stored_in, stored, cell_at, width, offset_in_cell, end_of_data}
+use Rattle.bs_words.specs.Memory.{Memory, HeapBlock, Cell, InHeader, InBlock, InStatic, sizes, with_cell_value, type_in, value_in_cell, put_in, put_part, put_whole, replaced, stored_as, stored_in, stored, cell_at, width, offset_in_cell, end_of_data}
 use Rattle.bs_words.specs.Operators.{apply}
 use Rattle.bs_words.specs.declared.types.Chunk.{Chunk}
 use Rattle.bs_words.specs.declared.types.Chunk.TheVariants as chunk
@@ -39,7 +39,7 @@ data Shaped (m : Memory) : Result Memory Kind → Type 0 where
   shaped : {after : Memory} → SameShapes m after → Shaped m (Ok after)
   no_memory : {kind : Kind} → Shaped m (Err kind)
 
-with_value_shaped : (m : Memory) (cell : Cell) (v : Value) → SameShapes m (with_value m cell v)
+with_value_shaped : (m : Memory) (cell : Cell) (v : Value) → SameShapes m (with_cell_value m cell v)
 with_value_shaped m (InHeader serial) v = refl
 with_value_shaped m (InBlock serial index) v =
     let none : HeapBlock = record { header = 0; cells = [] } in
@@ -73,12 +73,12 @@ put_whole_shaped type end m cell v = by (fits end type v)
 stored_as_shaped : (c : Chunk) (end : ℕ) (m : Memory) (cell : Cell) (offset : ℕ) (v : Value) → Shaped m (stored_as c end m cell offset v)
 stored_as_shaped chunk.Int end m cell offset v = put_whole_shaped ty.Int end m cell v
 stored_as_shaped chunk.Val end m cell offset v = put_whole_shaped ty.Val end m cell v
-stored_as_shaped chunk.U8 end m cell offset v = put_part_shaped end m cell offset (width chunk.U8) (value_in m cell) v
-stored_as_shaped chunk.I8 end m cell offset v = put_part_shaped end m cell offset (width chunk.I8) (value_in m cell) v
-stored_as_shaped chunk.U16 end m cell offset v = put_part_shaped end m cell offset (width chunk.U16) (value_in m cell) v
-stored_as_shaped chunk.I16 end m cell offset v = put_part_shaped end m cell offset (width chunk.I16) (value_in m cell) v
-stored_as_shaped chunk.U32 end m cell offset v = put_part_shaped end m cell offset (width chunk.U32) (value_in m cell) v
-stored_as_shaped chunk.I32 end m cell offset v = put_part_shaped end m cell offset (width chunk.I32) (value_in m cell) v
+stored_as_shaped chunk.U8 end m cell offset v = put_part_shaped end m cell offset (width chunk.U8) (value_in_cell m cell) v
+stored_as_shaped chunk.I8 end m cell offset v = put_part_shaped end m cell offset (width chunk.I8) (value_in_cell m cell) v
+stored_as_shaped chunk.U16 end m cell offset v = put_part_shaped end m cell offset (width chunk.U16) (value_in_cell m cell) v
+stored_as_shaped chunk.I16 end m cell offset v = put_part_shaped end m cell offset (width chunk.I16) (value_in_cell m cell) v
+stored_as_shaped chunk.U32 end m cell offset v = put_part_shaped end m cell offset (width chunk.U32) (value_in_cell m cell) v
+stored_as_shaped chunk.I32 end m cell offset v = put_part_shaped end m cell offset (width chunk.I32) (value_in_cell m cell) v
 
 stored_in_shaped : (c : Chunk) (m : Memory) (offset : ℕ) (o : Option Cell) (v : Value) → Shaped m (stored_in c m offset o v)
 stored_in_shaped c m offset None v = no_memory
@@ -132,7 +132,7 @@ header_stores chunk.I32 a s old new = store_stuck
 header_stores chunk.Val a s old new = store_stuck
 
 first_stores : (k : Chunk) (a : Around) (cell : Cell) (x v : Value) → Stores a (first_written k a cell x v)
-first_stores k a (InHeader s) x v = header_stores k a s (value_in a.memory (InHeader s)) v
+first_stores k a (InHeader s) x v = header_stores k a s (value_in_cell a.memory (InHeader s)) v
 first_stores k a (InBlock s n) x v = store_only a _ _ (after_stores a (without (InBlock s n) a.unwritten) (stored k a.memory x v) (stored_shaped k a.memory x v))
 first_stores k a (InStatic l n) x v = store_stuck
 

@@ -4,10 +4,10 @@ use Rattle.std.specs.Prelude.{slice_index_or}
 use Rattle.std.proofs.lemmas.Nat.{pow-add}
 use Rattle.std.proofs.Math.Pow.{pow_pos}
 use Rattle.bs_words.specs.Fits.{data_start}
-use Rattle.bs_words.specs.Memory.{StaticList, Cell, InHeader, InBlock, InStatic, value_in}
+use Rattle.bs_words.specs.Memory.{StaticList, Cell, InHeader, InBlock, InStatic, value_in_cell}
 use Rattle.bs_words.specs.declared.values.Value.{Value}
 use Rattle.bs_words.specs.declared.values.Value.TheVariants.{Word, Block, Function}
-use Rattle.cmm_data.specs.Contents.{DataByte, Plain, OfFunction, little_endian, zeros, integer, symbol_bytes, bytes_at, bytes_of_items, number_of, word_of_bytes, cell_of, cells_of, static_list, first_memory}
+use Rattle.cmm_data.specs.Contents.{DataByte, Plain, OfFunction, little_endian, zeros, bytes_of_integer, symbol_bytes, bytes_at, bytes_of_items, byte_number, word_of_bytes, cell_of, cells_of, static_list, first_memory}
 use Rattle.cmm_data.specs.Placement.{items_from, size_at, start_behind, end_behind, lists_behind, built_in_list, value_of_symbol}
 use Rattle.cmm_lex.proofs.Languages.{AreBytes}
 use Rattle.cmm_reader.specs.Text as said
@@ -43,7 +43,7 @@ function_bytes : (f count : ℕ) → AllBytes (replicate count (OfFunction f))
 function_bytes f zero = tt
 function_bytes f (suc count) = (tt, function_bytes f count)
 
-integer_bytes : (count : ℕ) (o : Option ℕ) → AllBytes (integer count o)
+integer_bytes : (count : ℕ) (o : Option ℕ) → AllBytes (bytes_of_integer count o)
 integer_bytes count (Some word) = little_bytes count word
 integer_bytes count None = zero_bytes count
 
@@ -77,7 +77,7 @@ item_bytes f address (i ∷ items) p =
 
 -- ---- cells
 
-number_below : (b : DataByte) → IsByte b → number_of b < 256
+number_below : (b : DataByte) → IsByte b → byte_number b < 256
 number_below (Plain b) p = p
 number_below (OfFunction f) p = omega arith
 
@@ -91,7 +91,7 @@ word_below (suc n) (b ∷ bs) le p =
     let next : 2 ^ (8 + 8 * n) ≡ 2 ^ 8 * 2 ^ (8 * n) = pow-add 2 8 (8 * n) in
     let same : 8 + 8 * n ≡ 8 * suc n = omega arith in
     let m : ℕ = 2 ^ (8 * n) in
-    subst (λ k. number_of b + 256 * w < 2 ^ k) same (subst (λ k. number_of b + 256 * w < k) (sym next) (let r : number_of b + 256 * w < 256 * m = omega (arith, few, less) in r))
+    subst (λ k. byte_number b + 256 * w < 2 ^ k) same (subst (λ k. byte_number b + 256 * w < k) (sym next) (let r : byte_number b + 256 * w < 256 * m = omega (arith, few, less) in r))
 
 cell_bounded : (bs : List DataByte) → length bs ≤ 8 → AllBytes bs → Bounded (cell_of bs)
 cell_bounded [] le p = omega arith
@@ -141,7 +141,7 @@ lists_bounded f end (d ∷ lists) p (suc l) i = lists_bounded f (end_behind end 
 beginning_bounded : (file : FileTree) → ItemsBytes file.items → BoundedMemory (first_memory file)
 beginning_bounded file p = record { each = each }
   where
-    each : (cell : Cell) → Bounded (value_in (first_memory file) cell)
+    each : (cell : Cell) → Bounded (value_in_cell (first_memory file) cell)
     each (InHeader s) = zero_word
     each (InBlock s i) = zero_word
     each (InStatic l i) = lists_bounded (value_of_symbol file) data_start (built_in_list ∷ data_lists file) ((tt, (tt, tt)), lists_among file.items p) l i

@@ -48,19 +48,19 @@ typed_faultless file none told m = none told (from file told (gathered.second (g
 
 -- ---- limits
 
-limits_faultless : (items : List ItemTree) → Faultless (limits.items_faults items) → (f : FunctionTree) → Contains (functions_among items) f → Faultless (limits.function_faults f)
+limits_faultless : (items : List ItemTree) → Faultless (limits.items_limit_faults items) → (f : FunctionTree) → Contains (functions_among items) f → Faultless (limits.function_limit_faults f)
 limits_faultless [] none f c = absurd (contains_none f c)
 limits_faultless (AFunction g ∷ items) none f c = by (contains_cases g (functions_among items) f c) (λ c. limits_faultless items (right none) f c)
   where
-    by : (g ≡ f) ⊎ Contains (functions_among items) f → (Contains (functions_among items) f → Faultless (limits.function_faults f)) → Faultless (limits.function_faults f)
-    by (inl same) others = subst (λ (g : FunctionTree). Faultless (limits.function_faults g)) same (left none)
+    by : (g ≡ f) ⊎ Contains (functions_among items) f → (Contains (functions_among items) f → Faultless (limits.function_limit_faults f)) → Faultless (limits.function_limit_faults f)
+    by (inl same) others = subst (λ (g : FunctionTree). Faultless (limits.function_limit_faults g)) same (left none)
     by (inr there) others = others there
 limits_faultless (AData l ∷ items) none f c = limits_faultless items (right none) f c
 
 -- ---- what reading gives
 
 record Read (file : FileTree) : Type 0 where
-  limits_kept : Faultless (limits.items_faults file.items)
+  limits_kept : Faultless (limits.items_limit_faults file.items)
   have_cases : (f : FunctionTree) → Contains (functions file) f → HaveCases f.body
 
 read_file : (text : List ℕ) (file : FileTree) → ReadsAs text (Ok file) → Read file

@@ -1,6 +1,6 @@
 -- The code of rows, by their last parts: it is made from the end.
 use Rattle.std.proofs.Common.{◌≡◌, ℕ, suc, ◌+◌, Bool, false, List, [], ◌∷◌, ◌++◌, length, refl, ap, ◌∙◌, arith}
-use Rattle.cmm_tree.specs.Rows.{row_of, cases_of, handlers_of}
+use Rattle.cmm_tree.specs.Rows.{expressions_of, cases_of, handlers_of}
 use Rattle.cmm_tree.specs.View.{expr_view, params_view}
 use Rattle.cmm_tree.specs.declared.expr.Case.{Case}
 use Rattle.cmm_tree.specs.declared.expr.Expr.{Expr}
@@ -22,44 +22,44 @@ pub typed-last : (names : List Scoped) (xs : List Expr) (e : Expr) → AreAnnota
 typed-last names [] e t = (tt, t.0)
 typed-last names (x ∷ xs) e t = let more = typed-last names xs e t.1 in ((t.0, more.0), more.1)
 
-pub width-last : (xs : List Expr) (e : Expr) → width_row (row_of (xs ++ e ∷ [])) ≡ width_row (row_of xs) + suc (width (expr_view e))
+pub width-last : (xs : List Expr) (e : Expr) → width_row (expressions_of (xs ++ e ∷ [])) ≡ width_row (expressions_of xs) + suc (width (expr_view e))
 width-last [] e = omega arith
 width-last (x ∷ xs) e = let more = width-last xs e in omega (arith, more)
 
 pub dropped-last : (env : List NamedRegister) (labels : List Label) (b : ℕ) (xs : List Expr) (e : Expr) (next : List Instr)
-    → select_dropped env labels b (row_of (xs ++ e ∷ [])) next
-    ≡ select_dropped env labels b (row_of xs)
-    (select env labels false false (fresh_register (b + width_row (row_of xs)) (type_of (scopes env) (expr_view e))) (suc (b + width_row (row_of xs))) (expr_view e) next)
+    → select_dropped env labels b (expressions_of (xs ++ e ∷ [])) next
+    ≡ select_dropped env labels b (expressions_of xs)
+    (select env labels false false (fresh_register (b + width_row (expressions_of xs)) (type_of (scopes env) (expr_view e))) (suc (b + width_row (expressions_of xs))) (expr_view e) next)
 dropped-last env labels b [] e next =
     let none : b ≡ b + 0 = omega arith in
     ap (λ n. select env labels false false (fresh_register n (type_of (scopes env) (expr_view e))) (suc n) (expr_view e) next) none
 dropped-last env labels b (x ∷ xs) e next =
     let w = width (expr_view x) in
     let here : ℕ → List Instr = λ n. select env labels false false (fresh_register n (type_of (scopes env) (expr_view e))) (suc n) (expr_view e) next in
-    let same : suc (b + w) + width_row (row_of xs) ≡ b + width_row (row_of (x ∷ xs)) = omega arith in
+    let same : suc (b + w) + width_row (expressions_of xs) ≡ b + width_row (expressions_of (x ∷ xs)) = omega arith in
     ap (λ rest. select env labels false false (fresh_register b (type_of (scopes env) (expr_view x))) (suc b) (expr_view x) rest)
-    (dropped-last env labels (suc (b + w)) xs e next ∙ ap (λ n. select_dropped env labels (suc (b + w)) (row_of xs) (here n)) same)
+    (dropped-last env labels (suc (b + w)) xs e next ∙ ap (λ n. select_dropped env labels (suc (b + w)) (expressions_of xs) (here n)) same)
 
 not-last : (env : List NamedRegister) (labels : List Label) (valued tail : Bool) (d : Reg) (b : ℕ) (x : Expr) (xs : List Expr) (e : Expr) (next : List Instr)
-    → select_seq env labels valued tail d b (row_of (x ∷ xs ++ e ∷ [])) next
+    → select_seq env labels valued tail d b (expressions_of (x ∷ xs ++ e ∷ [])) next
     ≡ select env labels false false (fresh_register b (type_of (scopes env) (expr_view x))) (suc b) (expr_view x)
-    (select_seq env labels valued tail d (suc (b + width (expr_view x))) (row_of (xs ++ e ∷ [])) next)
+    (select_seq env labels valued tail d (suc (b + width (expr_view x))) (expressions_of (xs ++ e ∷ [])) next)
 not-last env labels valued tail d b x [] e next = refl
 not-last env labels valued tail d b x (y ∷ ys) e next = refl
 
 pub seq-last : (env : List NamedRegister) (labels : List Label) (valued tail : Bool) (d : Reg) (b : ℕ) (xs : List Expr) (e : Expr) (next : List Instr)
-    → select_seq env labels valued tail d b (row_of (xs ++ e ∷ [])) next
-    ≡ select_dropped env labels b (row_of xs) (select env labels valued tail d (suc (b + width_row (row_of xs))) (expr_view e) next)
+    → select_seq env labels valued tail d b (expressions_of (xs ++ e ∷ [])) next
+    ≡ select_dropped env labels b (expressions_of xs) (select env labels valued tail d (suc (b + width_row (expressions_of xs))) (expr_view e) next)
 seq-last env labels valued tail d b [] e next =
     let none : b ≡ b + 0 = omega arith in
     ap (λ n. select env labels valued tail d (suc n) (expr_view e) next) none
 seq-last env labels valued tail d b (x ∷ xs) e next =
     let w = width (expr_view x) in
     let here : ℕ → List Instr = λ n. select env labels valued tail d (suc n) (expr_view e) next in
-    let same : suc (b + w) + width_row (row_of xs) ≡ b + width_row (row_of (x ∷ xs)) = omega arith in
+    let same : suc (b + w) + width_row (expressions_of xs) ≡ b + width_row (expressions_of (x ∷ xs)) = omega arith in
     not-last env labels valued tail d b x xs e next
     ∙ ap (λ rest. select env labels false false (fresh_register b (type_of (scopes env) (expr_view x))) (suc b) (expr_view x) rest)
-    (seq-last env labels valued tail d (suc (b + w)) xs e next ∙ ap (λ n. select_dropped env labels (suc (b + w)) (row_of xs) (here n)) same)
+    (seq-last env labels valued tail d (suc (b + w)) xs e next ∙ ap (λ n. select_dropped env labels (suc (b + w)) (expressions_of xs) (here n)) same)
 
 -- ---- cases
 

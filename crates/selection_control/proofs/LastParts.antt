@@ -1,7 +1,7 @@
 -- What a loop over a row, from its end on, does at the last part that is left.
 use Rattle.std.proofs.Common.{◌≡◌, ℕ, suc, ◌+◌, false, List, [], ◌∷◌, ◌++◌, length, refl, ap, sym, ◌∙◌, subst, arith}
 use Rattle.std.proofs.lemmas.List.{length-append}
-use Rattle.cmm_tree.specs.Rows.{row_of, cases_of, handlers_of}
+use Rattle.cmm_tree.specs.Rows.{expressions_of, cases_of, handlers_of}
 use Rattle.cmm_tree.specs.Tree.{Seq}
 use Rattle.cmm_tree.specs.View.{expr_view, params_view}
 use Rattle.cmm_tree.specs.declared.expr.Case.{Case}
@@ -56,62 +56,62 @@ typed-in s t e same typed =
     let P : LexicalScope → Type 0 = λ v. IsAnnotated (scoped_names v) e in
     subst P same typed
 
-pub row-end : (b end : ℕ) (rest others : List Expr) (e : Expr) → rest ≡ others ++ e ∷ [] → end ≡ b + width_row (row_of rest)
-    → end ≡ b + width_row (row_of others) + width (expr_view e) + 1
+pub row-end : (b end : ℕ) (rest others : List Expr) (e : Expr) → rest ≡ others ++ e ∷ [] → end ≡ b + width_row (expressions_of rest)
+    → end ≡ b + width_row (expressions_of others) + width (expr_view e) + 1
 row-end b end rest others e is at =
-    let all : width_row (row_of rest) ≡ width_row (row_of others) + suc (width (expr_view e)) =
-    ap (λ l. width_row (row_of l)) is ∙ width-last others e in
+    let all : width_row (expressions_of rest) ≡ width_row (expressions_of others) + suc (width (expr_view e)) =
+    ap (λ l. width_row (expressions_of l)) is ∙ width-last others e in
     omega (arith, at, all)
 
 pub dropped-code : (s t : LexicalScope) (b m k : ℕ) (rest others : List Expr) (e : Expr) (place : Place) (r : Reg) (old new : List Instr)
     → rest ≡ others ++ e ∷ []
     → t ≡ s
     → IsAnnotated (scoped_names t) e
-    → m ≡ b + width_row (row_of others)
-    → k ≡ suc (b + width_row (row_of others))
+    → m ≡ b + width_row (expressions_of others)
+    → k ≡ suc (b + width_row (expressions_of others))
     → r ≡ fresh_register m e.ty
     → place ≡ operand_place r k
     → new ≡ selected_code t place e old
-    → select_dropped s.names s.labels b (row_of others) new ≡ select_dropped s.names s.labels b (row_of rest) old
+    → select_dropped s.names s.labels b (expressions_of others) new ≡ select_dropped s.names s.labels b (expressions_of rest) old
 dropped-code s t b m k rest others e place r old new is ts typed number behind reg at made =
-    let n = b + width_row (row_of others) in
+    let n = b + width_row (expressions_of others) in
     let held : e.ty ≡ type_of (scoped_names s) (expr_view e) = typed.type ∙ ap (λ v. type_of (scoped_names v) (expr_view e)) ts in
     let own : r ≡ fresh_register n (type_of (scoped_names s) (expr_view e)) = reg ∙ ap (λ x. fresh_register x e.ty) number ∙ ap (fresh_register n) held in
-    ap (λ c. select_dropped s.names s.labels b (row_of others) c)
+    ap (λ c. select_dropped s.names s.labels b (expressions_of others) c)
     (made
     ∙ ap (λ x. selected_code x place e old) ts
     ∙ ap (λ p. selected_code s p e old) at
     ∙ ap (λ q. selected_code s (operand_place q k) e old) own
     ∙ ap (λ x. selected_code s (operand_place (fresh_register n (type_of (scoped_names s) (expr_view e))) x) e old) behind)
     ∙ sym (dropped-last s.names s.labels b others e old)
-    ∙ ap (λ l. select_dropped s.names s.labels b (row_of l) old) (sym is)
+    ∙ ap (λ l. select_dropped s.names s.labels b (expressions_of l) old) (sym is)
 
 pub seq-code : (s t : LexicalScope) (node : Node) (at first base : ℕ) (elements others : List Expr) (e : Expr) (place : Place) (old mid new : List Instr)
     → elements ≡ others ++ e ∷ []
     → t ≡ s
-    → node.ty ≡ type_of (scoped_names s) (Seq at (row_of elements))
+    → node.ty ≡ type_of (scoped_names s) (Seq at (expressions_of elements))
     → first ≡ suc node.place.base
-    → base ≡ suc (suc node.place.base + width_row (row_of others))
+    → base ≡ suc (suc node.place.base + width_row (expressions_of others))
     → place ≡ part_place node base
     → mid ≡ selected_code s place e old
-    → new ≡ select_dropped t.names t.labels first (row_of others) mid
-    → new ≡ node_code s node.place (Seq at (row_of elements)) old
+    → new ≡ select_dropped t.names t.labels first (expressions_of others) mid
+    → new ≡ node_code s node.place (Seq at (expressions_of elements)) old
 seq-code s t node at first base elements others e place old mid new is ts type one behind part made dropped =
     let v = node.place.valued in
     let d = node.place.dest in
     let b = node.place.base in
-    let n = suc (suc b + width_row (row_of others)) in
+    let n = suc (suc b + width_row (expressions_of others)) in
     dropped
-    ∙ ap (λ (x : LexicalScope). select_dropped x.names x.labels first (row_of others) mid) ts
-    ∙ ap (λ k. select_dropped s.names s.labels k (row_of others) mid) one
-    ∙ ap (λ c. select_dropped s.names s.labels (suc b) (row_of others) c)
+    ∙ ap (λ (x : LexicalScope). select_dropped x.names x.labels first (expressions_of others) mid) ts
+    ∙ ap (λ k. select_dropped s.names s.labels k (expressions_of others) mid) one
+    ∙ ap (λ c. select_dropped s.names s.labels (suc b) (expressions_of others) c)
     (made ∙ ap (λ p. selected_code s p e old) part ∙ ap (λ k. selected_code s (part_place node k) e old) behind)
     ∙ sym (seq-last s.names s.labels (inner_valued v node.ty) node.place.tail (inner_dest node.ty b d) (suc b) others e old)
-    ∙ ap (λ l. select_seq s.names s.labels (inner_valued v node.ty) node.place.tail (inner_dest node.ty b d) (suc b) (row_of l) old) (sym is)
-    ∙ ap (λ y. select_seq s.names s.labels (inner_valued v y) node.place.tail (inner_dest y b d) (suc b) (row_of elements) old) type
+    ∙ ap (λ l. select_seq s.names s.labels (inner_valued v node.ty) node.place.tail (inner_dest node.ty b d) (suc b) (expressions_of l) old) (sym is)
+    ∙ ap (λ y. select_seq s.names s.labels (inner_valued v y) node.place.tail (inner_dest y b d) (suc b) (expressions_of elements) old) type
 
-pub no-elements : (s : LexicalScope) (node : Node) (at : ℕ) (elements : List Expr) (old : List Instr) → elements ≡ [] → old ≡ node_code s node.place (Seq at (row_of elements)) old
-no-elements s node at elements old is = sym (ap (λ l. node_code s node.place (Seq at (row_of l)) old) is)
+pub no-elements : (s : LexicalScope) (node : Node) (at : ℕ) (elements : List Expr) (old : List Instr) → elements ≡ [] → old ≡ node_code s node.place (Seq at (expressions_of elements)) old
+no-elements s node at elements old is = sym (ap (λ l. node_code s node.place (Seq at (expressions_of l)) old) is)
 
 -- ---- cases
 

@@ -1,6 +1,6 @@
 -- The room of the parts of rows.
 use Rattle.std.proofs.Common.{◌≡◌, ℕ, zero, suc, ◌+◌, ◌<◌, ◌≤◌, Bool, true, false, List, [], ◌∷◌, ◌++◌, length, refl, ap, ◌∙◌, arith}
-use Rattle.cmm_tree.specs.Rows.{row_of, bindings_of, cases_of, handlers_of}
+use Rattle.cmm_tree.specs.Rows.{expressions_of, bindings_of, cases_of, handlers_of}
 use Rattle.cmm_tree.specs.View.{expr_view}
 use Rattle.cmm_tree.specs.declared.expr.Binding.{Binding}
 use Rattle.cmm_tree.specs.declared.expr.Case.{Case}
@@ -14,15 +14,15 @@ use Rattle.selection_scope.specs.Room.{indexes_in, indexes_in_row, indexes_in_bo
 
 -- ---- the last part of a row
 
-row-indexes-last : (xs : List Expr) (e : Expr) → indexes_in_row (row_of (xs ++ e ∷ [])) ≡ indexes_in_row (row_of xs) + indexes_in (expr_view e)
+row-indexes-last : (xs : List Expr) (e : Expr) → indexes_in_row (expressions_of (xs ++ e ∷ [])) ≡ indexes_in_row (expressions_of xs) + indexes_in (expr_view e)
 row-indexes-last [] e = omega arith
 row-indexes-last (x ∷ xs) e = let more = row-indexes-last xs e in omega (arith, more)
 
-pub row-room : (b : ℕ) (rest others : List Expr) (e : Expr) → rest ≡ others ++ e ∷ [] → b + (width_row (row_of rest) + indexes_in_row (row_of rest)) < most_numbers
-    → b + (width_row (row_of others) + suc (width (expr_view e)) + (indexes_in_row (row_of others) + indexes_in (expr_view e))) < most_numbers
+pub row-room : (b : ℕ) (rest others : List Expr) (e : Expr) → rest ≡ others ++ e ∷ [] → b + (width_row (expressions_of rest) + indexes_in_row (expressions_of rest)) < most_numbers
+    → b + (width_row (expressions_of others) + suc (width (expr_view e)) + (indexes_in_row (expressions_of others) + indexes_in (expr_view e))) < most_numbers
 row-room b rest others e is room =
-    let wide = ap (λ l. width_row (row_of l)) is ∙ width-last others e in
-    let many = ap (λ l. indexes_in_row (row_of l)) is ∙ row-indexes-last others e in
+    let wide = ap (λ l. width_row (expressions_of l)) is ∙ width-last others e in
+    let many = ap (λ l. indexes_in_row (expressions_of l)) is ∙ row-indexes-last others e in
     omega (arith, wide, many, room)
 
 bound-width-last : (xs : List Binding) (x : Binding) → width_bound (bindings_of (xs ++ x ∷ [])) ≡ width_bound (bindings_of xs) + suc (width (expr_view x.value))

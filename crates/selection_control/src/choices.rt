@@ -2,7 +2,7 @@
 ghost use Rattle.std.specs.Prelude.{◌≡◌, ℕ, ◌+◌, ◌<◌, ◌≤◌, ◌∷◌, [], false, length, map, List, Some, IfOk, OnOk};
 ghost use Rattle.bs_words.specs.declared.operators.IntOp.{IntOp};
 ghost use Rattle.cmm_meaning.specs.Choices.{is_named};
-ghost use Rattle.cmm_tree.specs.Rows.{row_of, cases_of};
+ghost use Rattle.cmm_tree.specs.Rows.{expressions_of, cases_of};
 ghost use Rattle.cmm_tree.specs.Tree.{Operator, Seq as Sequence, If, Switch};
 ghost use Rattle.cmm_tree.specs.View.{expr_view, index_view};
 ghost use Rattle.cmm_types.specs.Annotated.{IsAnnotated};
@@ -285,11 +285,11 @@ fn dropped<F: Fn(&mut Scope, &mut Backwards, Place, &Expr) -> Result<(), AllocEr
     requires selects { SelectsExpression (F.post below.now.select.now) below.now.first }
     requires tries { most_tries scope.old.labels ≤ below.now.first }
     requires begins { below.now.first ≤ number }
-    requires room { number + (width_row (row_of exprs.now) + indexes_in_row (row_of exprs.now))
+    requires room { number + (width_row (expressions_of exprs.now) + indexes_in_row (expressions_of exprs.now))
         < most_numbers }
     requires typed { AreAnnotated (scoped_names scope.old) exprs.now }
     ensures code { OnOk result (code.new ≡ select_dropped scope.old.names scope.old.labels number
-        (row_of exprs.now) code.old) }
+        (expressions_of exprs.now) code.old) }
     ensures scope { OnOk result (scope.new ≡ scope.old) }
 {
     let mut end = behind_row(number, exprs);
@@ -315,12 +315,12 @@ pub fn seq<F: Fn(&mut Scope, &mut Backwards, Place, &Expr) -> Result<(), AllocEr
     requires selects { SelectsExpression (F.post below.now.select.now) below.now.first }
     requires tries { most_tries scope.old.labels ≤ node.place.base }
     requires begins { below.now.first ≡ node.place.base + 1 }
-    requires room { HasExpressionRoom node.place.base (Sequence 0 (row_of elements.now)) }
+    requires room { HasExpressionRoom node.place.base (Sequence 0 (expressions_of elements.now)) }
     requires typed { AreAnnotated (scoped_names scope.old) elements.now }
-    requires ty { (at : ℕ) → node.ty ≡ type_of (scoped_names scope.old) (Sequence at (row_of
+    requires ty { (at : ℕ) → node.ty ≡ type_of (scoped_names scope.old) (Sequence at (expressions_of
         elements.now)) }
     ensures code { OnOk result ((at : ℕ) → code.new ≡ node_code scope.old node.place
-        (Sequence at (row_of elements.now)) code.old) }
+        (Sequence at (expressions_of elements.now)) code.old) }
     ensures scope { OnOk result (scope.new ≡ scope.old) }
 {
     let first = node.place.base + 1;

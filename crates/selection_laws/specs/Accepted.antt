@@ -55,7 +55,7 @@ abbrev mutual
       HaveCases body × HandlersHaveCases rest
 
 pub record Accepted (defined : List ℕ → Option DefinedSymbol) (f : FunctionTree) : Type 0 where
-  pub limits_kept : Faultless (limits.function_faults f)
+  pub limits_kept : Faultless (limits.function_limit_faults f)
   pub typed : Faultless (function_faults defined f)
   pub integers_fit : IntegersFit f.body
   pub have_cases : HaveCases f.body

@@ -6,7 +6,7 @@ use Rattle.bs_words.specs.declared.types.Comp.{Comp}
 use Rattle.bs_words.specs.declared.types.Ret.{Ret}
 use Rattle.bs_words.specs.declared.types.Ty.{Ty}
 use Rattle.bs_words.specs.declared.types.Ty.TheVariants as ty
-use Rattle.cmm_tree.specs.Rows.{row_of}
+use Rattle.cmm_tree.specs.Rows.{expressions_of}
 use Rattle.cmm_tree.specs.Tree.{LabelTree, App, Extcall, Exit, Alloc}
 use Rattle.cmm_tree.specs.View.{expr_view}
 use Rattle.cmm_tree.specs.declared.expr.Expr.{Expr}
@@ -29,17 +29,17 @@ use Rattle.selection_scope.specs.declared.place.Place.{Place}
 pub exit-is : (scope : LexicalScope) (place : Place) (label : LabelTree) (arguments : List Expr) (row base : ℕ) (regs : List Reg) (target : Option Label) (next left filled made : List Instr) (at label_at : ℕ)
     → row ≡ place.base + 1
     → base ≡ row + length arguments
-    → regs ≡ regs_of scope.names row (row_of arguments)
+    → regs ≡ regs_of scope.names row (expressions_of arguments)
     → target ≡ visible_label scope.labels label
     → left ≡ exit_to_handler target regs next
-    → filled ≡ select_filled scope.names scope.labels row base (row_of arguments) left
-    → made ≡ select_waiting scope.names scope.labels row base (row_of arguments) filled
-    → made ≡ node_code scope place (Exit at label_at label (row_of arguments)) next
+    → filled ≡ select_filled scope.names scope.labels row base (expressions_of arguments) left
+    → made ≡ select_waiting scope.names scope.labels row base (expressions_of arguments) filled
+    → made ≡ node_code scope place (Exit at label_at label (expressions_of arguments)) next
 exit-is scope place label arguments row base regs target next left filled made at label_at re be rs ta l f m =
     let env = scope.names in
     let labels = scope.labels in
     let b = place.base in
-    let es = row_of arguments in
+    let es = expressions_of arguments in
     let count : count_of es ≡ length arguments = count-row arguments in
     let row-is : row ≡ suc b = omega arith in
     let base-is : base ≡ suc b + count_of es = omega (arith, count) in
@@ -59,23 +59,23 @@ pub extcall-is : (scope : LexicalScope) (place : Place) (type : Ty) (frame : Boo
     → seated ≡ row + count
     → given ≡ seated + count
     → base ≡ given + 1
-    → regs ≡ regs_of scope.names row (row_of arguments)
+    → regs ≡ regs_of scope.names row (expressions_of arguments)
     → args ≡ seats 0 seated regs
-    → comps ≡ comps_of_arguments (scoped_names scope) (row_of arguments)
+    → comps ≡ comps_of_arguments (scoped_names scope) (expressions_of arguments)
     → results ≡ result_seat given result
-    → type ≡ type_of (scoped_names scope) (Extcall at frame name (row_of arguments) result result_at)
+    → type ≡ type_of (scoped_names scope) (Extcall at frame name (expressions_of arguments) result result_at)
     → d ≡ inner_dest type place.base place.dest
     → taken ≡ from_seat given result d next
     → called ≡ emit.external_instruction name comps result frame args results ∷ taken
     → moved ≡ moves_all regs args called
-    → filled ≡ select_filled scope.names scope.labels row base (row_of arguments) moved
-    → made ≡ select_waiting scope.names scope.labels row base (row_of arguments) filled
-    → made ≡ node_code scope place (Extcall at frame name (row_of arguments) result result_at) next
+    → filled ≡ select_filled scope.names scope.labels row base (expressions_of arguments) moved
+    → made ≡ select_waiting scope.names scope.labels row base (expressions_of arguments) filled
+    → made ≡ node_code scope place (Extcall at frame name (expressions_of arguments) result result_at) next
 extcall-is scope place type frame name arguments result row count seated given base regs args results comps d next taken called moved filled made at result_at re ce se ge be rs ar cs us te de t c v f m =
     let env = scope.names in
     let labels = scope.labels in
     let b = place.base in
-    let es = row_of arguments in
+    let es = expressions_of arguments in
     let size : count_of es ≡ length arguments = count-row arguments in
     let row-is : row ≡ suc b = omega arith in
     let seated-is : seated ≡ suc b + count_of es = omega (arith, size) in
@@ -112,23 +112,23 @@ pub app-is : (scope : LexicalScope) (place : Place) (type : Ty) (callee : Expr) 
     → light ≡ is_light_address (scoped_names scope) (expr_view callee)
     → called ≡ lacks (called_symbol (expr_view callee))
     → early ≡ not light && called
-    → regs ≡ regs_of scope.names row (row_of arguments)
+    → regs ≡ regs_of scope.names row (expressions_of arguments)
     → args ≡ seats 0 seated regs
-    → type ≡ type_of (scoped_names scope) (App at (expr_view callee) (row_of arguments) result result_at)
+    → type ≡ type_of (scoped_names scope) (App at (expr_view callee) (expressions_of arguments) result result_at)
     → wants ≡ inner_valued place.valued type
     → d ≡ inner_dest type place.base place.dest
     → left ≡ call_of place.tail wants result (called_symbol (expr_view callee)) f args given d next
     → moved ≡ moves_all regs args left
     → late ≡ only_when light (select scope.names scope.labels false false f base (expr_view callee)) moved
-    → filled ≡ select_filled scope.names scope.labels row inner (row_of arguments) late
+    → filled ≡ select_filled scope.names scope.labels row inner (expressions_of arguments) late
     → now ≡ only_when early (select scope.names scope.labels false false f base (expr_view callee)) filled
-    → made ≡ select_waiting scope.names scope.labels row inner (row_of arguments) now
-    → made ≡ node_code scope place (App at (expr_view callee) (row_of arguments) result result_at) next
+    → made ≡ select_waiting scope.names scope.labels row inner (expressions_of arguments) now
+    → made ≡ node_code scope place (App at (expr_view callee) (expressions_of arguments) result result_at) next
 app-is scope place type callee arguments result row count seated given base inner light called early wants f d regs args next left moved late filled now made at result_at re ce se ge be ie typed fe le ca ea rs ar te we de l v w fi n m =
     let env = scope.names in
     let labels = scope.labels in
     let b = place.base in
-    let es = row_of arguments in
+    let es = expressions_of arguments in
     let e = expr_view callee in
     let name = called_symbol e in
     let size : count_of es ≡ length arguments = count-row arguments in
@@ -183,23 +183,23 @@ pub alloc-is : (scope : LexicalScope) (place : Place) (type : Ty) (header : ℕ)
     → base ≡ row + cells
     → block ≡ fresh_register (row - 2) ty.Val
     → word ≡ fresh_register (row - 1) ty.Int
-    → regs ≡ regs_of scope.names row (row_of operands)
+    → regs ≡ regs_of scope.names row (expressions_of operands)
     → kind ≡ chunk_for (nat_le (header % 256) 250)
-    → type ≡ type_of (scoped_names scope) (Alloc at header_at header (row_of operands))
+    → type ≡ type_of (scoped_names scope) (Alloc at header_at header (expressions_of operands))
     → d ≡ inner_dest type place.base place.dest
     → moved ≡ emit.move block d ∷ next
     → stored ≡ cell_stores kind block 0 regs moved
-    → filled ≡ select_filled scope.names scope.labels row base (row_of operands) stored
+    → filled ≡ select_filled scope.names scope.labels row base (expressions_of operands) stored
     → headed ≡ emit.store chunk.Int header_offset block word ∷ filled
     → named ≡ emit.constant header word ∷ headed
     → made_block ≡ emit.alloc (record { header = header; cells = cells }) block ∷ named
-    → made ≡ select_waiting scope.names scope.labels row base (row_of operands) made_block
-    → made ≡ node_code scope place (Alloc at header_at header (row_of operands)) next
+    → made ≡ select_waiting scope.names scope.labels row base (expressions_of operands) made_block
+    → made ≡ node_code scope place (Alloc at header_at header (expressions_of operands)) next
 alloc-is scope place type header operands row cells base block word d regs kind next moved stored filled headed named made_block made at header_at re ce be bl wo rs ke te de mo so fi he na bo m =
     let env = scope.names in
     let labels = scope.labels in
     let b = place.base in
-    let es = row_of operands in
+    let es = expressions_of operands in
     let size : count_of es ≡ length operands = count-row operands in
     let row-is : row ≡ suc (suc (suc b)) = omega arith in
     let cells-is : cells ≡ count_of es = omega (arith, size) in

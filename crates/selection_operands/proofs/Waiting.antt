@@ -1,6 +1,6 @@
 -- Operands in a row, from the first on: each is put into its register at once, or waits.
 use Rattle.std.proofs.Common.{◌≡◌, ℕ, suc, ◌+◌, ◌-◌, ◌≤◌, ◌&&◌, Bool, true, false, not, List, [], ◌∷◌, Option, Some, None, length, get_or, take, drop, refl, ap, ◌∙◌, arith}
-use Rattle.cmm_tree.specs.Rows.{row_of}
+use Rattle.cmm_tree.specs.Rows.{expressions_of}
 use Rattle.cmm_tree.specs.View.{expr_view}
 use Rattle.cmm_tree.specs.declared.expr.Expr.{Expr}
 use Rattle.cmm_types.specs.Annotated.{IsAnnotated}
@@ -33,13 +33,13 @@ pub waiting-more : (scope : LexicalScope) (n b reg base : ℕ) (r : Reg) (light 
     → IsAnnotated (scoped_names scope) e
     → r ≡ fresh_register reg e.ty
     → made ≡ only_when needed (select scope.names scope.labels false false r base (expr_view e)) next
-    → select_waiting scope.names scope.labels n b (row_of rest) made ≡ select_waiting scope.names scope.labels reg base (row_of (e ∷ rest)) next
+    → select_waiting scope.names scope.labels n b (expressions_of rest) made ≡ select_waiting scope.names scope.labels reg base (expressions_of (e ∷ rest)) next
 waiting-more scope n b reg base r light needed e rest next made p q l w t f m =
     let env = scope.names in
     let labels = scope.labels in
-    ap (λ k. select_waiting env labels k b (row_of rest) made) p
-    ∙ ap (λ k. select_waiting env labels (suc reg) k (row_of rest) made) q
-    ∙ ap (select_waiting env labels (suc reg) (base + width (expr_view e)) (row_of rest)) (here-is scope reg base e r needed _ next made (w ∙ ap not l) t f m)
+    ap (λ k. select_waiting env labels k b (expressions_of rest) made) p
+    ∙ ap (λ k. select_waiting env labels (suc reg) k (expressions_of rest) made) q
+    ∙ ap (select_waiting env labels (suc reg) (base + width (expr_view e)) (expressions_of rest)) (here-is scope reg base e r needed _ next made (w ∙ ap not l) t f m)
 
 pub filled-more : (scope : LexicalScope) (n b reg base : ℕ) (r : Reg) (light : Bool) (e : Expr) (rest : List Expr) (next made : List Instr)
     → n ≡ suc reg
@@ -48,13 +48,13 @@ pub filled-more : (scope : LexicalScope) (n b reg base : ℕ) (r : Reg) (light :
     → IsAnnotated (scoped_names scope) e
     → r ≡ fresh_register reg e.ty
     → made ≡ only_when light (select scope.names scope.labels false false r base (expr_view e)) next
-    → select_filled scope.names scope.labels n b (row_of rest) made ≡ select_filled scope.names scope.labels reg base (row_of (e ∷ rest)) next
+    → select_filled scope.names scope.labels n b (expressions_of rest) made ≡ select_filled scope.names scope.labels reg base (expressions_of (e ∷ rest)) next
 filled-more scope n b reg base r light e rest next made p q l t f m =
     let env = scope.names in
     let labels = scope.labels in
-    ap (λ k. select_filled env labels k b (row_of rest) made) p
-    ∙ ap (λ k. select_filled env labels (suc reg) k (row_of rest) made) q
-    ∙ ap (select_filled env labels (suc reg) (base + width (expr_view e)) (row_of rest)) (here-is scope reg base e r light _ next made l t f m)
+    ap (λ k. select_filled env labels k b (expressions_of rest) made) p
+    ∙ ap (λ k. select_filled env labels (suc reg) k (expressions_of rest) made) q
+    ∙ ap (select_filled env labels (suc reg) (base + width (expr_view e)) (expressions_of rest)) (here-is scope reg base e r light _ next made l t f m)
 
 -- a callee that is no symbol and does not wait
 pub called-here : (light : Bool) (name : Option (List ℕ)) (c : Code) (n : List Instr) → only_when (not light && lacks name) c n ≡ only_when (not light) (unless_symbol name c) n

@@ -1,6 +1,6 @@
 //! Calls, exits and raises, with their operands.
 ghost use Rattle.std.specs.Prelude.{◌≡◌, ℕ, ◌+◌, ◌<◌, ◌≤◌, ◌∷◌, ◌&&◌, not, length, OnOk};
-ghost use Rattle.cmm_tree.specs.Rows.{row_of};
+ghost use Rattle.cmm_tree.specs.Rows.{expressions_of};
 ghost use Rattle.cmm_tree.specs.Tree.{App, Extcall, Exit, Raise};
 ghost use Rattle.cmm_tree.specs.View.{expr_view, label_view};
 ghost use Rattle.cmm_types.specs.Annotated.{IsAnnotated};
@@ -90,7 +90,7 @@ fn put_call(
     requires typed { AreAnnotated (scoped_names scope.now) arguments.now }
     requires row { numbers.row + length arguments.now < most_numbers }
     requires seats { numbers.seated + length arguments.now < most_numbers }
-    ensures { OnOk result (code.new ≡ seated_code scope.now numbers (row_of arguments.now)
+    ensures { OnOk result (code.new ≡ seated_code scope.now numbers (expressions_of arguments.now)
         (λ args. call_of call.tail call.valued call.written (symbol_in (expr_view
         callee.now)) call.register args call.given call.dest code.old)) }
 {
@@ -117,13 +117,13 @@ pub fn app<F: Fn(&mut Scope, &mut Backwards, Place, &Expr) -> Result<(), AllocEr
     requires tries { most_tries scope.old.labels ≤ node.place.base }
     requires begins { below.now.first ≡ node.place.base + 1 }
     requires room { HasExpressionRoom node.place.base
-        (App 0 (expr_view callee.now) (row_of arguments.now) written 0) }
+        (App 0 (expr_view callee.now) (expressions_of arguments.now) written 0) }
     requires callee_typed { IsAnnotated (scoped_names scope.old) callee.now }
     requires typed { AreAnnotated (scoped_names scope.old) arguments.now }
     requires ty { (at result_at : ℕ) → node.ty ≡ type_of (scoped_names scope.old) (App at (expr_view
-        callee.now) (row_of arguments.now) written result_at) }
+        callee.now) (expressions_of arguments.now) written result_at) }
     ensures code { OnOk result ((at result_at : ℕ) → code.new ≡ node_code scope.old node.place
-        (App at (expr_view callee.now) (row_of arguments.now) written result_at) code.old) }
+        (App at (expr_view callee.now) (expressions_of arguments.now) written result_at) code.old) }
     ensures scope { OnOk result (scope.new ≡ scope.old) }
 {
     let row = node.place.base + 2;
@@ -170,7 +170,7 @@ fn call_outside(
 ) -> Result<(), AllocError>
     requires { AreAnnotated (scoped_names scope.now) arguments.now }
     ensures { OnOk result (code.new ≡ emit.external_instruction outside.entry.name.now (comps_of_arguments
-        (scoped_names scope.now) (row_of arguments.now)) outside.entry.result outside.entry.frame
+        (scoped_names scope.now) (expressions_of arguments.now)) outside.entry.result outside.entry.frame
         args.now (result_seat given outside.entry.result) ∷ code.old) }
 {
     let comps = comps_of_arguments(scope, arguments)?;
@@ -196,9 +196,9 @@ fn put_external(
     requires typed { AreAnnotated (scoped_names scope.now) arguments.now }
     requires row { numbers.row + length arguments.now < most_numbers }
     requires seats { numbers.seated + length arguments.now < most_numbers }
-    ensures { OnOk result (code.new ≡ seated_code scope.now numbers (row_of arguments.now)
+    ensures { OnOk result (code.new ≡ seated_code scope.now numbers (expressions_of arguments.now)
         (λ args. emit.external_instruction outside.entry.name.now (comps_of_arguments
-        (scoped_names scope.now) (row_of arguments.now)) outside.entry.result outside.entry.frame
+        (scoped_names scope.now) (expressions_of arguments.now)) outside.entry.result outside.entry.frame
         args (result_seat numbers.given outside.entry.result) ∷ code.old)) }
 {
     let regs = regs_of(scope, numbers.row, arguments)?;
@@ -222,13 +222,13 @@ pub fn extcall<F: Fn(&mut Scope, &mut Backwards, Place, &Expr) -> Result<(), All
     requires tries { most_tries scope.old.labels ≤ node.place.base }
     requires begins { below.now.first ≡ node.place.base + 1 }
     requires room { HasExpressionRoom node.place.base (Extcall 0 outside.frame outside.name.now
-        (row_of arguments.now) outside.result 0) }
+        (expressions_of arguments.now) outside.result 0) }
     requires typed { AreAnnotated (scoped_names scope.old) arguments.now }
     requires ty { (at result_at : ℕ) → node.ty ≡ type_of (scoped_names scope.old) (Extcall at
-        outside.frame outside.name.now (row_of arguments.now)
+        outside.frame outside.name.now (expressions_of arguments.now)
         outside.result result_at) }
     ensures code { OnOk result ((at result_at : ℕ) → code.new ≡ node_code scope.old node.place
-        (Extcall at outside.entry.frame outside.entry.name.now (row_of arguments.now)
+        (Extcall at outside.entry.frame outside.entry.name.now (expressions_of arguments.now)
         outside.entry.result result_at) code.old) }
     ensures scope { OnOk result (scope.new ≡ scope.old) }
 {
@@ -252,7 +252,7 @@ fn put_exit(
     requires typed { AreAnnotated (scoped_names scope.now) arguments.now }
     requires room { row + length arguments.now < most_numbers }
     ensures { OnOk result (code.new ≡ exit_to_handler (visible_label scope.now.labels (label_view label.now))
-        (regs_of scope.now.names row (row_of arguments.now)) code.old) }
+        (regs_of scope.now.names row (expressions_of arguments.now)) code.old) }
 {
     let regs = regs_of(scope, row, arguments)?;
     code.exit_to(scope.target_of(label), &regs)
@@ -273,12 +273,12 @@ pub fn exit<F: Fn(&mut Scope, &mut Backwards, Place, &Expr) -> Result<(), AllocE
     requires tries { most_tries scope.old.labels ≤ node.place.base }
     requires begins { below.now.first ≡ node.place.base + 1 }
     requires room { HasExpressionRoom node.place.base
-        (Exit 0 0 (label_view label.now) (row_of arguments.now)) }
+        (Exit 0 0 (label_view label.now) (expressions_of arguments.now)) }
     requires typed { AreAnnotated (scoped_names scope.old) arguments.now }
     requires ty { (at label_at : ℕ) → node.ty ≡ type_of (scoped_names scope.old) (Exit at label_at
-        (label_view label.now) (row_of arguments.now)) }
+        (label_view label.now) (expressions_of arguments.now)) }
     ensures code { OnOk result ((at label_at : ℕ) → code.new ≡ node_code scope.old node.place
-        (Exit at label_at (label_view label.now) (row_of arguments.now)) code.old) }
+        (Exit at label_at (label_view label.now) (expressions_of arguments.now)) code.old) }
     ensures scope { OnOk result (scope.new ≡ scope.old) }
 {
     let row = node.place.base + 1;

@@ -1,6 +1,6 @@
 //! Accesses of memory, and new blocks.
 ghost use Rattle.std.specs.Prelude.{◌≡◌, ℕ, ◌+◌, ◌<◌, ◌≤◌, ◌%◌, nat_le, List, length, OnOk};
-ghost use Rattle.cmm_tree.specs.Rows.{row_of};
+ghost use Rattle.cmm_tree.specs.Rows.{expressions_of};
 ghost use Rattle.cmm_tree.specs.Tree.{Load, Store, Alloc, Checkbound};
 ghost use Rattle.cmm_tree.specs.View.{expr_view};
 ghost use Rattle.cmm_types.specs.Annotated.{IsAnnotated};
@@ -202,7 +202,7 @@ fn put_cells(
     requires typed { AreAnnotated (scoped_names scope.now) operands.now }
     requires room { row + length operands.now < most_numbers }
     ensures { OnOk result (code.new ≡ cell_stores (chunk_for (nat_le (header % 256) 250)) block 0
-        (regs_of scope.now.names row (row_of operands.now)) code.old) }
+        (regs_of scope.now.names row (expressions_of operands.now)) code.old) }
 {
     let regs = regs_of(scope, row, operands)?;
     code.cell_stores(chunk_of_cells(header), block, &regs)
@@ -223,12 +223,12 @@ pub fn alloc<F: Fn(&mut Scope, &mut Backwards, Place, &Expr) -> Result<(), Alloc
     requires selects { SelectsExpression (F.post below.now.select.now) below.now.first }
     requires tries { most_tries scope.old.labels ≤ node.place.base }
     requires begins { below.now.first ≡ node.place.base + 1 }
-    requires room { HasExpressionRoom node.place.base (Alloc 0 0 header (row_of operands.now)) }
+    requires room { HasExpressionRoom node.place.base (Alloc 0 0 header (expressions_of operands.now)) }
     requires typed { AreAnnotated (scoped_names scope.old) operands.now }
     requires ty { (at header_at : ℕ) → node.ty ≡ type_of (scoped_names scope.old) (Alloc at header_at
-        header (row_of operands.now)) }
+        header (expressions_of operands.now)) }
     ensures code { OnOk result ((at header_at : ℕ) → code.new ≡ node_code scope.old node.place
-        (Alloc at header_at header (row_of operands.now)) code.old) }
+        (Alloc at header_at header (expressions_of operands.now)) code.old) }
     ensures scope { OnOk result (scope.new ≡ scope.old) }
 {
     let row = node.place.base + 3;

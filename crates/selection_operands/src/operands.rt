@@ -1,6 +1,6 @@
 //! Operands: the order of their code, and those that need none.
 ghost use Rattle.std.specs.Prelude.{◌≡◌, ◌+◌, ◌<◌, ◌≤◌, length, OnOk};
-ghost use Rattle.cmm_tree.specs.Rows.{row_of};
+ghost use Rattle.cmm_tree.specs.Rows.{expressions_of};
 ghost use Rattle.cmm_tree.specs.View.{expr_view};
 ghost use Rattle.cmm_types.specs.Annotated.{IsAnnotated};
 ghost use Rattle.cmm_types.specs.Lists.{AreAnnotated};
@@ -131,11 +131,11 @@ pub fn waiting<F: Fn(&mut Scope, &mut Backwards, Place, &Expr) -> Result<(), All
     requires tries { most_tries scope.old.labels ≤ below.now.first }
     requires begins { below.now.first ≤ first }
     requires numbers { number + length exprs.now < most_numbers }
-    requires room { first + (width_row (row_of exprs.now) + indexes_in_row (row_of exprs.now))
+    requires room { first + (width_row (expressions_of exprs.now) + indexes_in_row (expressions_of exprs.now))
         < most_numbers + length exprs.now }
     requires typed { AreAnnotated (scoped_names scope.old) exprs.now }
     ensures code { OnOk result (code.new ≡ select_waiting scope.old.names scope.old.labels
-        number first (row_of exprs.now) code.old) }
+        number first (expressions_of exprs.now) code.old) }
     ensures scope { OnOk result (scope.new ≡ scope.old) }
 {
     let mut reg = number;
@@ -171,11 +171,11 @@ pub fn filled<F: Fn(&mut Scope, &mut Backwards, Place, &Expr) -> Result<(), Allo
     requires tries { most_tries scope.old.labels ≤ below.now.first }
     requires begins { below.now.first ≤ first }
     requires numbers { number + length exprs.now < most_numbers }
-    requires room { first + (width_row (row_of exprs.now) + indexes_in_row (row_of exprs.now))
+    requires room { first + (width_row (expressions_of exprs.now) + indexes_in_row (expressions_of exprs.now))
         < most_numbers + length exprs.now }
     requires typed { AreAnnotated (scoped_names scope.old) exprs.now }
     ensures code { OnOk result (code.new ≡ select_filled scope.old.names scope.old.labels
-        number first (row_of exprs.now) code.old) }
+        number first (expressions_of exprs.now) code.old) }
     ensures scope { OnOk result (scope.new ≡ scope.old) }
 {
     let mut reg = number;

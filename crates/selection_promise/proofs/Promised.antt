@@ -25,7 +25,7 @@ use Rattle.selection_promise.proofs.Played.{plays_as}
 
 -- ---- limits
 
-pub few_tokens : (f : FunctionTree) → Faultless (limits.function_faults f) → f.tokens ≤ 32000
+pub few_tokens : (f : FunctionTree) → Faultless (limits.function_limit_faults f) → f.tokens ≤ 32000
 few_tokens f none = leb-true f.tokens 32000 (holds_if (nat_le f.tokens most_tokens) _ (left (right none)))
 
 -- ---- parameters

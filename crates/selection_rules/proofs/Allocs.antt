@@ -5,7 +5,7 @@ use Rattle.std.proofs.lemmas.Bool.{true≢false, eq-eqb, eqb-true, le-leb}
 use Rattle.std.proofs.lemmas.List.{append-nil, length-append}
 use Rattle.std.proofs.Math.Seq.{get_or-append_seam, set-append_seam}
 use Rattle.bs_words.specs.Fits.{fits, misfit}
-use Rattle.bs_words.specs.Memory.{Memory, HeapBlock, Cell, InHeader, InBlock, sizes, cell_at, cell_of_block, in_block, stored, stored_in, put_whole, put_in, with_value, type_in, type_of_cells, offset_in_cell, end_of_data, all_fit, allocated, next_block}
+use Rattle.bs_words.specs.Memory.{Memory, HeapBlock, Cell, InHeader, InBlock, sizes, cell_at, cell_of_block, in_block, stored, stored_in, put_whole, put_in, with_cell_value, type_in, type_of_cells, offset_in_cell, end_of_data, all_fit, allocated, next_block}
 use Rattle.bs_words.specs.declared.types.Chunk.{Chunk}
 use Rattle.bs_words.specs.declared.types.Ty.{Ty}
 use Rattle.bs_words.specs.declared.values.Value.{Value}
@@ -113,7 +113,7 @@ module _ (m0 : Memory) (header : ℕ) where
       ∙ ap (λ b. cond b (Some (cell_of_block s ((8 * i + 8) / 8))) None) (le-leb (8 * i + 8 + 8) (8 * (n + 1)) e4)
       ∙ ap (λ j. Some (cell_of_block s j)) e5
 
-  with_is : (done zs : List Value) (v : Value) → with_value (mem (done ++ Word 0 ∷ zs)) (InBlock s (length done)) v ≡ mem (done ++ v ∷ zs)
+  with_is : (done zs : List Value) (v : Value) → with_cell_value (mem (done ++ Word 0 ∷ zs)) (InBlock s (length done)) v ≡ mem (done ++ v ∷ zs)
   with_is done zs v =
       let cells = done ++ Word 0 ∷ zs in
       ap (λ (b : HeapBlock). record m0 { blocks = slice_set (mem cells).blocks s (record { header = b.header; cells = slice_set b.cells (length done) v }) }) (block_is cells)
@@ -133,8 +133,8 @@ module _ (m0 : Memory) (header : ℕ) where
         ∙ ap (λ o. stored_in k (mem cells) (offset_in_cell (Block s (8 * i))) o v) (cell_is cells i less small)
         ∙ whole (mem cells) (offset_in_cell (Block s (8 * i))) i v
         ∙ ap (λ b. cond b (put_in end (mem cells) (InBlock s i) v) (Err (misfit T))) fv
-        ∙ ap (λ (U : Ty). cond (fits end U v) (Ok (with_value (mem cells) (InBlock s i) v)) (Err (misfit U))) type_is
-        ∙ ap (λ b. cond b (Ok (with_value (mem cells) (InBlock s i) v)) (Err (misfit T))) fv
+        ∙ ap (λ (U : Ty). cond (fits end U v) (Ok (with_cell_value (mem cells) (InBlock s i) v)) (Err (misfit U))) type_is
+        ∙ ap (λ b. cond b (Ok (with_cell_value (mem cells) (InBlock s i) v)) (Err (misfit T))) fv
         ∙ ap Ok (with_is done zs v)
 
     module _ (c : ActivationSetting) (m : Mach) (turns : ℕ) (ts : List ℕ) (x : Does) (next : List Instr) (f : File) (p : Reg) (its : Holds p (Block s 0) f) where

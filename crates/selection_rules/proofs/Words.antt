@@ -5,7 +5,7 @@ use Rattle.std.proofs.lemmas.Nat.{and_le_l, and_le_r, or_lt, xor_lt, mod_below}
 use Rattle.std.proofs.Math.Pow.{pow_pos, pow_mono}
 use Rattle.std.proofs.lemmas.Bool.{eqb-true}
 use Rattle.bs_words.specs.Fits.{fits, misfit}
-use Rattle.bs_words.specs.Memory.{Memory, HeapBlock, StaticList, Cell, InHeader, InBlock, InStatic, width, cell_at, offset_in_cell, value_in, type_in, with_value, part, of_type, loaded_as, loaded_from, loaded, put_in, replaced, put_part, put_whole, stored_as, stored_in, stored, end_of_data}
+use Rattle.bs_words.specs.Memory.{Memory, HeapBlock, StaticList, Cell, InHeader, InBlock, InStatic, width, cell_at, offset_in_cell, value_in_cell, type_in, with_cell_value, part, value_of_type, loaded_as, loaded_from, loaded, put_in, replaced, put_part, put_whole, stored_as, stored_in, stored, end_of_data}
 use Rattle.bs_words.specs.Operators.{apply, only_if, on_words, sum_of, difference_of, quotient_of, shift_of, masked_offset, bits_in_both, truth, order_of, as_value, equality_of, comparison_of, signed_holds, unsigned_holds}
 use Rattle.bs_words.specs.Word.{sub_word, mul_word, mulh_word, div_word, rem_word, shl_word, shr_word, sar_word}
 use Rattle.bs_words.specs.declared.operators.CmpOp.{CmpOp}
@@ -132,7 +132,7 @@ apply_bounded (CmpU op) s v w p q = comparison_bounded unsigned_holds op s v w
 
 -- ---- loads
 
-of_type_bounded : (end : ℕ) (T : Ty) (v : Value) → Bounded v → BoundedResult (of_type end T v)
+of_type_bounded : (end : ℕ) (T : Ty) (v : Value) → Bounded v → BoundedResult (value_of_type end T v)
 of_type_bounded end T v p = cond_result (fits end T v) (Ok v) (Err (misfit T)) p tt
 
 part_bounded : (w o n : ℕ) → n ≤ 8 → part w o n < 2 ^ 64
@@ -165,7 +165,7 @@ loaded_as_bounded chunk.I32 end o (Function f) p = tt
 
 loaded_from_bounded : (c : Chunk) (m : Memory) (o : ℕ) (cell : Option Cell) → BoundedMemory m → BoundedResult (loaded_from c m o cell)
 loaded_from_bounded c m o None b = tt
-loaded_from_bounded c m o (Some cell) b = loaded_as_bounded c (end_of_data m) o (value_in m cell) (b.each cell)
+loaded_from_bounded c m o (Some cell) b = loaded_as_bounded c (end_of_data m) o (value_in_cell m cell) (b.each cell)
 
 pub loaded_bounded : (c : Chunk) (m : Memory) (address : Value) → BoundedMemory m → BoundedResult (loaded c m address)
 loaded_bounded c m address b = loaded_from_bounded c m (offset_in_cell address) (cell_at m (width c) address) b
@@ -202,12 +202,12 @@ lists_of b l = record { cells = λ i. b.each (InStatic l i) }
 memory_of : {m : Memory} → ((s : ℕ) → BoundedBlock (slice_index_or m.blocks s no_block)) → ((l : ℕ) → BoundedList (slice_index_or m.statics l no_list)) → BoundedMemory m
 memory_of {m} blocks lists = record { each = each }
   where
-    each : (cell : Cell) → Bounded (value_in m cell)
+    each : (cell : Cell) → Bounded (value_in_cell m cell)
     each (InHeader s) = (blocks s).header
     each (InBlock s i) = (blocks s).cells i
     each (InStatic l i) = (lists l).cells i
 
-with_value_bounded : (m : Memory) (cell : Cell) (v : Value) → Bounded v → BoundedMemory m → BoundedMemory (with_value m cell v)
+with_value_bounded : (m : Memory) (cell : Cell) (v : Value) → Bounded v → BoundedMemory m → BoundedMemory (with_cell_value m cell v)
 with_value_bounded m (InHeader s) v p b = b
 with_value_bounded m (InBlock s i) v p b =
     let old : HeapBlock = slice_index_or m.blocks s no_block in
@@ -278,12 +278,12 @@ put_part_bounded end m cell o n (Function f) v fits' p b = no_after
 stored_as_bounded : (c : Chunk) (end : ℕ) (m : Memory) (cell : Cell) (o : ℕ) (v : Value) → o < 8 → o % width c ≡ 0 → Bounded v → BoundedMemory m → BoundedAfter (stored_as c end m cell o v)
 stored_as_bounded chunk.Int end m cell o v less even p b = put_whole_bounded ty.Int end m cell v p b
 stored_as_bounded chunk.Val end m cell o v less even p b = put_whole_bounded ty.Val end m cell v p b
-stored_as_bounded chunk.U8 end m cell o v less even p b = put_part_bounded end m cell o 1 (value_in m cell) v (λ w u small. replaced_one o w u less small) (b.each cell) b
-stored_as_bounded chunk.I8 end m cell o v less even p b = put_part_bounded end m cell o 1 (value_in m cell) v (λ w u small. replaced_one o w u less small) (b.each cell) b
-stored_as_bounded chunk.U16 end m cell o v less even p b = put_part_bounded end m cell o 2 (value_in m cell) v (λ w u small. replaced_two o w u less even small) (b.each cell) b
-stored_as_bounded chunk.I16 end m cell o v less even p b = put_part_bounded end m cell o 2 (value_in m cell) v (λ w u small. replaced_two o w u less even small) (b.each cell) b
-stored_as_bounded chunk.U32 end m cell o v less even p b = put_part_bounded end m cell o 4 (value_in m cell) v (λ w u small. replaced_four o w u less even small) (b.each cell) b
-stored_as_bounded chunk.I32 end m cell o v less even p b = put_part_bounded end m cell o 4 (value_in m cell) v (λ w u small. replaced_four o w u less even small) (b.each cell) b
+stored_as_bounded chunk.U8 end m cell o v less even p b = put_part_bounded end m cell o 1 (value_in_cell m cell) v (λ w u small. replaced_one o w u less small) (b.each cell) b
+stored_as_bounded chunk.I8 end m cell o v less even p b = put_part_bounded end m cell o 1 (value_in_cell m cell) v (λ w u small. replaced_one o w u less small) (b.each cell) b
+stored_as_bounded chunk.U16 end m cell o v less even p b = put_part_bounded end m cell o 2 (value_in_cell m cell) v (λ w u small. replaced_two o w u less even small) (b.each cell) b
+stored_as_bounded chunk.I16 end m cell o v less even p b = put_part_bounded end m cell o 2 (value_in_cell m cell) v (λ w u small. replaced_two o w u less even small) (b.each cell) b
+stored_as_bounded chunk.U32 end m cell o v less even p b = put_part_bounded end m cell o 4 (value_in_cell m cell) v (λ w u small. replaced_four o w u less even small) (b.each cell) b
+stored_as_bounded chunk.I32 end m cell o v less even p b = put_part_bounded end m cell o 4 (value_in_cell m cell) v (λ w u small. replaced_four o w u less even small) (b.each cell) b
 
 -- an access is at a multiple of its bytes
 data Aligned (o n : ℕ) : Option Cell → Type 0 where

@@ -2,7 +2,7 @@
 -- power of two is its shifts for words alone. So runs are looked at in which each number is a word:
 -- what is handed in, what registers and memory hold, and what is asked for and given.
 use Rattle.std.specs.Prelude.{◌≡◌, ℕ, ◌<◌, ◌^◌, List, [], ◌∷◌, Option, Some, None, Result, Ok, Err}
-use Rattle.bs_words.specs.Memory.{Memory, Cell, value_in}
+use Rattle.bs_words.specs.Memory.{Memory, Cell, value_in_cell}
 use Rattle.bs_words.specs.declared.values.Kind.{Kind}
 use Rattle.bs_words.specs.declared.values.Value.{Value}
 use Rattle.bs_words.specs.declared.values.Value.TheVariants as value
@@ -39,7 +39,7 @@ MaybeBounded (Some v) = Bounded v
 -- ---- states
 
 pub record BoundedMemory (m : Memory) : Type 0 where
-  pub each : (cell : Cell) → Bounded (value_in m cell)
+  pub each : (cell : Cell) → Bounded (value_in_cell m cell)
 
 pub record BoundedFile (f : File) : Type 0 where
   pub each : (n : ℕ) (h : Held) → f n ≡ Some h → Bounded h.value

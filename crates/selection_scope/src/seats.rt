@@ -1,7 +1,7 @@
 //! Registers in rows: operands, parameters, and the seats that the convention of calls gives them.
 ghost use Rattle.std.specs.Prelude.{◌≡◌, ◌+◌, ◌<◌, length, slice_index_or, IfOk};
 ghost use Rattle.bs_words.specs.declared.types.Loc.TheVariants as loc;
-ghost use Rattle.cmm_tree.specs.Rows.{row_of};
+ghost use Rattle.cmm_tree.specs.Rows.{expressions_of};
 ghost use Rattle.cmm_types.specs.Lists.{AreAnnotated};
 ghost use Rattle.cmm_meaning.specs.Evaluation.{comps_of_arguments};
 ghost use Rattle.mach_ir.specs.Placed.{colour_numbers};
@@ -79,7 +79,7 @@ pub fn result_seat(alloc: Global, number: u32, given: Ret) -> Result<Regs, Alloc
 pub fn regs_of(scope: &Scope, number: u32, exprs: &[Expr]) -> Result<Regs, AllocError>
     requires typed { AreAnnotated (scoped_names scope.now) exprs.now }
     requires room { number + length exprs.now < most_numbers }
-    ensures { IfOk result (λ made. made ≡ regs_of scope.now.names number (row_of exprs.now)) }
+    ensures { IfOk result (λ made. made ≡ regs_of scope.now.names number (expressions_of exprs.now)) }
 {
     let mut made = Regs::new(scope.alloc());
     let mut next = number;
@@ -96,7 +96,7 @@ pub fn regs_of(scope: &Scope, number: u32, exprs: &[Expr]) -> Result<Regs, Alloc
 pub fn comps_of_arguments(scope: &Scope, exprs: &[Expr]) -> Result<Seq<Comp>, AllocError>
     requires { AreAnnotated (scoped_names scope.now) exprs.now }
     ensures { IfOk result (λ comps. comps ≡ comps_of_arguments (scoped_names scope.now)
-        (row_of exprs.now)) }
+        (expressions_of exprs.now)) }
 {
     let mut comps = Vec::new(scope.alloc());
     let mut rest = exprs;

@@ -1,6 +1,6 @@
 //! How many numbers of registers and labels an expression takes.
 ghost use Rattle.std.specs.Prelude.{◌≡◌, ◌+◌, ◌<◌};
-ghost use Rattle.cmm_tree.specs.Rows.{row_of, bindings_of, cases_of, handlers_of};
+ghost use Rattle.cmm_tree.specs.Rows.{expressions_of, bindings_of, cases_of, handlers_of};
 ghost use Rattle.cmm_tree.specs.View.{expr_view};
 ghost use Rattle.selection_rules.specs.Select.{width, width_row, width_bound, width_cases, width_handlers, width_labels};
 ghost use Rattle.selection_scope.specs.Room.{most_numbers};
@@ -90,7 +90,7 @@ fn with_expr(so_far: u32, expr: &Expr) -> u32
 
 #[cycle(width)]
 fn with_row(so_far: u32, exprs: &[Expr]) -> u32
-    ensures { result ≡ capped (so_far + width_row (row_of exprs.now)) }
+    ensures { result ≡ capped (so_far + width_row (expressions_of exprs.now)) }
 {
     let mut total = so_far;
     for expr in exprs {
@@ -155,8 +155,8 @@ pub fn behind(base: u32, expr: &Expr) -> u32
 
 /// The number after those of a row of operands.
 pub fn behind_row(base: u32, exprs: &[Expr]) -> u32
-    requires { base + width_row (row_of exprs.now) < most_numbers }
-    ensures { result ≡ base + width_row (row_of exprs.now) }
+    requires { base + width_row (expressions_of exprs.now) < most_numbers }
+    ensures { result ≡ base + width_row (expressions_of exprs.now) }
 {
     with_row(base, exprs)
 }

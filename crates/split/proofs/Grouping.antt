@@ -16,35 +16,35 @@ use Rattle.split_rules.specs.Order.{write_of, open_writes, code_writes, writes_o
 use Rattle.split_rules.specs.Split.{split_size}
 use Rattle.bs_words.proofs.Lists.{none_in, first_in, later_in, in_cons, pushed_kept, pushed_here, pushed_cases}
 use Rattle.split.specs.Writes.{members_in, HasOnlyNewMember, AreRising, ends, rises, IsGrouped}
-use Rattle.split.specs.declared.writes.Group as group
+use Rattle.split.specs.declared.writes.WriteGroup as group
 use Rattle.split_rules.specs.declared.writes.Write.{Write}
 use Rattle.split.proofs.Members.{open_write}
 use Rattle.mach_ir.specs.Places.{is_unset_location}
 
-members_same : (gs : List group.Group) (k : ℕ) (g : group.Group) → k < length gs → members_in (set gs k g) k ≡ g.members.items
+members_same : (gs : List group.WriteGroup) (k : ℕ) (g : group.WriteGroup) → k < length gs → members_in (set gs k g) k ≡ g.members.items
 members_same gs k g within =
-    let f : group.Group → List ℕ = λ x. x.members.items in
+    let f : group.WriteGroup → List ℕ = λ x. x.members.items in
     let w : k < length (map f gs) = omega (arith, length-map gs f, within) in
     ap (λ (l : List (List ℕ)). get_or l k []) (map-set f gs k g) ∙ get_or-set_same (map f gs) k (f g) [] w
 
-members_other : (gs : List group.Group) (k j : ℕ) (g : group.Group) → j ≢ k → members_in (set gs k g) j ≡ members_in gs j
+members_other : (gs : List group.WriteGroup) (k j : ℕ) (g : group.WriteGroup) → j ≢ k → members_in (set gs k g) j ≡ members_in gs j
 members_other gs k j g ne =
-    let f : group.Group → List ℕ = λ x. x.members.items in
+    let f : group.WriteGroup → List ℕ = λ x. x.members.items in
     ap (λ (l : List (List ℕ)). get_or l j []) (map-set f gs k g) ∙ get_or-set_other (map f gs) k j (f g) [] ne
 
-members_read : (gs : List group.Group) (k : ℕ) (g : group.Group) → k < length gs → g ≡ get_or gs k g → members_in gs k ≡ g.members.items
+members_read : (gs : List group.WriteGroup) (k : ℕ) (g : group.WriteGroup) → k < length gs → g ≡ get_or gs k g → members_in gs k ≡ g.members.items
 members_read gs k g within read =
-    let f : group.Group → List ℕ = λ x. x.members.items in
+    let f : group.WriteGroup → List ℕ = λ x. x.members.items in
     get_or-map f gs k g [] within ∙ ap f (sym read)
 
-pub has_member : (old new : List group.Group) (k member : ℕ) (g g' : group.Group) → k < length old → g ≡ get_or old k g →
+pub has_member : (old new : List group.WriteGroup) (k member : ℕ) (g g' : group.WriteGroup) → k < length old → g ≡ get_or old k g →
     g'.members.items ≡ g.members.items ++ member ∷ [] → new ≡ set old k g' → HasOnlyNewMember old new k member
 has_member old new k member g g' within read more is =
     record {
       len = ap length is ∙ length-set old k g';
-      here = ap (λ (l : List group.Group). members_in l k) is
+      here = ap (λ (l : List group.WriteGroup). members_in l k) is
           ∙ (members_same old k g' within ∙ (more ∙ ap (λ (l : List ℕ). l ++ member ∷ []) (sym (members_read old k g within read))));
-      others = λ j ne. ap (λ (l : List group.Group). members_in l j) is ∙ members_other old k j g' ne;
+      others = λ j ne. ap (λ (l : List group.WriteGroup). members_in l j) is ∙ members_other old k j g' ne;
     }
 
 -- ---- one write more
@@ -58,7 +58,7 @@ rising_more (u ∷ ws) w (rises low r) above =
     (Contains-append_cases ws (w ∷ []) v c))
     (rising_more ws w r (λ v c. above v (later_in u v ws c)))
 
-module _ (writes : List Write) (free : ℕ) (old new : List group.Group) (x : Write) (w : ℕ) (end : w ≡ length writes)
+module _ (writes : List Write) (free : ℕ) (old new : List group.WriteGroup) (x : Write) (w : ℕ) (end : w ≡ length writes)
     (has : HasOnlyNewMember old new x.number w) where
   in_group : (n v : ℕ) → Contains (members_in new n) v → Contains (members_in old n) v ⊎ ((n ≡ x.number) × (w ≡ v))
   in_group n v c =
@@ -113,7 +113,7 @@ module _ (writes : List Write) (free : ℕ) (old new : List group.Group) (x : Wr
         rising = rising_in g;
       }
 
-pub grouped_more : (writes : List Write) (free k w : ℕ) (old new : List group.Group) (d : Write) → k < length writes → w ≡ k →
+pub grouped_more : (writes : List Write) (free k w : ℕ) (old new : List group.WriteGroup) (d : Write) → k < length writes → w ≡ k →
     HasOnlyNewMember old new (get_or writes k d).number w → IsGrouped (take k writes) free old → IsGrouped (take (k + 1) writes) free new
 grouped_more writes free k w old new d lt e has g =
     subst (λ xs. IsGrouped xs free new) (sym (take_more writes k d lt))
@@ -124,28 +124,28 @@ grouped_more writes free k w old new d lt e has g =
     taken (x ∷ xs) zero lt = refl
     taken (x ∷ xs) (suc k) lt = ap suc (taken xs k (omega (arith, lt)))
 
-pub grouped_none : (writes : List Write) (free : ℕ) (groups : List group.Group) → IsGrouped [] free groups → IsGrouped (take 0 writes) free groups
+pub grouped_none : (writes : List Write) (free : ℕ) (groups : List group.WriteGroup) → IsGrouped [] free groups → IsGrouped (take 0 writes) free groups
 grouped_none [] free groups g = g
 grouped_none (x ∷ xs) free groups g = g
 
-pub grouped_all : (writes : List Write) (free k : ℕ) (groups : List group.Group) → length writes ≤ k → IsGrouped (take k writes) free groups →
+pub grouped_all : (writes : List Write) (free k : ℕ) (groups : List group.WriteGroup) → length writes ≤ k → IsGrouped (take k writes) free groups →
     IsGrouped writes free groups
 grouped_all writes free k groups le g = subst (λ xs. IsGrouped xs free groups) (take_all k writes le) g
 
 -- ---- no write yet
 
-empty_more : (groups : List group.Group) (g : group.Group) → g.members.items ≡ [] → ((n : ℕ) → members_in groups n ≡ []) → (n : ℕ) →
+empty_more : (groups : List group.WriteGroup) (g : group.WriteGroup) → g.members.items ≡ [] → ((n : ℕ) → members_in groups n ≡ []) → (n : ℕ) →
     members_in (groups ++ g ∷ []) n ≡ []
 empty_more [] g e none zero = e
 empty_more [] g e none (suc n) = refl
 empty_more (x ∷ xs) g e none zero = none 0
 empty_more (x ∷ xs) g e none (suc n) = empty_more xs g e (λ k. none (suc k)) n
 
-pub none_more : (old new : List group.Group) (g : group.Group) → new ≡ old ++ g ∷ [] → g.members.items ≡ [] →
+pub none_more : (old new : List group.WriteGroup) (g : group.WriteGroup) → new ≡ old ++ g ∷ [] → g.members.items ≡ [] →
     ((n : ℕ) → members_in old n ≡ []) → (n : ℕ) → members_in new n ≡ []
 none_more old new g made e none n = ap (λ xs. members_in xs n) made ∙ empty_more old g e none n
 
-pub none_grouped : (free k : ℕ) (groups : List group.Group) → length groups ≡ k → k ≡ free → ((n : ℕ) → members_in groups n ≡ []) →
+pub none_grouped : (free k : ℕ) (groups : List group.WriteGroup) → length groups ≡ k → k ≡ free → ((n : ℕ) → members_in groups n ≡ []) →
     IsGrouped [] free groups
 none_grouped free k groups len e none =
     record {
@@ -158,7 +158,7 @@ none_grouped free k groups len e none =
     nothing : (x : Write) → None ≡ Some x → ⊥
     nothing x e = cc
 
-pub none_len : (old new : List group.Group) (g : group.Group) (k : ℕ) → new ≡ old ++ g ∷ [] → length old ≡ k → length new ≡ k + 1
+pub none_len : (old new : List group.WriteGroup) (g : group.WriteGroup) (k : ℕ) → new ≡ old ++ g ∷ [] → length old ≡ k → length new ≡ k + 1
 none_len old new g k made e =
     let long : length new ≡ length old + 1 = ap length made ∙ length-append old (g ∷ []) in omega (arith, long, e)
 

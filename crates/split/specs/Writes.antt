@@ -4,21 +4,21 @@ use Rattle.mach_ir.specs.declared.mach.Instr.{Instr}
 use Rattle.mach_ir.specs.declared.mach.Mach.{Mach}
 use Rattle.split_rules.specs.Order.{writes_of}
 use Rattle.split_rules.specs.declared.writes.Write.{Write}
-use Rattle.split.specs.declared.writes.Group as group
+use Rattle.split.specs.declared.writes.WriteGroup as group
 use Rattle.split.specs.declared.writes.Writes.{Writes}
 
 abbrev pub listed_writes : Writes → List Write
 listed_writes t = t.all.items
 
-abbrev pub members_in : List group.Group → ℕ → List ℕ
-members_in groups n = slice_index_or (map (λ (g : group.Group). g.members.items) groups) n []
+abbrev pub members_in : List group.WriteGroup → ℕ → List ℕ
+members_in groups n = slice_index_or (map (λ (g : group.WriteGroup). g.members.items) groups) n []
 
 -- the indexes of the writes of a number
 abbrev pub writes_of_number : Writes → ℕ → List ℕ
 writes_of_number t n = members_in t.groups.items n
 
 -- an index has come to its group, and nothing else
-pub record HasOnlyNewMember (old new : List group.Group) (n member : ℕ) : Type 0 where
+pub record HasOnlyNewMember (old new : List group.WriteGroup) (n member : ℕ) : Type 0 where
   pub len : length new ≡ length old
   pub here : members_in new n ≡ members_in old n ++ member ∷ []
   pub others : (k : ℕ) → (k ≡ n → ⊥) → members_in new k ≡ members_in old k
@@ -29,7 +29,7 @@ pub data AreRising : List ℕ → Type 0 where
   rises : {w : ℕ} {ws : List ℕ} → ((v : ℕ) → Contains ws v → w < v) → AreRising ws → AreRising (w ∷ ws)
 
 -- each index is in the group of its write's number, in their order, and nothing else is
-pub record IsGrouped (writes : List Write) (free : ℕ) (groups : List group.Group) : Type 0 where
+pub record IsGrouped (writes : List Write) (free : ℕ) (groups : List group.WriteGroup) : Type 0 where
   pub len : length groups ≡ free
   pub sound : (n w : ℕ) → Contains (members_in groups n) w →
       (x : Write) × (slice_get writes w ≡ Some x) × (x.number ≡ n)

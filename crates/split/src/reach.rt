@@ -13,7 +13,7 @@ ghost use Rattle.split.specs.Reach.{made_at, ended_by, write_uses, IsNodeAt, IsR
 use crate::writes::Writes;
 use bs_words::List;
 use dataflow::{Flow, Place, Rows, reaching};
-use liveness::{Backward, Edges, Labels, edges_of, no_edges, pass_tries};
+use liveness::{Backward, Edges, InstructionLabels, edges_of, no_edges, pass_tries};
 use mach_ir::{Instr, Mach, Reg};
 use std::alloc::{AllocError, Global};
 
@@ -97,7 +97,7 @@ fn entry_node(alloc: Global, mach: &Mach, writes: &Writes) -> Result<Place, Allo
 fn nodes_of(
     alloc: Global,
     mach: &Mach,
-    labels: &Labels,
+    labels: &InstructionLabels,
     writes: &Writes,
 ) -> Result<Vec<Place>, AllocError>
     requires labels { AreLabelsOf mach.now labels.now }
@@ -134,7 +134,7 @@ pub fn reach(alloc: Global, mach: &Mach, free: u32, writes: &Writes) -> Result<R
         AreReaching mach.now writes.now rows.rows.items) }
 {
     let bound = writes.all.len() as u32;
-    let labels = Labels::of_function(alloc, mach)?;
+    let labels = InstructionLabels::of_function(alloc, mach)?;
     let mut nodes = nodes_of(alloc, mach, &labels, writes)?;
     nodes.push(entry_node(alloc, mach, writes)?)?;
     let flow = Flow {

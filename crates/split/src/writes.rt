@@ -12,7 +12,7 @@ use std::alloc::{AllocError, Global};
 
 /// Indexes of writes, in their order.
 #[derive(Drop)]
-pub struct Group {
+pub struct WriteGroup {
     /// The indexes, rising.
     pub members: Vec<u32>,
 }
@@ -23,7 +23,7 @@ pub struct Writes {
     /// The writes: those of the parameters, then those of the code in the order of the text.
     pub all: Vec<Write>,
     /// For each number the indexes of its writes.
-    pub groups: Vec<Group>,
+    pub groups: Vec<WriteGroup>,
 }
 
 fn push_open(writes: &mut Vec<Write>, left: u32, regs: &[Reg]) -> Result<(), AllocError>
@@ -57,7 +57,7 @@ fn all_writes(alloc: Global, mach: &Mach) -> Result<Vec<Write>, AllocError>
 }
 
 /// Adds a member to a group.
-fn add_member(groups: &mut Vec<Group>, number: u32, member: u32) -> Result<(), AllocError>
+fn add_member(groups: &mut Vec<WriteGroup>, number: u32, member: u32) -> Result<(), AllocError>
     requires { number < length groups.old.items }
     ensures { IfOk result (λ _. HasOnlyNewMember groups.old.items groups.new.items number member) }
 {
@@ -66,12 +66,12 @@ fn add_member(groups: &mut Vec<Group>, number: u32, member: u32) -> Result<(), A
     Ok(())
 }
 
-fn no_members(alloc: Global, free: u32) -> Result<Vec<Group>, AllocError>
+fn no_members(alloc: Global, free: u32) -> Result<Vec<WriteGroup>, AllocError>
     ensures { IfOk result (λ groups. IsGrouped [] free groups.items) }
 {
     let mut groups = Vec::with_capacity(alloc, free as usize)?;
     for _number in 0..free {
-        groups.push(Group {
+        groups.push(WriteGroup {
             members: Vec::new(alloc),
         })?;
     }
@@ -79,7 +79,7 @@ fn no_members(alloc: Global, free: u32) -> Result<Vec<Group>, AllocError>
 }
 
 /// For each number below `free` the indexes of its writes.
-fn groups_of(alloc: Global, writes: &[Write], free: u32) -> Result<Vec<Group>, AllocError>
+fn groups_of(alloc: Global, writes: &[Write], free: u32) -> Result<Vec<WriteGroup>, AllocError>
     requires numbers { All (λ (x : Write). x.number < free) writes.now }
     requires few { length writes.now < 2 ^ 32 }
     ensures { IfOk result (λ groups. IsGrouped writes.now free groups.items) }

@@ -22,8 +22,8 @@ use Rattle.cmm_grammar.specs.declared.word.DataWord.{DataWord}
 use Rattle.cmm_grammar.specs.declared.word.DataWord.TheVariants as item
 use Rattle.cmm_grammar.specs.Parts.{ResultPart, BindingPart, CasePart, HandlerPart, HeadPart, ItemPart, FunctionItem, DataItem, item_of, expressions, bindings, cases, handlers, sequence_at, sequence}
 use Rattle.cmm_grammar.specs.Rewriting.{element_by, element, turn_by, turn, while_loop}
-use Rattle.cmm_grammar.specs.Words.{leaf_of, word_of}
-use Rattle.cmm_grammar.specs.Grammar.{a_token, a_comp, a_result, operands, sequence_to_close, sequence_to_with, a_binding, a_mutable_binding, bindings_to_close, let_body, let_form, assign_form, arguments_of, app_form, extcall_rest, extcall_form, alloc_form, loaded, stored, load_rest, store_rest, chunk_rest, chunked, load_form, store_form, paired, tripled, raise_form, pair_form, triple_form, float_form, seq_form, while_form, case_number, another_number, case_body, a_case, switch_form, a_parameter, parameters, label_rest, handler_rest, a_label, next_handler, more_handlers, labelled_handlers, bare_handler, catch_form, exit_rest, exit_form, try_form, form_of, form, a_data_integer, datum_of, a_data_item, data_items, data_list, a_function, item_rest, an_item}
+use Rattle.cmm_grammar.specs.Words.{leaf_of, word_or_zero}
+use Rattle.cmm_grammar.specs.Grammar.{a_token, a_comp, a_result, operands, sequence_to_close, sequence_to_with, a_binding, a_mutable_binding, bindings_to_close, let_body, let_form, assign_form, arguments_of, app_form, extcall_rest, extcall_form, alloc_form, load_expression, store_expression, load_rest, store_rest, chunk_rest, chunked, load_form, store_form, paired, tripled, raise_form, pair_form, triple_form, float_form, seq_form, while_form, case_number, another_number, case_body, a_case, switch_form, a_parameter, parameters, label_rest, handler_rest, a_label, next_handler, more_handlers, labelled_handlers, bare_handler, catch_form, exit_rest, exit_form, try_form, form_of, open_form, a_data_integer, datum_of, a_data_item, data_items, data_list, a_function, item_rest, an_item}
 use Rattle.cmm_tree.specs.Measures.{total, row_total, bindings_total, cases_total, handlers_total}
 use Rattle.cmm_tree.specs.Tree.{DatumTree, Byte, Half, Int, Val, Address, Skip, Align, DataItemTree}
 use Rattle.cmm_types.specs.Faults.{row_length}
@@ -42,8 +42,8 @@ same_weighed : (e f : Expression) → e ≡ f → total call_bytes e ≡ 0 → W
 same_weighed e f same h = subst (λ (v : Expression). Weighed v 1) same (record { calls = omega (arith, h) })
 
 leaf_kind : (at : ℕ) (k : TokenKind) (text : List ℕ) (e : Expression) → leaf_of (record { at = at; kind = k; text = text }) ≡ Some e → Weighed e 1
-leaf_kind at kind.Integer text e h = same_weighed (Integer at (word_of (integer_value text))) e (cc) refl
-leaf_kind at kind.Pointer text e h = same_weighed (Pointer at (word_of (integer_value text))) e (cc) refl
+leaf_kind at kind.Integer text e h = same_weighed (Integer at (word_or_zero (integer_value text))) e (cc) refl
+leaf_kind at kind.Pointer text e h = same_weighed (Pointer at (word_or_zero (integer_value text))) e (cc) refl
 leaf_kind at kind.Float text e h = same_weighed (Float at at NoMore) e (cc) refl
 leaf_kind at kind.String text e h = go (is_symbol (string_bytes text)) h
   where
@@ -200,12 +200,12 @@ alloc_takes : (at n : ℕ) → 2 ≤ n → Takes (alloc_form at) n Weighed
 unfolding alloc_form a_token
 alloc_takes at n h = λ t header e. operands_take (weight t + n) _ (λ es k all parts size. let row = row_weighed es k parts in record { calls = omega (arith, row, size, h) })
 
-loaded_weighed : (at : ℕ) (c : Option Chunk) (chunk_at : ℕ) (x : Expression) (m n : ℕ) → Weighed x m → m ≤ n → Weighed (loaded at c chunk_at x) n
+loaded_weighed : (at : ℕ) (c : Option Chunk) (chunk_at : ℕ) (x : Expression) (m n : ℕ) → Weighed x m → m ≤ n → Weighed (load_expression at c chunk_at x) n
 loaded_weighed at None chunk_at x m n p h = let a = p.calls in record { calls = omega (arith, a, h) }
 loaded_weighed at (Some c) chunk_at x m n p h = let a = p.calls in record { calls = omega (arith, a, h) }
 
 stored_weighed : (at : ℕ) (c : Option Chunk) (chunk_at : ℕ) (x y : Expression) (m k n : ℕ) → Weighed x m → Weighed y k → m + k ≤ n →
-    Weighed (stored at c chunk_at x y) n
+    Weighed (store_expression at c chunk_at x y) n
 stored_weighed at None chunk_at x y m k n p q h = let a = p.calls in let b = q.calls in record { calls = omega (arith, a, b, h) }
 stored_weighed at (Some w) chunk_at x y m k n p q h = let a = p.calls in let b = q.calls in record { calls = omega (arith, a, b, h) }
 
@@ -410,8 +410,8 @@ form_of_takes at word_at head.Exit n h = exit_takes at n h
 form_of_takes at word_at head.Try n h = try_takes at n
 form_of_takes at word_at head.Float n h = float_takes at word_at n h
 
-form_takes : (at : ℕ) → Takes (form at) 1 Weighed
-unfolding form
+form_takes : (at : ℕ) → Takes (open_form at) 1 Weighed
+unfolding open_form
 form_takes at = λ t w e. let some = weight_some t in form_of_takes at w.0.at w.1 (weight t + 1) (omega (arith, some))
 
 -- ---- static data

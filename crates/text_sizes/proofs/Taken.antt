@@ -6,7 +6,7 @@ use Rattle.cmm_tree.specs.Tree.{Expression, Nothing}
 use Rattle.cmm_grammar.specs.Parts.{ItemPart, FunctionItem, DataItem}
 use Rattle.cmm_grammar.specs.Words.{leaf_of}
 use Rattle.cmm_grammar.specs.Rule.{Sort, Value, AnExpression, ABinding, ACase, AHandler, ADataItem, AnItem, Listed, Rule, Give, One, Then, Expr, Inside, InsideOr, LabelledOr, Until, Maybe, Repeat}
-use Rattle.cmm_grammar.specs.Grammar.{form}
+use Rattle.cmm_grammar.specs.Grammar.{open_form}
 use Rattle.cmm_grammar.specs.Spelling as spelling
 use Rattle.cmm_grammar.specs.Spelling.{Spells, nothing, both, leaf, brackets, parenthesis, inside, inside_first, not_inside, labelled, not_labelled, one_more, present, absent, last, another}
 use Rattle.text_sizes.specs.Measures.{call_bytes, datum_bytes, list_bytes}
@@ -63,7 +63,7 @@ further : {Q : ℕ → Type 0} (m n : ℕ) → m ≤ n → UpTo m Q → UpTo n Q
 further m n le u = let few = u.few in record { bytes = u.bytes; few = omega (arith, few, le); so = u.so }
 
 module _ (leaf_weighed : (t : TokenTree) (e : Expression) → leaf_of t ≡ Some e → Weighed e 1)
-    (form_takes : (at : ℕ) → Takes (form at) 1 Weighed) where
+    (form_takes : (at : ℕ) → Takes (open_form at) 1 Weighed) where
   pub taken : (s : Sort) (d : ℕ) (r : Rule s) (a : Value s) (xs : List TokenTree) → Spells s d r a xs
       → (n : ℕ) (Q : Value s → ℕ → Type 0) → Takes r n Q → UpTo (weights xs + n) (Q a)
   taken _ _ _ _ _ (nothing s d a) n Q p = record { bytes = n; few = omega arith; so = p }
@@ -77,7 +77,7 @@ module _ (leaf_weighed : (t : TokenTree) (e : Expression) → leaf_of t ≡ Some
   taken _ _ _ _ _ (brackets d o c h g) n Q p =
       let some = weight_some o in record { bytes = 1 + n; few = omega (arith, some); so = p (Nothing o.at) 1 (record { calls = omega arith }) }
   taken _ _ _ _ _ (parenthesis d o e xs h g) n Q p =
-      let x = taken AnExpression d (form o.at) e xs g 1 Weighed (form_takes o.at) in
+      let x = taken AnExpression d (open_form o.at) e xs g 1 Weighed (form_takes o.at) in
       let few = x.few in
       let some = weight_some o in
       record { bytes = x.bytes + n; few = omega (arith, few, some); so = p e x.bytes x.so }

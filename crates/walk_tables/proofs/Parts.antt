@@ -11,7 +11,7 @@ use Rattle.cmm_tree.proofs.Rows.{place_view}
 use Rattle.cmm_types.specs.Annotated.{IsAnnotated}
 use Rattle.cmm_types.specs.Light.{is_light_address}
 use Rattle.cmm_types.specs.Lists.{AreAnnotated}
-use Rattle.cmm_tree.specs.Rows.{row_of}
+use Rattle.cmm_tree.specs.Rows.{expressions_of}
 use Rattle.cmm_types.specs.Types.{Scoped, type_of, type_bound, is_mutable, is_address}
 use Rattle.walk_tables.specs.Walks.{Slotted, Does, Evaluates, Enters, Binds, Uses, names, operand, operand_uses, waiting, filled_slots, all_operands, tasks_in_order, parameters_bound}
 use Rattle.cmm_tree.specs.Measures.{count_of}
@@ -34,22 +34,22 @@ typed-first ns es e others p t =
     subst P p t
 
 pub waiting-first : (s : List Slotted) (free slot next : ℕ) (es : List Expr) (e : Expr) (others : List Expr) → es ≡ e ∷ others → next ≡ suc slot
-    → waiting s free next (row_of others) ++ cond (is_light_address (names s) (expr_view e)) [] (operand s free slot (expr_view e))
-    ≡ waiting s free slot (row_of es)
+    → waiting s free next (expressions_of others) ++ cond (is_light_address (names s) (expr_view e)) [] (operand s free slot (expr_view e))
+    ≡ waiting s free slot (expressions_of es)
 waiting-first s free slot next es e others p q =
-    ap (λ n. waiting s free n (row_of others) ++ cond (is_light_address (names s) (expr_view e)) [] (operand s free slot (expr_view e))) q
-    ∙ ap (λ (l : List Expr). waiting s free slot (row_of l)) (sym p)
+    ap (λ n. waiting s free n (expressions_of others) ++ cond (is_light_address (names s) (expr_view e)) [] (operand s free slot (expr_view e))) q
+    ∙ ap (λ (l : List Expr). waiting s free slot (expressions_of l)) (sym p)
 
 pub filled-first : (s : List Slotted) (free slot next : ℕ) (es : List Expr) (e : Expr) (others : List Expr) → es ≡ e ∷ others → next ≡ suc slot
-    → filled_slots s free next (row_of others) ++ cond (is_light_address (names s) (expr_view e)) (operand s free slot (expr_view e)) []
-    ≡ filled_slots s free slot (row_of es)
+    → filled_slots s free next (expressions_of others) ++ cond (is_light_address (names s) (expr_view e)) (operand s free slot (expr_view e)) []
+    ≡ filled_slots s free slot (expressions_of es)
 filled-first s free slot next es e others p q =
-    ap (λ n. filled_slots s free n (row_of others) ++ cond (is_light_address (names s) (expr_view e)) (operand s free slot (expr_view e)) []) q
-    ∙ ap (λ (l : List Expr). filled_slots s free slot (row_of l)) (sym p)
+    ap (λ n. filled_slots s free n (expressions_of others) ++ cond (is_light_address (names s) (expr_view e)) (operand s free slot (expr_view e)) []) q
+    ∙ ap (λ (l : List Expr). filled_slots s free slot (expressions_of l)) (sym p)
 
 pub in-order-first : (s : List Slotted) (slot : ℕ) (es : List Expr) (e : Expr) (others : List Expr) → es ≡ e ∷ others
-    → Evaluates s slot (expr_view e) ∷ tasks_in_order s slot (row_of others) ≡ tasks_in_order s slot (row_of es)
-in-order-first s slot es e others p = ap (λ (l : List Expr). tasks_in_order s slot (row_of l)) (sym p)
+    → Evaluates s slot (expr_view e) ∷ tasks_in_order s slot (expressions_of others) ≡ tasks_in_order s slot (expressions_of es)
+in-order-first s slot es e others p = ap (λ (l : List Expr). tasks_in_order s slot (expressions_of l)) (sym p)
 
 pub parameters-first : (slot next : ℕ) (ps : List Param) (p : Param) (others : List Param) (address : Bool) (type : Ty) → ps ≡ p ∷ others → next ≡ suc slot
     → address ≡ is_address type → type ≡ type_of_comp p.comp
@@ -59,13 +59,13 @@ parameters-first slot next ps p others address type e q a t =
     ∙ ap (λ b. Does (Binds slot b p.at) ∷ parameters_bound (suc slot) (params_view others)) (a ∙ ap is_address t)
     ∙ ap (λ (l : List Param). parameters_bound slot (params_view l)) (sym e)
 
-pub count-is : (es : List Expr) → length es ≡ count_of (row_of es)
+pub count-is : (es : List Expr) → length es ≡ count_of (expressions_of es)
 count-is [] = refl
 count-is (e ∷ es) = ap suc (count-is es)
 
 pub operands-free : (s : List Slotted) (free slot : ℕ) (es : List Expr) → free ≡ slot + length es
-    → waiting s free slot (row_of es) ++ filled_slots s free slot (row_of es) ≡ all_operands s slot (row_of es)
-operands-free s free slot es q = ap (λ n. waiting s n slot (row_of es) ++ filled_slots s n slot (row_of es)) (q ∙ ap (λ n. slot + n) (count-is es))
+    → waiting s free slot (expressions_of es) ++ filled_slots s free slot (expressions_of es) ≡ all_operands s slot (expressions_of es)
+operands-free s free slot es q = ap (λ n. waiting s n slot (expressions_of es) ++ filled_slots s n slot (expressions_of es)) (q ∙ ap (λ n. slot + n) (count-is es))
 
 -- a name of a let
 abbrev pub let_name : List Slotted → ℕ → Binding → Slotted

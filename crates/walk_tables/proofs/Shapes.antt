@@ -16,7 +16,7 @@ use Rattle.cmm_tree.specs.declared.expr.Label.{Label}
 use Rattle.cmm_tree.proofs.Rows.{row_in, bindings_in, cases_in, handlers_in, bindings-is, seq_view, exit_view, alloc_view, extcall_view, app_view, let_view, switch_view, catch_view}
 use Rattle.cmm_types.specs.Annotated.{IsAnnotated, RowTyped, BindingsTyped, CasesTyped, HandlersTyped, PartsTyped}
 use Rattle.cmm_types.specs.Lists.{AreAnnotated, AreBindingsAnnotated, AreCasesAnnotated, AreHandlersAnnotated}
-use Rattle.cmm_tree.specs.Rows.{row_of, bindings_of, cases_of, handlers_of}
+use Rattle.cmm_tree.specs.Rows.{expressions_of, bindings_of, cases_of, handlers_of}
 use Rattle.cmm_types.specs.Types.{Scoped, with_bindings}
 use Rattle.walk_tables.specs.Sound.{AddsCells}
 use Rattle.walk_tables.specs.Walks.{Slotted, names, tasks_of}
@@ -67,42 +67,42 @@ by-shape s slot e f t Parts is shape typed adds =
     let P : Form → Type 0 = λ x. PartsTyped (names s) x in
     adds-as (ap (λ (x : Expression). tasks_of s slot x) (sym (ap (λ (x : Form). form_view e.at x) is ∙ shape.view))) (adds (shape.parts (subst P is typed.below)))
 
-pub seq-shape : (ns : List Scoped) (at : ℕ) (v : Vec Expr Global) (es : List Expr) → es ≡ v.items → Shape ns at (form.Seq v) (tree.Seq at (row_of es)) (AreAnnotated ns es)
+pub seq-shape : (ns : List Scoped) (at : ℕ) (v : Vec Expr Global) (es : List Expr) → es ≡ v.items → Shape ns at (form.Seq v) (tree.Seq at (expressions_of es)) (AreAnnotated ns es)
 seq-shape ns at v es e = record {
-  view = seq_view at v ∙ ap (λ (l : List Expr). tree.Seq at (row_of l)) (sym e);
+  view = seq_view at v ∙ ap (λ (l : List Expr). tree.Seq at (expressions_of l)) (sym e);
   parts = λ t. row-typed ns v es e t;
 }
 
 pub exit-shape : (ns : List Scoped) (at label_at : ℕ) (label : Label) (v : Vec Expr Global) (es : List Expr) → es ≡ v.items
-    → Shape ns at (form.Exit label_at label v) (tree.Exit at label_at (label_view label) (row_of es)) (AreAnnotated ns es)
+    → Shape ns at (form.Exit label_at label v) (tree.Exit at label_at (label_view label) (expressions_of es)) (AreAnnotated ns es)
 exit-shape ns at label_at label v es e = record {
-  view = exit_view at label_at label v ∙ ap (λ (l : List Expr). tree.Exit at label_at (label_view label) (row_of l)) (sym e);
+  view = exit_view at label_at label v ∙ ap (λ (l : List Expr). tree.Exit at label_at (label_view label) (expressions_of l)) (sym e);
   parts = λ t. row-typed ns v es e t;
 }
 
 pub alloc-shape : (ns : List Scoped) (at header_at header : ℕ) (v : Vec Expr Global) (es : List Expr) → es ≡ v.items
-    → Shape ns at (form.Alloc header_at header v) (tree.Alloc at header_at header (row_of es)) (AreAnnotated ns es)
+    → Shape ns at (form.Alloc header_at header v) (tree.Alloc at header_at header (expressions_of es)) (AreAnnotated ns es)
 alloc-shape ns at header_at header v es e = record {
-  view = alloc_view at header_at header v ∙ ap (λ (l : List Expr). tree.Alloc at header_at header (row_of l)) (sym e);
+  view = alloc_view at header_at header v ∙ ap (λ (l : List Expr). tree.Alloc at header_at header (expressions_of l)) (sym e);
   parts = λ t. row-typed ns v es e t;
 }
 
 pub extcall-shape : (ns : List Scoped) (at : ℕ) (frame : Bool) (name : List ℕ) (v : Vec Expr Global) (result : Ret) (result_at : ℕ) (es : List Expr) → es ≡ v.items
-    → Shape ns at (form.Extcall frame name v result result_at) (tree.Extcall at frame name (row_of es) result result_at) (AreAnnotated ns es)
+    → Shape ns at (form.Extcall frame name v result result_at) (tree.Extcall at frame name (expressions_of es) result result_at) (AreAnnotated ns es)
 extcall-shape ns at frame name v result result_at es e = record {
-  view = extcall_view at frame name v result result_at ∙ ap (λ (l : List Expr). tree.Extcall at frame name (row_of l) result result_at) (sym e);
+  view = extcall_view at frame name v result result_at ∙ ap (λ (l : List Expr). tree.Extcall at frame name (expressions_of l) result result_at) (sym e);
   parts = λ t. row-typed ns v es e t;
 }
 
 pub app-shape : (ns : List Scoped) (at : ℕ) (b : Box Expr Global) (v : Vec Expr Global) (result : Ret) (result_at : ℕ) (callee : Expr) (es : List Expr)
     → callee ≡ b.value
     → es ≡ v.items
-    → Shape ns at (form.App b v result result_at) (tree.App at (expr_view callee) (row_of es) result result_at) (IsAnnotated ns callee × AreAnnotated ns es)
+    → Shape ns at (form.App b v result result_at) (tree.App at (expr_view callee) (expressions_of es) result result_at) (IsAnnotated ns callee × AreAnnotated ns es)
 app-shape ns at b v result result_at callee es q e = record {
   view =
       app_view at b v result result_at
-      ∙ ap (λ (l : List Expr). tree.App at (expr_view b.value) (row_of l) result result_at) (sym e)
-      ∙ ap (λ (x : Expr). tree.App at (expr_view x) (row_of es) result result_at) (sym q);
+      ∙ ap (λ (l : List Expr). tree.App at (expr_view b.value) (expressions_of l) result result_at) (sym e)
+      ∙ ap (λ (x : Expr). tree.App at (expr_view x) (expressions_of es) result result_at) (sym q);
   parts = λ t. (is-typed ns b.value callee q t.0, row-typed ns v es e t.1);
 }
 

@@ -5,7 +5,7 @@ ghost use Rattle.cmm_tree.specs.Tree.{More};
 ghost use Rattle.cmm_tree.specs.View.{expr_view, label_view};
 ghost use Rattle.cmm_types.specs.Annotated.{IsAnnotated};
 ghost use Rattle.cmm_types.specs.Lists.{AreAnnotated, AreBindingsAnnotated, AreCasesAnnotated, AreHandlersAnnotated};
-ghost use Rattle.cmm_tree.specs.Rows.{row_of, bindings_of, cases_of, handlers_of};
+ghost use Rattle.cmm_tree.specs.Rows.{expressions_of, bindings_of, cases_of, handlers_of};
 ghost use Rattle.walk_tables.specs.Walks.{Slotted, Does, Evaluates, Enters, Passes, OneOf, MayRaise, Raises, Exits};
 ghost use Rattle.walk_tables.specs.Walks.{Catches, Handles, names, used_at, bound_at, slot_of, operand_uses, waiting};
 ghost use Rattle.cmm_tree.specs.Measures.{count_of};
@@ -103,7 +103,7 @@ impl<'a> Cells<'a> {
         ensures { IfOk result (λ cell. (s : List Slotted) → IsCellReady (cells self.old) rest →
             IsScope (cells self.old) scope s → AreAnnotated (names s) exprs.now →
             AddsCells (cells self.old) (cells self.new) cell (all_operands s slot
-            (row_of exprs.now) ++ operand_uses at slot (count_of (row_of exprs.now))) rest) }
+            (expressions_of exprs.now) ++ operand_uses at slot (count_of (expressions_of exprs.now))) rest) }
     {
         let taken = self.takes(at, slot, exprs.len(), rest)?;
         let cell = self.all_operands(scope, slot, exprs, taken)?;
@@ -123,9 +123,9 @@ impl<'a> Cells<'a> {
         ensures { IfOk result (λ cell. (s : List Slotted) → IsCellReady (cells self.old) rest →
             IsScope (cells self.old) scope s → AreAnnotated (names s) exprs.now →
             AddsCells (cells self.old) (cells self.new) cell (waiting s (slot + count_of
-            (row_of exprs.now)) slot (row_of exprs.now) ++ (Does (Passes at) ∷ (filled_slots s
-            (slot + count_of (row_of exprs.now)) slot (row_of exprs.now) ++ operand_uses at slot
-            (count_of (row_of exprs.now))))) rest) }
+            (expressions_of exprs.now)) slot (expressions_of exprs.now) ++ (Does (Passes at) ∷ (filled_slots s
+            (slot + count_of (expressions_of exprs.now)) slot (expressions_of exprs.now) ++ operand_uses at slot
+            (count_of (expressions_of exprs.now))))) rest) }
     {
         let free = slot + exprs.len();
         let taken = self.takes(at, slot, exprs.len(), rest)?;
@@ -164,8 +164,8 @@ impl<'a> Cells<'a> {
         ensures { IfOk result (λ cell. (s : List Slotted) → IsCellReady (cells self.old) rest →
             IsScope (cells self.old) scope s → AreAnnotated (names s) exprs.now →
             AddsCells (cells self.old) (cells self.new) cell (all_operands s slot
-            (row_of exprs.now) ++ (operand_uses at slot (count_of
-            (row_of exprs.now)) ++ call_tasks frame at)) rest) }
+            (expressions_of exprs.now) ++ (operand_uses at slot (count_of
+            (expressions_of exprs.now)) ++ call_tasks frame at)) rest) }
     {
         let called = self.called(frame, at, rest)?;
         let cell = self.on_all(scope, slot, at, exprs, called)?;
@@ -209,8 +209,8 @@ impl<'a> Cells<'a> {
             IsScope (cells self.old) scope s → IsAnnotated (names s) callee.now →
             AreAnnotated (names s) exprs.now →
             AddsCells (cells self.old) (cells self.new) cell (all_operands s slot (More
-            (expr_view callee.now) (row_of exprs.now)) ++ (operand_uses at slot (suc (count_of
-            (row_of exprs.now))) ++ call_tasks true at)) rest) }
+            (expr_view callee.now) (expressions_of exprs.now)) ++ (operand_uses at slot (suc (count_of
+            (expressions_of exprs.now))) ++ call_tasks true at)) rest) }
     {
         let second = slot + 1;
         let free = second + exprs.len();
@@ -392,7 +392,7 @@ impl<'a> Cells<'a> {
         ensures { IfOk result (λ cell. (s : List Slotted) → IsCellReady (cells self.old) rest →
             IsScope (cells self.old) scope s → AreAnnotated (names s) exprs.now →
             AddsCells (cells self.old) (cells self.new) cell (all_operands s slot
-            (row_of exprs.now) ++ (operand_uses at slot (count_of (row_of exprs.now)) ++
+            (expressions_of exprs.now) ++ (operand_uses at slot (count_of (expressions_of exprs.now)) ++
             (Exits (label_view label.now) ∷ []))) rest) }
     {
         let exits = self.push(Item::Exits { label, rest })?;

@@ -4,7 +4,7 @@ ghost use Rattle.cmm_tree.specs.View.{expr_view, params_view};
 ghost use Rattle.cmm_types.specs.Annotated.{IsAnnotated};
 ghost use Rattle.cmm_types.specs.Light.{is_light_address};
 ghost use Rattle.cmm_types.specs.Lists.{AreAnnotated, AreBindingsAnnotated};
-ghost use Rattle.cmm_tree.specs.Rows.{row_of, bindings_of};
+ghost use Rattle.cmm_tree.specs.Rows.{expressions_of, bindings_of};
 ghost use Rattle.cmm_types.specs.Types.{with_bindings};
 ghost use Rattle.walk_tables.specs.Walks.{Slotted, Does, Evaluates, names, operand, operand_uses, waiting, filled_slots};
 ghost use Rattle.walk_tables.specs.Walks.{all_operands, tasks_in_order, parameters_bound, entering};
@@ -155,7 +155,7 @@ impl<'a> Cells<'a> {
             IsScope (cells self.old) scope s → AreAnnotated (names s) exprs.now →
             free ≤ length (cells self.old) →
             AddsCells (cells self.old) (cells self.new) cell (waiting s free slot
-            (row_of exprs.now)) rest) }
+            (expressions_of exprs.now)) rest) }
     {
         match exprs {
             [] => Ok(rest),
@@ -182,7 +182,7 @@ impl<'a> Cells<'a> {
             IsScope (cells self.old) scope s → AreAnnotated (names s) exprs.now →
             free ≤ length (cells self.old) →
             AddsCells (cells self.old) (cells self.new) cell (filled_slots s free slot
-            (row_of exprs.now)) rest) }
+            (expressions_of exprs.now)) rest) }
     {
         match exprs {
             [] => Ok(rest),
@@ -208,7 +208,7 @@ impl<'a> Cells<'a> {
             IsScope (cells self.old) scope s → AreAnnotated (names s) exprs.now →
             slot + length exprs.now ≤ length (cells self.old) →
             AddsCells (cells self.old) (cells self.new) cell (all_operands s slot
-            (row_of exprs.now)) rest) }
+            (expressions_of exprs.now)) rest) }
     {
         let free = slot + exprs.len();
         let filled = self.fill(scope, free, slot, exprs, rest)?;
@@ -228,7 +228,7 @@ impl<'a> Cells<'a> {
         ensures { IfOk result (λ cell. (s : List Slotted) → IsCellReady (cells self.old) rest →
             IsScope (cells self.old) scope s → AreAnnotated (names s) exprs.now →
             AddsCells (cells self.old) (cells self.new) cell (tasks_in_order s slot
-            (row_of exprs.now)) rest) }
+            (expressions_of exprs.now)) rest) }
     {
         match exprs {
             [] => Ok(rest),

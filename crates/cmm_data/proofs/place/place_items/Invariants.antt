@@ -4,7 +4,7 @@ use Rattle.cmm_tree.specs.View.{data_item_view}
 use Rattle.cmm_data.specs.Placement.{items_from, end_of_items, placed_symbols}
 use Rattle.cmm_data.specs.Faults.{first_fault}
 use Rattle.cmm_data.specs.Contents.{bytes_of_items, cells_of, roots_among}
-use Rattle.cmm_data.specs.Filling.{pending, cells_with}
+use Rattle.cmm_data.specs.Filling.{pending_bytes, cells_with}
 use Rattle.cmm_data.specs.Symbols.{value_in}
 use Rattle.cmm_data.specs.Map.{symbol_view}
 use Rattle.cmm_data.proofs.place.place_items.Given as goal
@@ -17,8 +17,8 @@ invariant-loop-item l =
       within : l.address ≤ data_start + data_limit;
       faultless : first_fault (items_from l.address (map data_item_view (drop l.item-index l.items))) ≡ None;
       end : end_of_items l.start (map data_item_view l.items) ≡ end_of_items l.address (map data_item_view (drop l.item-index l.items));
-      small : pending l.filling < 8;
-      place : pending l.filling ≡ l.address % 8;
+      small : pending_bytes l.filling < 8;
+      place : pending_bytes l.filling ≡ l.address % 8;
       symbols :
           map symbol_view l.fn.symbols.items ++ placed_symbols (items_from l.start (map data_item_view l.items))
           ≡ map symbol_view l.symbols.items ++ placed_symbols (items_from l.address (map data_item_view (drop l.item-index l.items)));

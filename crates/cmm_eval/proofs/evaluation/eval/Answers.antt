@@ -14,7 +14,7 @@ use Rattle.cmm_data.proofs.Laws.{end_of_data-first_memory}
 use Rattle.cmm_meaning.specs.State.{World, Here, bound, deepened}
 use Rattle.cmm_meaning.specs.Evaluation.{scoped_parameter}
 use Rattle.cmm_meaning.specs.Run.{finished, first_world, nobody}
-use Rattle.eval_frames.specs.Around.{functions_in, activated_held, whole}
+use Rattle.eval_frames.specs.Around.{functions_in, activated_held, surroundings_of_file}
 use Rattle.eval_frames.specs.Views.{layout_view, here_view, world_view, outcome_view, call_view}
 use Rattle.eval_frames.specs.declared.here.Here as here
 use Rattle.eval_frames.specs.declared.world.World as world
@@ -48,7 +48,7 @@ pub returns : goal.returns
 returns c =
     let file = c.args.file.now in
     let layout = layout_view c.args.layout.now in
-    let s = whole file layout in
+    let s = surroundings_of_file file layout in
     let k = c.args.entry in
     let functions = c.in_ok-functions.functions.items in
     let f = c.in-Some.function.now in

@@ -103,15 +103,15 @@ returns-in-Goes-clause-reported g c =
     let call = call_made (ext c.args.row.now) h in
     let planned = c.plan-plan.ensures ∙ ap schedule.plan c.services.ensures in
     let two = c.in-Some.ensures in
-    let came : collected plan h ≡ Goes c.collect.new.machine = ap (λ (p : List Placed → List ℕ). collected p h) (sym planned) ∙ c.in-Goes.ensures.exact in
-    let is = comes plan ret call answers m c.in-Some.answer.raises c.in-Some.answer.value two.0 two.1 (Goes c.collect.new.machine) came in
+    let came : collected plan h ≡ Goes c.count_frame_call.new.machine = ap (λ (p : List Placed → List ℕ). collected p h) (sym planned) ∙ c.in-Goes.ensures.exact in
+    let is = comes plan ret call answers m c.in-Some.answer.raises c.in-Some.answer.value two.0 two.1 (Goes c.count_frame_call.new.machine) came in
     let rest = (two_left c.args.answers.now c.args.taken.now c.in-Some.answer.raises c.in-Some.answer.value two.0 two.1).0 in
     let showed : shown_call c.args.row.now.name (take c.len.result c.observe_arguments-shown.result) ≡ call =
     ap (λ (os : List Obs). shown_call c.args.row.now.name os) (ap (λ (n : ℕ). take n c.observe_arguments-shown.result) c.len.ensures ∙ c.observe_arguments-shown.ensures.shown) in
-    let whole : machine_frame_answered plan ret call answers m ≡ concluded ret (shown_call c.args.row.now.name (take c.len.result c.observe_arguments-shown.result)) c.in-Some.answer.raises c.in-Some.answer.value two.0 c.collect.new.machine m =
-    is ∙ ap (λ (k : Made). concluded ret k c.in-Some.answer.raises c.in-Some.answer.value two.0 c.collect.new.machine m) (sym showed) in
+    let whole : machine_frame_answered plan ret call answers m ≡ concluded ret (shown_call c.args.row.now.name (take c.len.result c.observe_arguments-shown.result)) c.in-Some.answer.raises c.in-Some.answer.value two.0 c.count_frame_call.new.machine m =
+    is ∙ ap (λ (k : Made). concluded ret k c.in-Some.answer.raises c.in-Some.answer.value two.0 c.count_frame_call.new.machine m) (sym showed) in
     ok_then c.conclude.result _ _
     (λ end p. subst (λ (now : Now). ServesRun end now c.conclude.new.machine c.args.returns (drop (c.args.taken.now + 2) c.args.answers.now)) (sym whole)
-    (subst (λ (left : List ℕ). ServesRun end (concluded ret (shown_call c.args.row.now.name (take c.len.result c.observe_arguments-shown.result)) c.in-Some.answer.raises c.in-Some.answer.value two.0 c.collect.new.machine m) c.conclude.new.machine c.args.returns left) (sym rest)
+    (subst (λ (left : List ℕ). ServesRun end (concluded ret (shown_call c.args.row.now.name (take c.len.result c.observe_arguments-shown.result)) c.in-Some.answer.raises c.in-Some.answer.value two.0 c.count_frame_call.new.machine m) c.conclude.new.machine c.args.returns left) (sym rest)
     (p h c.args.returns answers two.0)))
     c.conclude.ensures.reported

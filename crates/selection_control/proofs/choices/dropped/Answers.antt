@@ -1,5 +1,5 @@
 use Rattle.std.proofs.Common.{◌≡◌, ◌+◌, ◌-◌, suc, ap, sym, ◌∙◌, arith}
-use Rattle.cmm_tree.specs.Rows.{row_of}
+use Rattle.cmm_tree.specs.Rows.{expressions_of}
 use Rattle.selection_rules.specs.Select.{width_row}
 use Rattle.selection_control.proofs.LastParts.{row-typed, row-typed-in, row-end, dropped-code}
 use Rattle.selection_control.proofs.Rooms.{row-room}
@@ -33,8 +33,8 @@ loop-last-preserved g c =
     let typed = row-typed (scoped_names t) rest others last is c.loop-last.invariant.typed in
     let ended = row-end number c.loop-last.end rest others last is c.loop-last.invariant.end in
     let m = c.loop-last.end - c.width_of.result - 1 in
-    let end : m ≡ number + width_row (row_of others) = omega (arith, ended, c.width_of.ensures) in
-    let behind : m + 1 ≡ suc (number + width_row (row_of others)) = omega (arith, end) in
+    let end : m ≡ number + width_row (expressions_of others) = omega (arith, ended, c.width_of.ensures) in
+    let behind : m + 1 ≡ suc (number + width_row (expressions_of others)) = omega (arith, end) in
     record {
       code =
           dropped-code s t number m (m + 1) rest others last c.operand_at-place.result c.fresh.result c.loop-last.code c.one.new.code

@@ -1,6 +1,6 @@
 use Rattle.std.proofs.Common.{◌≡◌, ◌+◌, false, length, refl, ap, ◌∙◌}
 use Rattle.std.proofs.lemmas.Result.{on_ok_weaker}
-use Rattle.cmm_tree.specs.Rows.{row_of}
+use Rattle.cmm_tree.specs.Rows.{expressions_of}
 use Rattle.cmm_tree.specs.View.{expr_view}
 use Rattle.selection_rules.specs.Select.{only_when, call_of, moves_all, regs_of, seats, select, select_filled, select_waiting, called_symbol}
 use Rattle.selection_operands.proofs.CallNumbers.{row-is, seated-is, given-is, base-is}
@@ -17,7 +17,7 @@ returns-clause-code g c =
     let numbers = c.call_numbers-numbers.result in
     let inner = c.behind-inner.result in
     let count = length c.args.arguments.now in
-    let es = row_of c.args.arguments.now in
+    let es = expressions_of c.args.arguments.now in
     let e = expr_view c.args.callee.now in
     let f = c.fresh-register.result in
     let regs = regs_of s.names row es in

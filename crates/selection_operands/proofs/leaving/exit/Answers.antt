@@ -1,6 +1,6 @@
 use Rattle.std.proofs.Common.{◌+◌, length, refl, ap, ◌∙◌}
 use Rattle.std.proofs.lemmas.Result.{on_ok_weaker}
-use Rattle.cmm_tree.specs.Rows.{row_of}
+use Rattle.cmm_tree.specs.Rows.{expressions_of}
 use Rattle.cmm_tree.specs.View.{label_view}
 use Rattle.selection_rules.specs.Select.{visible_label, regs_of, select_waiting}
 use Rattle.selection_operands.proofs.RowForms.{exit-is}
@@ -11,7 +11,7 @@ pub returns-clause-code : goal.returns-clause-code
 returns-clause-code g c =
     let row = c.args.node.place.base + 1 in
     let base = row + length c.args.arguments.now in
-    let es = row_of c.args.arguments.now in
+    let es = expressions_of c.args.arguments.now in
     let regs = regs_of c.args.scope.now.names row es in
     let target = visible_label c.args.scope.now.labels (label_view c.args.label.now) in
     on_ok_weaker c.waiting.result

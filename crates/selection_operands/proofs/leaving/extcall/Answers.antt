@@ -1,7 +1,7 @@
 use Rattle.std.proofs.Common.{◌≡◌, ◌+◌, List, ◌∷◌, length, refl, ap, ◌∙◌}
 use Rattle.std.proofs.lemmas.Result.{on_ok_weaker}
 use Rattle.cmm_meaning.specs.Evaluation.{comps_of_arguments}
-use Rattle.cmm_tree.specs.Rows.{row_of}
+use Rattle.cmm_tree.specs.Rows.{expressions_of}
 use Rattle.mach_ir.specs.declared.reg.Reg.{Reg}
 use Rattle.mach_ir.specs.declared.mach.Instr.{Instr}
 use Rattle.selection_rules.specs.Instructions as emit
@@ -17,7 +17,7 @@ returns-clause-code g c =
     let row = c.args.node.place.base + 1 in
     let numbers = c.call_numbers-numbers.result in
     let count = length c.args.arguments.now in
-    let es = row_of c.args.arguments.now in
+    let es = expressions_of c.args.arguments.now in
     let regs = regs_of s.names row es in
     let args = seats 0 numbers.seated regs in
     let outside = c.args.outside in

@@ -1,6 +1,6 @@
 use Rattle.std.proofs.Common.{◌+◌, ◌%◌, length, nat_le, refl, ap, ◌∙◌}
 use Rattle.std.proofs.lemmas.Result.{on_ok_weaker}
-use Rattle.cmm_tree.specs.Rows.{row_of}
+use Rattle.cmm_tree.specs.Rows.{expressions_of}
 use Rattle.selection_rules.specs.Select.{chunk_for, regs_of, select_waiting}
 use Rattle.selection_operands.proofs.RowForms.{alloc-is}
 use Rattle.selection_scope.specs.Scoping.{LexicalScope}
@@ -10,7 +10,7 @@ pub returns-clause-code : goal.returns-clause-code
 returns-clause-code g c =
     let row = c.args.node.place.base + 3 in
     let base = row + length c.args.operands.now in
-    let es = row_of c.args.operands.now in
+    let es = expressions_of c.args.operands.now in
     let regs = regs_of c.args.scope.now.names row es in
     on_ok_weaker c.waiting.result
     (λ h. λ at header_at.

@@ -1,5 +1,5 @@
 use Rattle.std.proofs.Common.{◌≡◌, suc, ◌+◌, ◌-◌, ◌∷◌, List, length, take, drop, ap, sym, ◌∙◌, subst, arith}
-use Rattle.cmm_tree.specs.Rows.{row_of}
+use Rattle.cmm_tree.specs.Rows.{expressions_of}
 use Rattle.cmm_tree.specs.declared.expr.Expr.{Expr}
 use Rattle.cmm_types.specs.Lists.{AreAnnotated}
 use Rattle.selection_rules.specs.Select.{select_filled}
@@ -27,10 +27,10 @@ loop-rest-preserved g c =
     let next : number ≡ suc reg = omega arith in
     record {
       code =
-          sym (ap (λ (v : LexicalScope). select_filled v.names v.labels number behind (row_of others) made) c.loop-rest.invariant.scope)
+          sym (ap (λ (v : LexicalScope). select_filled v.names v.labels number behind (expressions_of others) made) c.loop-rest.invariant.scope)
           ∙ filled-more s number behind reg base c.fresh.result light e others c.loop-rest.code made next c.behind-base.ensures c.is_light_address-waits.ensures typed.0 c.fresh.ensures c.in_ok-put_operand.ensures.code
-          ∙ ap (λ l. select_filled s.names s.labels reg base (row_of l) c.loop-rest.code) whole
-          ∙ ap (λ (v : LexicalScope). select_filled v.names v.labels reg base (row_of rest) c.loop-rest.code) c.loop-rest.invariant.scope
+          ∙ ap (λ l. select_filled s.names s.labels reg base (expressions_of l) c.loop-rest.code) whole
+          ∙ ap (λ (v : LexicalScope). select_filled v.names v.labels reg base (expressions_of rest) c.loop-rest.code) c.loop-rest.invariant.scope
           ∙ c.loop-rest.invariant.code;
       reg = omega (arith, c.loop-rest.invariant.reg, ap length whole);
       begins = omega (arith, c.loop-rest.invariant.begins, c.behind-base.ensures);

@@ -1,5 +1,5 @@
 use Rattle.std.proofs.Common.{◌≡◌, ◌+◌, ◌<◌, ◌≤◌, length}
-use Rattle.cmm_tree.specs.Rows.{row_of}
+use Rattle.cmm_tree.specs.Rows.{expressions_of}
 use Rattle.cmm_types.specs.Lists.{AreAnnotated}
 use Rattle.selection_scope.specs.Room.{indexes_in_row, most_numbers}
 use Rattle.selection_scope.specs.Scoping.{scoped_names}
@@ -9,11 +9,11 @@ use Rattle.selection_operands.proofs.operands.filled.Given as goal
 abbrev pub invariant-loop-rest : goal.invariant-loop-rest
 invariant-loop-rest g l =
     record {
-      code : select_filled l.initial.scope.names l.initial.scope.labels l.reg l.base (row_of l.rest) l.code ≡ select_filled l.initial.scope.names l.initial.scope.labels l.fn.number l.fn.first (row_of l.fn.exprs) l.initial.code;
+      code : select_filled l.initial.scope.names l.initial.scope.labels l.reg l.base (expressions_of l.rest) l.code ≡ select_filled l.initial.scope.names l.initial.scope.labels l.fn.number l.fn.first (expressions_of l.fn.exprs) l.initial.code;
       scope : l.scope ≡ l.initial.scope;
       reg : l.reg + length l.rest ≡ l.fn.number + length l.fn.exprs;
       begins : l.fn.first ≤ l.base;
-      room : l.base + (width_row (row_of l.rest) + indexes_in_row (row_of l.rest)) < most_numbers + length l.rest;
+      room : l.base + (width_row (expressions_of l.rest) + indexes_in_row (expressions_of l.rest)) < most_numbers + length l.rest;
       typed : AreAnnotated (scoped_names l.scope) l.rest;
     }
 

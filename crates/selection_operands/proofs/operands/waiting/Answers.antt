@@ -1,5 +1,5 @@
 use Rattle.std.proofs.Common.{◌≡◌, suc, ◌+◌, ◌-◌, ◌∷◌, not, List, length, take, drop, refl, ap, sym, ◌∙◌, subst, arith}
-use Rattle.cmm_tree.specs.Rows.{row_of}
+use Rattle.cmm_tree.specs.Rows.{expressions_of}
 use Rattle.cmm_tree.specs.declared.expr.Expr.{Expr}
 use Rattle.cmm_types.specs.Lists.{AreAnnotated}
 use Rattle.selection_rules.specs.Select.{select_waiting}
@@ -27,10 +27,10 @@ loop-rest-preserved g c =
     let next : number ≡ suc reg = omega arith in
     record {
       code =
-          sym (ap (λ (v : LexicalScope). select_waiting v.names v.labels number behind (row_of others) made) c.loop-rest.invariant.scope)
+          sym (ap (λ (v : LexicalScope). select_waiting v.names v.labels number behind (expressions_of others) made) c.loop-rest.invariant.scope)
           ∙ waiting-more s number behind reg base c.fresh.result light (not light) e others c.loop-rest.code made next c.behind-base.ensures c.is_light_address-waits.ensures refl typed.0 c.fresh.ensures c.in_ok-put_operand.ensures.code
-          ∙ ap (λ l. select_waiting s.names s.labels reg base (row_of l) c.loop-rest.code) whole
-          ∙ ap (λ (v : LexicalScope). select_waiting v.names v.labels reg base (row_of rest) c.loop-rest.code) c.loop-rest.invariant.scope
+          ∙ ap (λ l. select_waiting s.names s.labels reg base (expressions_of l) c.loop-rest.code) whole
+          ∙ ap (λ (v : LexicalScope). select_waiting v.names v.labels reg base (expressions_of rest) c.loop-rest.code) c.loop-rest.invariant.scope
           ∙ c.loop-rest.invariant.code;
       reg = omega (arith, c.loop-rest.invariant.reg, ap length whole);
       begins = omega (arith, c.loop-rest.invariant.begins, c.behind-base.ensures);

@@ -1,6 +1,6 @@
 use Rattle.std.proofs.Common.{◌≡◌, suc, ◌+◌, List, length, ap, sym, ◌∙◌, arith}
 use Rattle.std.proofs.lemmas.List.{drop_all}
-use Rattle.cmm_tree.specs.Rows.{row_of, bindings_of, cases_of, handlers_of}
+use Rattle.cmm_tree.specs.Rows.{expressions_of, bindings_of, cases_of, handlers_of}
 use Rattle.cmm_tree.specs.View.{expr_view, form_view}
 use Rattle.cmm_tree.specs.declared.expr.Binding.{Binding}
 use Rattle.cmm_tree.specs.declared.expr.Case.{Case}
@@ -16,27 +16,27 @@ use Rattle.selection_scope.proofs.width.+width.Goals as goal
 pub with_expr-returns-in-Seq : goal.with_expr-returns-in-Seq
 with_expr-returns-in-Seq t c =
     let at = c.args.expr.now.at in
-    let whole : width (expr_view c.args.expr.now) ≡ suc (width_row (row_of c.as_slice-in-Seq.result.now)) =
-    ap (λ (f : Form). width (form_view at f)) c.in-Seq.is ∙ ap width (seq_view at c.in-Seq.elements) ∙ ap (λ (l : List Expr). suc (width_row (row_of l))) (sym c.as_slice-in-Seq.ensures.value) in
+    let whole : width (expr_view c.args.expr.now) ≡ suc (width_row (expressions_of c.as_slice-in-Seq.result.now)) =
+    ap (λ (f : Form). width (form_view at f)) c.in-Seq.is ∙ ap width (seq_view at c.in-Seq.elements) ∙ ap (λ (l : List Expr). suc (width_row (expressions_of l))) (sym c.as_slice-in-Seq.ensures.value) in
     omega (arith, whole)
 
 pub with_expr-returns-in-Exit : goal.with_expr-returns-in-Exit
 with_expr-returns-in-Exit t c =
     let at = c.args.expr.now.at in
-    let whole : width (expr_view c.args.expr.now) ≡ suc (width_row (row_of c.as_slice-in-Exit.result.now)) =
-    ap (λ (f : Form). width (form_view at f)) c.in-Exit.is ∙ ap width (exit_view at c.in-Exit.label_at c.in-Exit.label c.in-Exit.arguments) ∙ ap (λ (l : List Expr). suc (width_row (row_of l))) (sym c.as_slice-in-Exit.ensures.value) in
+    let whole : width (expr_view c.args.expr.now) ≡ suc (width_row (expressions_of c.as_slice-in-Exit.result.now)) =
+    ap (λ (f : Form). width (form_view at f)) c.in-Exit.is ∙ ap width (exit_view at c.in-Exit.label_at c.in-Exit.label c.in-Exit.arguments) ∙ ap (λ (l : List Expr). suc (width_row (expressions_of l))) (sym c.as_slice-in-Exit.ensures.value) in
     omega (arith, whole)
 
 pub with_expr-returns-in-Alloc : goal.with_expr-returns-in-Alloc
 with_expr-returns-in-Alloc t c =
     let at = c.args.expr.now.at in
-    let whole : width (expr_view c.args.expr.now) ≡ suc (suc (suc (width_row (row_of c.as_slice-in-Alloc.result.now)))) =
-    ap (λ (f : Form). width (form_view at f)) c.in-Alloc.is ∙ ap width (alloc_view at c.in-Alloc.header_at c.in-Alloc.header c.in-Alloc.operands) ∙ ap (λ (l : List Expr). suc (suc (suc (width_row (row_of l))))) (sym c.as_slice-in-Alloc.ensures.value) in
+    let whole : width (expr_view c.args.expr.now) ≡ suc (suc (suc (width_row (expressions_of c.as_slice-in-Alloc.result.now)))) =
+    ap (λ (f : Form). width (form_view at f)) c.in-Alloc.is ∙ ap width (alloc_view at c.in-Alloc.header_at c.in-Alloc.header c.in-Alloc.operands) ∙ ap (λ (l : List Expr). suc (suc (suc (width_row (expressions_of l))))) (sym c.as_slice-in-Alloc.ensures.value) in
     omega (arith, whole)
 
 pub with_row-returns : goal.with_row-returns
 with_row-returns t c =
-    let all = ap (λ l. width_row (row_of l)) (drop_all c.loop-expr.expr-index c.args.exprs.now c.loop-expr-test.false) in
+    let all = ap (λ l. width_row (expressions_of l)) (drop_all c.loop-expr.expr-index c.args.exprs.now c.loop-expr-test.false) in
     omega (arith, c.loop-expr.invariant.same, c.loop-expr.invariant.small, all)
 
 pub with_bindings-returns : goal.with_bindings-returns
@@ -67,20 +67,20 @@ with_expr-returns-in-Let t c =
 pub with_expr-returns-in-App : goal.with_expr-returns-in-App
 with_expr-returns-in-App t c =
     let at = c.args.expr.now.at in
-    let whole : width (expr_view c.args.expr.now) ≡ suc (suc (suc (width (expr_view c.deref-in-App.result.now) + (width_row (row_of c.as_slice-in-App.result.now) + count_of (row_of c.as_slice-in-App.result.now))))) =
+    let whole : width (expr_view c.args.expr.now) ≡ suc (suc (suc (width (expr_view c.deref-in-App.result.now) + (width_row (expressions_of c.as_slice-in-App.result.now) + count_of (expressions_of c.as_slice-in-App.result.now))))) =
     ap (λ (f : Form). width (form_view at f)) c.in-App.is
     ∙ ap width (app_view at c.in-App.callee c.in-App.arguments c.in-App.result c.in-App.result_at)
-    ∙ ap (λ (l : List Expr). suc (suc (suc (width (expr_view c.in-App.callee.value) + (width_row (row_of l) + count_of (row_of l)))))) (sym c.as_slice-in-App.ensures.value)
-    ∙ ap (λ (x : Expr). suc (suc (suc (width (expr_view x) + (width_row (row_of c.as_slice-in-App.result.now) + count_of (row_of c.as_slice-in-App.result.now)))))) (sym c.deref-in-App.ensures) in
+    ∙ ap (λ (l : List Expr). suc (suc (suc (width (expr_view c.in-App.callee.value) + (width_row (expressions_of l) + count_of (expressions_of l)))))) (sym c.as_slice-in-App.ensures.value)
+    ∙ ap (λ (x : Expr). suc (suc (suc (width (expr_view x) + (width_row (expressions_of c.as_slice-in-App.result.now) + count_of (expressions_of c.as_slice-in-App.result.now)))))) (sym c.deref-in-App.ensures) in
     omega (arith, whole, count-row c.as_slice-in-App.result.now, ap length c.as_slice-in-App.ensures.value, c.len.ensures)
 
 pub with_expr-returns-in-Extcall : goal.with_expr-returns-in-Extcall
 with_expr-returns-in-Extcall t c =
     let at = c.args.expr.now.at in
-    let whole : width (expr_view c.args.expr.now) ≡ suc (suc (width_row (row_of c.as_slice-in-Extcall.result.now) + count_of (row_of c.as_slice-in-Extcall.result.now))) =
+    let whole : width (expr_view c.args.expr.now) ≡ suc (suc (width_row (expressions_of c.as_slice-in-Extcall.result.now) + count_of (expressions_of c.as_slice-in-Extcall.result.now))) =
     ap (λ (f : Form). width (form_view at f)) c.in-Extcall.is
     ∙ ap width (extcall_view at c.in-Extcall.frame c.in-Extcall.name c.in-Extcall.arguments c.in-Extcall.result c.in-Extcall.result_at)
-    ∙ ap (λ (l : List Expr). suc (suc (width_row (row_of l) + count_of (row_of l)))) (sym c.as_slice-in-Extcall.ensures.value) in
+    ∙ ap (λ (l : List Expr). suc (suc (width_row (expressions_of l) + count_of (expressions_of l)))) (sym c.as_slice-in-Extcall.ensures.value) in
     omega (arith, whole, count-row c.as_slice-in-Extcall.result.now, ap length c.as_slice-in-Extcall.ensures.value, c.len-in-Extcall.ensures)
 
 pub with_expr-returns-in-Catch : goal.with_expr-returns-in-Catch

@@ -7,7 +7,7 @@ use Rattle.cmm_tree.specs.View.{item_view, function_view, data_list_view}
 use Rattle.cmm_data.specs.Placement.{DefinedValue, start_behind, items_from, end_behind, lists_behind, items_of_lists, defined_from, defined_by_list, value_among}
 use Rattle.bs_words.specs.Symbol.{caml_bound_error}
 use Rattle.cmm_data.specs.Faults.{first_fault}
-use Rattle.cmm_data.specs.Symbols.{value_in, Adds}
+use Rattle.cmm_data.specs.Symbols.{value_in, AddsDefinitions}
 use Rattle.cmm_data.proofs.Items.{map_drop-cons}
 use Rattle.cmm_data.proofs.Walk.{sound-list}
 use Rattle.cmm_data.proofs.Table.{adds-later, value_in-empty}
@@ -16,7 +16,7 @@ use Rattle.cmm_data.proofs.symbols.SymbolTable.of_file.Goals.{in-Function+in_ok-
 
 pub loop-item-init : goal.loop-item-init
 loop-item-init c =
-    let first : Adds (record { values = c.new.result }) c.define.new.self (record { name = caml_bound_error; value = value.Word 268435456 } ∷ []) = c.in_ok-define.ensures in
+    let first : AddsDefinitions (record { values = c.new.result }) c.define.new.self (record { name = caml_bound_error; value = value.Word 268435456 } ∷ []) = c.in_ok-define.ensures in
     record {
       within = omega arith;
       faultless = rw c.as_slice-item-items.ensures c.requires.data;
@@ -59,7 +59,7 @@ loop-item-preserved c = elim c.match-item.branch [
       map_drop-cons item_view items k c.item-item.result c.loop-item-test.true c.item-item.is
       ∙ ap (λ i. item_view i ∷ rest) w.in-Function.is in
       let d : DefinedValue = record { name = f.name; value = value.Function c.loop-item.functions } in
-      let adds : Adds c.loop-item.table w.define-in-Function.new.self (d ∷ []) = rw w.as_bytes.ensures at w.in_ok-define-in-Function.ensures in
+      let adds : AddsDefinitions c.loop-item.table w.define-in-Function.new.self (d ∷ []) = rw w.as_bytes.ensures at w.in_ok-define-in-Function.ensures in
       let next : suc c.loop-item.functions ≡ c.match-item.functions = omega (arith, w.functions-is) in
       let stays : c.loop-item.end ≡ c.match-item.end = sym w.end-is in
       record {
@@ -90,7 +90,7 @@ loop-item-preserved c = elim c.match-item.branch [
       ∙ ap (λ i. item_view i ∷ rest) w.in-Data.is in
       let sound = sound-list c.loop-item.end d (data_among rest)
       (sym (ap (λ (l : List ItemTree). first_fault (items_of_lists (lists_behind c.loop-item.end (data_among l)))) here) ∙ c.loop-item.invariant.faultless) in
-      let adds : Adds c.loop-item.table w.define_items.new.self (defined_by_list c.loop-item.end d) =
+      let adds : AddsDefinitions c.loop-item.table w.define_items.new.self (defined_by_list c.loop-item.end d) =
       rw (w.start_behind.ensures, w.as_slice.ensures) at w.in_ok-end-in-Data.ensures.adds in
       let behind : end_behind c.loop-item.end d ≡ c.match-item.end =
       cc (w.in_ok-end-in-Data.ensures.end, w.start_behind.ensures, w.as_slice.ensures, w.end-is) in

@@ -1,5 +1,5 @@
 use Rattle.std.proofs.Common.{◌∙◌, ap, sym}
-use Rattle.eval_frames.specs.Filled.{resume, fills, standing}
+use Rattle.eval_frames.specs.Filled.{resume, fills_frame, standing}
 use Rattle.eval_frames.specs.Around.{around_view}
 use Rattle.eval_frames.specs.Views.{here_view, world_view, stop_view}
 use Rattle.eval_frames.specs.declared.frame.Now.{Now}
@@ -13,4 +13,4 @@ returns-in-Stops-clause-meaning c =
     let f = c.args.frame in
     let h = here_view m.here in
     let w = world_view m.world in
-    ap (resume s m.frames.items) (sym (ap (λ (n : Now). fills s f (standing s n h w)) c.in-Stops.is ∙ does_stops s f.step f.form.now f.tail (stop_view c.in-Stops.why) w))
+    ap (resume s m.frames.items) (sym (ap (λ (n : Now). fills_frame s f (standing s n h w)) c.in-Stops.is ∙ does_stops s f.step f.form.now f.tail (stop_view c.in-Stops.why) w))

@@ -3,7 +3,7 @@ use Rattle.cmm_tree.specs.declared.expr.Form.{Form}
 use Rattle.cmm_tree.specs.declared.expr.Expr.{Expr}
 use Rattle.cmm_meaning.specs.State.{World, Here, taken, within_try, deepened}
 use Rattle.cmm_meaning.specs.Evaluation.{Evaluation, Surroundings, and_then, caught, tried}
-use Rattle.eval_frames.specs.Filled.{expression, bindings_from, body_of, handlers_of, handler_of}
+use Rattle.eval_frames.specs.Filled.{evaluated_expression, bindings_from, body_of, ready_handlers, evaluated_handler}
 use Rattle.eval_frames.specs.Held.{inside}
 use Rattle.eval_frames.specs.Views.{here_view, world_view}
 use Rattle.eval_frames.specs.declared.frame.Step.TheVariants as step
@@ -48,11 +48,11 @@ returns-in_ok-push-in-Catch-clause-meaning c s =
     let level_is : level ≡ length h.names = c.len-level.ensures ∙ count ∙ bounds_count m.here.names.items in
     let more : turns ≡ suc w.left = add-one m.world.left in
     stands_pushed_at s m c.push-in-Catch.new.self (record { form = c.args.form; tail = tail; step = step.Catch false turns level tries })
-    (expression s c.deref.result.now tail) (inside s f tail) p.here p.world p.frames
-    (ap (λ (e : Expr). caught s.end turns false (handlers_of s f tail) level tries (expression s e tail h w)) c.deref.ensures
-    ∙ ap (λ n. caught s.end n false (handlers_of s f tail) level tries (expression s body tail h w)) more
-    ∙ ap (λ n. caught s.end (suc w.left) false (handlers_of s f tail) n tries (expression s body tail h w)) level_is
-    ∙ subst (λ (f : Form). caught s.end (suc w.left) false (handlers_of s f tail) (length h.names) tries (expression s body tail h w) ≡ inside s f tail h w)
+    (evaluated_expression s c.deref.result.now tail) (inside s f tail) p.here p.world p.frames
+    (ap (λ (e : Expr). caught s.end turns false (ready_handlers s f tail) level tries (evaluated_expression s e tail h w)) c.deref.ensures
+    ∙ ap (λ n. caught s.end n false (ready_handlers s f tail) level tries (evaluated_expression s body tail h w)) more
+    ∙ ap (λ n. caught s.end (suc w.left) false (ready_handlers s f tail) n tries (evaluated_expression s body tail h w)) level_is
+    ∙ subst (λ (f : Form). caught s.end (suc w.left) false (ready_handlers s f tail) (length h.names) tries (evaluated_expression s body tail h w) ≡ inside s f tail h w)
     (sym c.in-Catch.is) refl)
 
 pub returns-in_ok-push-in-Try-clause-meaning : goal.returns-in_ok-push-in-Try-clause-meaning
@@ -69,11 +69,11 @@ returns-in_ok-push-in-Try-clause-meaning c =
     let body = c.in-Try.body.value in
     let count : vec_len m.here.names ≡ length m.here.names.items = omega (arith, m.here.names.ok.0) in
     let level_is : level ≡ length h.names = c.len-level.ensures ∙ count ∙ bounds_count m.here.names.items in
-    let begun : Surroundings → Expr → Here → World → Evaluation = λ s e h w. expression s e false (within_try h) (deepened (taken (within_try h)) w) in
+    let begun : Surroundings → Expr → Here → World → Evaluation = λ s e h w. evaluated_expression s e false (within_try h) (deepened (taken (within_try h)) w) in
     if_ok_then _ _ c.begin_try.result (λ now q s. q s
     ∙ stands_pushed_at s m n (record { form = c.args.form; tail = tail; step = step.Try level tries })
     (begun s c.deref-in-Try.result.now) (inside s f tail) p.here p.world p.frames
-    (ap (λ (e : Expr). tried (handler_of s f tail) level tries (begun s e h w)) c.deref-in-Try.ensures
-    ∙ ap (λ k. tried (handler_of s f tail) k tries (begun s body h w)) level_is
-    ∙ subst (λ (f : Form). tried (handler_of s f tail) (length h.names) tries (begun s body h w) ≡ inside s f tail h w)
+    (ap (λ (e : Expr). tried (evaluated_handler s f tail) level tries (begun s e h w)) c.deref-in-Try.ensures
+    ∙ ap (λ k. tried (evaluated_handler s f tail) k tries (begun s body h w)) level_is
+    ∙ subst (λ (f : Form). tried (evaluated_handler s f tail) (length h.names) tries (begun s body h w) ≡ inside s f tail h w)
     (sym c.in-Try.is) refl)) c.begin_try.ensures.meaning

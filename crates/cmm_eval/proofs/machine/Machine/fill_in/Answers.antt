@@ -1,7 +1,7 @@
 use Rattle.std.proofs.Common.{◌≡◌, ◌-◌, ◌<◌, ◌≤◌, Some, None, false, length, take, vec_len, reverse, ap, sym, ◌∙◌, arith}
 use Rattle.std.specs.Option.{option_flatten}
 use Rattle.cmm_tree.specs.declared.expr.Expr.{Expr}
-use Rattle.eval_frames.specs.Filled.{expression, fills_in}
+use Rattle.eval_frames.specs.Filled.{evaluated_expression, fills_in}
 use Rattle.eval_frames.specs.Around.{around_view}
 use Rattle.cmm_eval.specs.Stands.{goes_on_in}
 use Rattle.eval_frames.specs.Views.{here_view, world_view}
@@ -50,7 +50,7 @@ returns-in-None-clause-meaning c =
     let e = fills_in s c.args.form.now c.args.tail c.args.callee (reverse xs) (reverse c.args.row.waited.items) (reverse c.args.row.values.items) in
     let h = here_view m.here in
     let w = world_view m.world in
-    stands_pushed_at s m c.push-in-None.new.self _ (expression s x false) e p.here p.world p.frames
+    stands_pushed_at s m c.push-in-None.new.self _ (evaluated_expression s x false) e p.here p.world p.frames
     (fill_now s c.args.form.now c.args.tail c.args.callee xs left x old.items c.pop.new.self.items c.pop.result c.loop-left.values.items
     (last_first xs left x some within c.index-operands-left.is) before h w has
     ∙ c.loop-left.invariant.rest s h w)

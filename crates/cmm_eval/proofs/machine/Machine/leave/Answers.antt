@@ -3,7 +3,7 @@ use Rattle.cmm_tree.specs.View.{label_view, params_view}
 use Rattle.cmm_meaning.specs.State.{Here, back_in}
 use Rattle.cmm_meaning.specs.Evaluation.{NotProper, Evaluation, Exits, Stops, entered, scoped_parameter, with_bound, back, caught}
 use Rattle.cmm_meaning.specs.Choices.{ready_for}
-use Rattle.eval_frames.specs.Filled.{or_improper, expression, handlers_of, handler_ready, does, resume}
+use Rattle.eval_frames.specs.Filled.{or_improper, evaluated_expression, ready_handlers, handler_ready, does, resume}
 use Rattle.eval_frames.specs.Around.{around_view}
 use Rattle.cmm_eval.specs.Stands.{stands}
 use Rattle.eval_frames.specs.Views.{here_view, world_view}
@@ -26,7 +26,7 @@ returns-in-Some-first_misfit-clause-meaning c =
     let kind = c.in-Some-first_misfit.kind in
     let h = here_view m.here in
     let w = world_view m.world in
-    let ready : ready_for within label (handlers_of s f tail) ≡ Some (handler_ready s tail x) =
+    let ready : ready_for within label (ready_handlers s f tail) ≡ Some (handler_ready s tail x) =
     ap (ready_for within label) (c.handlers_of.ensures s tail)
     ∙ sym (c.handler_for.ensures s tail)
     ∙ ap (λ o. option_map (handler_ready s tail) (option_copied o)) c.in-Some.is in
@@ -60,7 +60,7 @@ returns-in-Catch-clause-meaning c =
     let q = c.in_ok-push-in-Catch-2.ensures in
     let n = c.push.new.self.frames.items in
     let new = c.push-in-Catch.new.self.frames.items in
-    let ready : ready_for within label (handlers_of s f tail) ≡ Some (handler_ready s tail x) =
+    let ready : ready_for within label (ready_handlers s f tail) ≡ Some (handler_ready s tail x) =
     ap (ready_for within label) (c.handlers_of.ensures s tail)
     ∙ sym (c.handler_for.ensures s tail)
     ∙ ap (λ o. option_map (handler_ready s tail) (option_copied o)) c.in-Some.is in
@@ -76,11 +76,11 @@ returns-in-Catch-clause-meaning c =
     ∙ ap (λ l. with_bound (map scoped_parameter (params_view l)) c.as_slice-in-Catch.result.now (here_view c.back_in.new.self)) c.as_slice-params.ensures.value
     ∙ ap (λ l. with_bound (map scoped_parameter (params_view x.params.items)) l (here_view c.back_in.new.self)) c.as_slice-in-Catch.ensures.value
     ∙ ap bind (c.back_in.ensures ∙ ap (λ (i : here.Here). back_in level tries (here_view i)) (q.here ∙ p.here)) in
-    let body = expression s x.body tail (bind (back_in level tries h)) w in
-    ap (λ (o : world.World). resume s new (expression s x.body tail (here_view c.bind_params.new.here) (world_view o))) (q.world ∙ p.world)
-    ∙ ap (λ (i : Here). resume s new (expression s x.body tail i w)) inner
+    let body = evaluated_expression s x.body tail (bind (back_in level tries h)) w in
+    ap (λ (o : world.World). resume s new (evaluated_expression s x.body tail (here_view c.bind_params.new.here) (world_view o))) (q.world ∙ p.world)
+    ∙ ap (λ (i : Here). resume s new (evaluated_expression s x.body tail i w)) inner
     ∙ pushed s n new _ body (back level tries body) q.frames refl
-    ∙ pushed s m.frames.items n _ (back level tries body) (caught s.end (turns - 1) true (handlers_of s f tail) level tries (back level tries body)) p.frames refl
+    ∙ pushed s m.frames.items n _ (back level tries body) (caught s.end (turns - 1) true (ready_handlers s f tail) level tries (back level tries body)) p.frames refl
     ∙ ap (resume s m.frames.items)
     (handler_begins s f tail within turns level tries label values h w c.if-turns-eq0.false x ready enters
     ∙ ap (λ st. does s st f tail (Exits label values h w)) (sym c.in-Catch.is))

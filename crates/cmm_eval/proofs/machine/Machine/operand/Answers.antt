@@ -1,5 +1,5 @@
 use Rattle.std.proofs.Common.{false, sym}
-use Rattle.eval_frames.specs.Filled.{expression}
+use Rattle.eval_frames.specs.Filled.{evaluated_expression}
 use Rattle.eval_frames.specs.Held.{inside}
 use Rattle.eval_frames.specs.Around.{around_view}
 use Rattle.eval_frames.specs.Views.{here_view, world_view}
@@ -13,5 +13,5 @@ returns-clause-meaning c =
     let s = around_view c.args.around.now in
     let m = c.args.self.now in
     stands_pushed_at s m c.push.new.self (record { form = c.args.form; tail = c.args.tail; step = step.Operand })
-    (expression s c.operand_of-expr.result.now false) (inside s c.args.form.now c.args.tail) p.here p.world p.frames
+    (evaluated_expression s c.operand_of-expr.result.now false) (inside s c.args.form.now c.args.tail) p.here p.world p.frames
     (sym (c.operand_of-expr.ensures s c.args.tail (here_view m.here) (world_view m.world)))

@@ -1,7 +1,7 @@
 use Rattle.std.proofs.Common.{false, sym, ap, ◌∙◌}
 use Rattle.cmm_tree.specs.declared.expr.Expr.{Expr}
 use Rattle.cmm_meaning.specs.Evaluation.{both}
-use Rattle.eval_frames.specs.Filled.{expression, left_of, right_of, joined_by, does}
+use Rattle.eval_frames.specs.Filled.{evaluated_expression, left_operand, right_of, joined_by, does}
 use Rattle.eval_frames.specs.Held.{inside}
 use Rattle.eval_frames.specs.Around.{around_view}
 use Rattle.eval_frames.specs.Views.{here_view, world_view}
@@ -19,9 +19,9 @@ returns-clause-meaning c =
     let t = c.is_left_first-left_first.result in
     let h = here_view m.here in
     let w = world_view m.world in
-    stands_pushed_at s m c.push.new.self (record { form = c.args.form; tail = c.args.tail; step = step.First t }) (expression s c.earlier.result.now false)
+    stands_pushed_at s m c.push.new.self (record { form = c.args.form; tail = c.args.tail; step = step.First t }) (evaluated_expression s c.earlier.result.now false)
     (inside s f c.args.tail) p.here p.world p.frames
-    (ap (λ (e : Expr). does s (step.First t) f c.args.tail (expression s e false h w)) c.earlier.ensures
+    (ap (λ (e : Expr). does s (step.First t) f c.args.tail (evaluated_expression s e false h w)) c.earlier.ensures
     ∙ both_begun s f t c.both_operands.result.0.now c.both_operands.result.1.now c.args.tail h w (c.both_operands.ensures.left s h w) (c.both_operands.ensures.right s h w)
-    ∙ ap (λ t. both t (left_of s f) (right_of s f) h w (λ a b h w. joined_by s f a b h w)) c.is_left_first-left_first.ensures
+    ∙ ap (λ t. both t (left_operand s f) (right_of s f) h w (λ a b h w. joined_by s f a b h w)) c.is_left_first-left_first.ensures
     ∙ sym (c.both_operands.ensures.whole s c.args.tail h w))

@@ -1,6 +1,6 @@
 use Rattle.std.proofs.Common.{false}
 use Rattle.std.specs.Prelude.{reverse}
-use Rattle.eval_frames.specs.Filled.{expression, operated_by}
+use Rattle.eval_frames.specs.Filled.{evaluated_expression, operated_by}
 use Rattle.eval_frames.specs.Around.{around_view}
 use Rattle.eval_frames.specs.declared.frame.Step.TheVariants as step
 use Rattle.cmm_eval.proofs.Resumed.{stands_pushed}
@@ -16,5 +16,5 @@ returns-in-App-clause-meaning c =
     let f = c.in-App in
     let values = reverse c.args.values.items in
     stands_pushed s c.args.self.now c.push.new.self (record { form = form; tail = tail; step = step.LateCallee c.args.values })
-    (expression s c.deref.result.now false) (λ h w. operated_by s form.now tail c.args.callee values h w) p.here p.world p.frames
+    (evaluated_expression s c.deref.result.now false) (λ h w. operated_by s form.now tail c.args.callee values h w) p.here p.world p.frames
     (λ h w. late_callee s form.now f.late f.arguments f.result f.result_at tail c.args.callee c.deref.result.now values f.is c.in-None.is c.deref.ensures h w)

@@ -2,7 +2,7 @@ use Rattle.std.proofs.Common.{◌≡◌, inl, inr, refl, subst, sym, ap, ◌∙�
 use Rattle.cmm_tree.specs.declared.expr.Form.{Form}
 use Rattle.cmm_meaning.specs.Evaluation.{Raises, back, with_bound}
 use Rattle.eval_frames.specs.Views.{here_view, world_view}
-use Rattle.eval_frames.specs.Filled.{does, resume, expression, handler_of}
+use Rattle.eval_frames.specs.Filled.{does, resume, evaluated_expression, evaluated_handler}
 use Rattle.eval_frames.specs.declared.frame.Step.{Step}
 use Rattle.eval_frames.specs.declared.frame.Step.TheVariants as step
 use Rattle.eval_frames.specs.declared.here.Here as here
@@ -22,11 +22,11 @@ returns-in-Try-form-clause-meaning c s =
     let name = c.in-Try-form.name in
     let count : vec_len c.back_in.new.self.names ≡ length c.back_in.new.self.names.items = omega (arith, c.back_in.new.self.names.ok.0) in
     let p = c.in_ok-push-in-Try-form.ensures in
-    ap (λ (w : world.World). resume s c.push.new.self.frames.items (expression s c.deref.result.now tail (here_view c.bind.new.self) (world_view w))) p.world
+    ap (λ (w : world.World). resume s c.push.new.self.frames.items (evaluated_expression s c.deref.result.now tail (here_view c.bind.new.self) (world_view w))) p.world
     ∙ try_handles s m.frames.items c.push.new.self.frames.items form tail c.in-Try.level c.in-Try.tries c.len-level.result v h back_here (here_view c.bind.new.self) w
     name c.in-Try-form.handler.value c.deref.result.now p.frames c.back_in.ensures (c.len-level.ensures ∙ count ∙ bounds_count c.back_in.new.self.names.items)
     (c.in_ok-bind-in-Try-form.ensures ∙ ap (λ (i : here.Here). with_bound (raised name ∷ []) (v ∷ []) (here_view i)) p.here) c.deref.ensures
-    (λ h w. subst (λ (f : Form). handler_of s f tail v h w ≡ back (length h.names) h.tries (expression s c.in-Try-form.handler.value tail (with_bound (raised name ∷ []) (v ∷ []) h) w))
+    (λ h w. subst (λ (f : Form). evaluated_handler s f tail v h w ≡ back (length h.names) h.tries (evaluated_expression s c.in-Try-form.handler.value tail (with_bound (raised name ∷ []) (v ∷ []) h) w))
     (sym c.in-Try-form.is) refl)
     ∙ ap (λ (st : Step). resume s m.frames.items (does s st form.now tail (Raises v h w))) (sym c.in-Try.is)
 

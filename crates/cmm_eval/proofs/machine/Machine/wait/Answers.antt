@@ -3,7 +3,7 @@ use Rattle.cmm_tree.specs.View.{expr_view}
 use Rattle.cmm_types.specs.Light.{is_light_address}
 use Rattle.cmm_meaning.specs.State.{Here, scope}
 use Rattle.cmm_meaning.specs.Evaluation.{with_value}
-use Rattle.eval_frames.specs.Filled.{expression, waits_for}
+use Rattle.eval_frames.specs.Filled.{evaluated_expression, waits_for}
 use Rattle.eval_frames.specs.Around.{around_view}
 use Rattle.cmm_eval.specs.Stands.{goes_on_in}
 use Rattle.eval_frames.specs.Views.{here_view, world_view}
@@ -51,8 +51,8 @@ returns-then-not-is_light_address-clause-meaning c =
     ∙ c.if-not-is_light_address.true in
     let p = c.in_ok-push.ensures in
     let e = waits_for s f tail (reverse xs) (reverse c.args.values.items) in
-    stands_pushed_at s m c.push.new.self _ (expression s x false) e p.here p.world p.frames
-    (subst (λ (h : Here). with_value (expression s x false h w)
+    stands_pushed_at s m c.push.new.self _ (evaluated_expression s x false) e p.here p.world p.frames
+    (subst (λ (h : Here). with_value (evaluated_expression s x false h w)
     (λ v h w. waits_for s f tail (reverse (take (left - 1) xs)) (Some v ∷ reverse c.loop-left.values.items) h w) ≡ e h w)
     (ap (λ m. here_view m.here) (sym c.loop-left.invariant.same))
     (wait_other s f tail xs left x c.loop-left.values.items (last_first xs left x some within c.index-operands-left.is) h w other

@@ -6,7 +6,7 @@ use Rattle.cmm_types.specs.Types.{with_bindings, with_parameters, type_without_f
 use Rattle.cmm_tree.specs.Symbols.{definition_of}
 use Rattle.cmm_tree.specs.View.{expr_view, params_view, label_view}
 use Rattle.cmm_types.specs.declared.role.Role.TheVariants as roles
-use Rattle.cmm_tree.specs.Rows.{row_of, bindings_of, cases_of, handlers_of}
+use Rattle.cmm_tree.specs.Rows.{expressions_of, bindings_of, cases_of, handlers_of}
 use Rattle.cmm_types.specs.Annotated.{IsAnnotated}
 use Rattle.cmm_types.specs.Lists.{AreAnnotated, AreBindingsAnnotated, AreCasesAnnotated, AreHandlersAnnotated, with_binding}
 use Rattle.cmm_types.specs.Gathered.{row_faults, bindings_faults, cases_faults, handlers_faults}
@@ -44,13 +44,13 @@ operands-loop-index-preserved t c =
       unvisited = (length-set xs c.loop-index.index new ∙ c.loop-index.invariant.unvisited.0, λ k d h. let ne : k ≢ c.loop-index.index = omega arith in rw get_or-set_other (c.loop-index.invariant.unvisited.1 k d (omega arith)));
       view = row_of-set xs c.loop-index.index old new lt at c.in_ok-seen.ensures.view ∙ inv.view;
       typed = annotated-set before.names xs c.loop-index.index new lt inv.typed (subst (λ n. IsAnnotated n new) inv.noting.names c.in_ok-seen.ensures.typed);
-      noting = subst (λ k. Noting before c.operand.new.self (row_faults c.args.role d before.names before.labels (row_of k)) (row_faults c.args.role d before.names before.labels (row_of c.args.exprs.now))) (sym same)
+      noting = subst (λ k. Noting before c.operand.new.self (row_faults c.args.role d before.names before.labels (expressions_of k)) (row_faults c.args.role d before.names before.labels (expressions_of c.args.exprs.now))) (sym same)
           (row_turn c.args.role d xs c.loop-index.index old before c.loop-index.self c.operand.new.self _ lt at inv.noting c.in_ok-seen.ensures.names c.in_ok-seen.ensures.labels c.in_ok-seen.ensures.found);
-      plain = ap (λ k. last_or before.names c.in_ok-seen.seen.plain (row_of k)) same
+      plain = ap (λ k. last_or before.names c.in_ok-seen.seen.plain (expressions_of k)) same
           ∙ last_turn before.names xs c.loop-index.index old c.loop-index.plain c.in_ok-seen.seen.plain lt at (c.in_ok-seen.ensures.plain ∙ ap (λ n. type_without_float n (expr_view old)) inv.noting.names)
           ∙ inv.plain;
-      float = ap (λ b. b || row_holds_float (row_of (drop (c.loop-index.index + 1) (set xs c.loop-index.index new)))) c.either-float.ensures
-          ∙ ap (λ k. (c.loop-index.float || c.in_ok-seen.seen.float) || row_holds_float (row_of k)) same
+      float = ap (λ b. b || row_holds_float (expressions_of (drop (c.loop-index.index + 1) (set xs c.loop-index.index new)))) c.either-float.ensures
+          ∙ ap (λ k. (c.loop-index.float || c.in_ok-seen.seen.float) || row_holds_float (expressions_of k)) same
           ∙ row_float_turn xs c.loop-index.index old c.loop-index.float c.in_ok-seen.seen.float lt at c.in_ok-seen.ensures.float
           ∙ inv.float;
     }
@@ -70,20 +70,20 @@ operands-returns-clause-labels t c = c.loop-index.invariant.noting.labels
 
 pub operands-returns-clause-found : goal.operands-returns-clause-found
 operands-returns-clause-found t c =
-    sym (at_drop_all (λ k. noted_all (row_faults c.args.role (definition_of c.args.symbols.now) c.args.self.now.names c.args.self.now.labels (row_of k)) c.loop-index.self.found) c.loop-index.exprs c.loop-index.index (omega arith))
+    sym (at_drop_all (λ k. noted_all (row_faults c.args.role (definition_of c.args.symbols.now) c.args.self.now.names c.args.self.now.labels (expressions_of k)) c.loop-index.self.found) c.loop-index.exprs c.loop-index.index (omega arith))
     ∙ c.loop-index.invariant.noting.found
 
 pub operands-returns-clause-float : goal.operands-returns-clause-float
 operands-returns-clause-float t c =
     sym (or-false c.loop-index.float)
-    ∙ sym (at_drop_all (λ k. c.loop-index.float || row_holds_float (row_of k)) c.loop-index.exprs c.loop-index.index (omega arith))
+    ∙ sym (at_drop_all (λ k. c.loop-index.float || row_holds_float (expressions_of k)) c.loop-index.exprs c.loop-index.index (omega arith))
     ∙ c.loop-index.invariant.float
 
 pub operands-returns-clause-plain : goal.operands-returns-clause-plain
 operands-returns-clause-plain t c =
-    sym (at_drop_all (λ k. last_or c.args.self.now.names c.loop-index.plain (row_of k)) c.loop-index.exprs c.loop-index.index (omega arith))
+    sym (at_drop_all (λ k. last_or c.args.self.now.names c.loop-index.plain (expressions_of k)) c.loop-index.exprs c.loop-index.index (omega arith))
     ∙ c.loop-index.invariant.plain
-    ∙ last_is c.args.self.now.names (row_of c.args.exprs.now)
+    ∙ last_is c.args.self.now.names (expressions_of c.args.exprs.now)
 
 -- ---- cases
 
@@ -287,7 +287,7 @@ pub visit_row-returns-in_ok-row-in-Float-clause-found : goal.visit_row-returns-i
 visit_row-returns-in_ok-row-in-Float-clause-found t c =
     told (definition_of c.args.symbols.now) c.args.self.now.names c.args.self.now.labels c.args.self.now.found c.row.new.self.found
     (ap (form_view c.args.at) c.in-Float.is ∙ float_view c.args.at c.in-Float.word_at c.in-Float.operands)
-    (float_found (definition_of c.args.symbols.now) c.args.self.now.names c.args.self.now.labels c.args.self.now.found c.args.at c.in-Float.word_at (row_of c.in-Float.operands.items) c.note.ensures.names c.note.ensures.labels c.in-Float.word_at-is (row_same c.in-Float.operands-is) c.note.ensures.found c.in_ok-row-in-Float.ensures.found)
+    (float_found (definition_of c.args.symbols.now) c.args.self.now.names c.args.self.now.labels c.args.self.now.found c.args.at c.in-Float.word_at (expressions_of c.in-Float.operands.items) c.note.ensures.names c.note.ensures.labels c.in-Float.word_at-is (row_same c.in-Float.operands-is) c.note.ensures.found c.in_ok-row-in-Float.ensures.found)
 
 pub visit_row-returns-in_ok-seen-in-Alloc-clause-view : goal.visit_row-returns-in_ok-seen-in-Alloc-clause-view
 visit_row-returns-in_ok-seen-in-Alloc-clause-view t c =
@@ -301,7 +301,7 @@ pub visit_row-returns-in_ok-seen-in-Alloc-clause-found : goal.visit_row-returns-
 visit_row-returns-in_ok-seen-in-Alloc-clause-found t c =
     told (definition_of c.args.symbols.now) c.args.self.now.names c.args.self.now.labels c.args.self.now.found c.row-in-Alloc.new.self.found
     (ap (form_view c.args.at) c.in-Alloc.is ∙ alloc_view c.args.at c.in-Alloc.header_at c.in-Alloc.header c.in-Alloc.operands)
-    (alloc_found (definition_of c.args.symbols.now) c.args.self.now.names c.args.self.now.labels c.args.self.now.found c.args.at c.in-Alloc.header_at c.in-Alloc.header (row_of c.in-Alloc.operands.items) c.note_if.ensures.names c.note_if.ensures.labels c.in-Alloc.header_at-is c.in-Alloc.header-is (row_same c.in-Alloc.operands-is) (c.len.ensures ∙ ap vec_len c.in-Alloc.operands-is ∙ count_is c.in-Alloc.operands) c.is_header-fits.ensures c.note_if.ensures.found c.in_ok-seen-in-Alloc.ensures.found)
+    (alloc_found (definition_of c.args.symbols.now) c.args.self.now.names c.args.self.now.labels c.args.self.now.found c.args.at c.in-Alloc.header_at c.in-Alloc.header (expressions_of c.in-Alloc.operands.items) c.note_if.ensures.names c.note_if.ensures.labels c.in-Alloc.header_at-is c.in-Alloc.header-is (row_same c.in-Alloc.operands-is) (c.len.ensures ∙ ap vec_len c.in-Alloc.operands-is ∙ count_is c.in-Alloc.operands) c.is_header-fits.ensures c.note_if.ensures.found c.in_ok-seen-in-Alloc.ensures.found)
 
 pub visit_row-returns-in_ok-seen-in-Alloc-clause-float : goal.visit_row-returns-in_ok-seen-in-Alloc-clause-float
 visit_row-returns-in_ok-seen-in-Alloc-clause-float t c =
@@ -340,7 +340,7 @@ pub visit_row-returns-in_ok-passed-in-Exit-clause-found : goal.visit_row-returns
 visit_row-returns-in_ok-passed-in-Exit-clause-found t c =
     told (definition_of c.args.symbols.now) c.args.self.now.names c.args.self.now.labels c.args.self.now.found c.row-in-Exit.new.self.found
     (ap (form_view c.args.at) c.in-Exit.is ∙ exit_view c.args.at c.in-Exit.label_at c.in-Exit.label c.in-Exit.arguments)
-    (exit_found (definition_of c.args.symbols.now) c.args.self.now.names c.args.self.now.labels c.args.self.now.found c.args.at c.in-Exit.label_at (label_view c.in-Exit.label) (row_of c.in-Exit.arguments.items) c.note_exit.ensures.names c.note_exit.ensures.labels c.in-Exit.label_at-is (ap label_view c.in-Exit.label-is) (row_same c.in-Exit.arguments-is) (c.len-in-Exit.ensures ∙ ap vec_len c.in-Exit.arguments-is ∙ count_is c.in-Exit.arguments) c.note_exit.ensures.found c.in_ok-passed-in-Exit.ensures.found)
+    (exit_found (definition_of c.args.symbols.now) c.args.self.now.names c.args.self.now.labels c.args.self.now.found c.args.at c.in-Exit.label_at (label_view c.in-Exit.label) (expressions_of c.in-Exit.arguments.items) c.note_exit.ensures.names c.note_exit.ensures.labels c.in-Exit.label_at-is (ap label_view c.in-Exit.label-is) (row_same c.in-Exit.arguments-is) (c.len-in-Exit.ensures ∙ ap vec_len c.in-Exit.arguments-is ∙ count_is c.in-Exit.arguments) c.note_exit.ensures.found c.in_ok-passed-in-Exit.ensures.found)
 
 pub visit_row-returns-in_ok-passed-in-Exit-clause-float : goal.visit_row-returns-in_ok-passed-in-Exit-clause-float
 visit_row-returns-in_ok-passed-in-Exit-clause-float t c =
@@ -360,11 +360,11 @@ pub visit_call-returns-in_ok-passed-in-App-clause-found : goal.visit_call-return
 visit_call-returns-in_ok-passed-in-App-clause-found t c =
     told (definition_of c.args.symbols.now) c.args.self.now.names c.args.self.now.labels c.args.self.now.found c.row.new.self.found
     (ap (form_view c.args.at) c.in-App.is ∙ app_view c.args.at c.in-App.callee c.in-App.arguments c.in-App.given c.in-App.result_at)
-    (app_found (definition_of c.args.symbols.now) c.args.self.now.names c.args.self.now.labels c.args.self.now.found c.args.at (expr_view c.in-App.callee.value) (row_of c.in-App.arguments.items) c.in-App.given c.in-App.result_at c.note_call.ensures.names c.note_call.ensures.labels c.note_result.ensures.names c.note_result.ensures.labels c.in_ok-called-in-App.ensures.names c.in_ok-called-in-App.ensures.labels (lent_same c.deref.ensures c.in-App.callee-is) (lent_same c.deref_mut.ensures.value c.in-App.callee-is) (row_same c.in-App.arguments-is) (c.len.ensures ∙ ap vec_len c.in-App.arguments-is ∙ count_is c.in-App.arguments) c.in-App.given-is c.in-App.result_at-is c.note_call.ensures.found c.note_result.ensures.found c.in_ok-called-in-App.ensures.found c.in_ok-passed-in-App.ensures.found)
+    (app_found (definition_of c.args.symbols.now) c.args.self.now.names c.args.self.now.labels c.args.self.now.found c.args.at (expr_view c.in-App.callee.value) (expressions_of c.in-App.arguments.items) c.in-App.given c.in-App.result_at c.note_call.ensures.names c.note_call.ensures.labels c.note_result.ensures.names c.note_result.ensures.labels c.in_ok-called-in-App.ensures.names c.in_ok-called-in-App.ensures.labels (lent_same c.deref.ensures c.in-App.callee-is) (lent_same c.deref_mut.ensures.value c.in-App.callee-is) (row_same c.in-App.arguments-is) (c.len.ensures ∙ ap vec_len c.in-App.arguments-is ∙ count_is c.in-App.arguments) c.in-App.given-is c.in-App.result_at-is c.note_call.ensures.found c.note_result.ensures.found c.in_ok-called-in-App.ensures.found c.in_ok-passed-in-App.ensures.found)
 
 pub visit_call-returns-in_ok-passed-in-App-clause-float : goal.visit_call-returns-in_ok-passed-in-App-clause-float
 visit_call-returns-in_ok-passed-in-App-clause-float t c =
-    float_by _ (ap (form_view c.args.at) c.in-App.is ∙ app_view c.args.at c.in-App.callee c.in-App.arguments c.in-App.given c.in-App.result_at) (app_float (expr_view c.in-App.callee.value) (row_of c.in-App.arguments.items) c.in-App.given (lent_same c.deref_mut.ensures.value c.in-App.callee-is) (row_same c.in-App.arguments-is) c.in-App.given-is c.either-in-App.ensures c.either.ensures c.in_ok-called-in-App.ensures.float c.in_ok-passed-in-App.ensures.float c.is_float_ret.ensures)
+    float_by _ (ap (form_view c.args.at) c.in-App.is ∙ app_view c.args.at c.in-App.callee c.in-App.arguments c.in-App.given c.in-App.result_at) (app_float (expr_view c.in-App.callee.value) (expressions_of c.in-App.arguments.items) c.in-App.given (lent_same c.deref_mut.ensures.value c.in-App.callee-is) (row_same c.in-App.arguments-is) c.in-App.given-is c.either-in-App.ensures c.either.ensures c.in_ok-called-in-App.ensures.float c.in_ok-passed-in-App.ensures.float c.is_float_ret.ensures)
 
 pub visit_call-returns-in_ok-passed-in-Extcall-clause-view : goal.visit_call-returns-in_ok-passed-in-Extcall-clause-view
 visit_call-returns-in_ok-passed-in-Extcall-clause-view t c =
@@ -382,12 +382,12 @@ pub visit_call-returns-in_ok-passed-in-Extcall-clause-found : goal.visit_call-re
 visit_call-returns-in_ok-passed-in-Extcall-clause-found t c =
     told (definition_of c.args.symbols.now) c.args.self.now.names c.args.self.now.labels c.args.self.now.found c.row-in-Extcall.new.self.found
     (ap (form_view c.args.at) c.in-Extcall.is ∙ extcall_view c.args.at c.in-Extcall.frame c.in-Extcall.name c.in-Extcall.arguments c.in-Extcall.given c.in-Extcall.result_at)
-    (extcall_found (definition_of c.args.symbols.now) c.args.self.now.names c.args.self.now.labels c.args.self.now.found c.args.at c.in-Extcall.frame c.in-Extcall.name (row_of c.in-Extcall.arguments.items) c.in-Extcall.given c.in-Extcall.result_at c.note_result-in-Extcall.ensures.names c.note_result-in-Extcall.ensures.labels (row_same c.in-Extcall.arguments-is) c.in-Extcall.given-is c.in-Extcall.result_at-is c.note_result-in-Extcall.ensures.found c.in_ok-passed-in-Extcall.ensures.found)
+    (extcall_found (definition_of c.args.symbols.now) c.args.self.now.names c.args.self.now.labels c.args.self.now.found c.args.at c.in-Extcall.frame c.in-Extcall.name (expressions_of c.in-Extcall.arguments.items) c.in-Extcall.given c.in-Extcall.result_at c.note_result-in-Extcall.ensures.names c.note_result-in-Extcall.ensures.labels (row_same c.in-Extcall.arguments-is) c.in-Extcall.given-is c.in-Extcall.result_at-is c.note_result-in-Extcall.ensures.found c.in_ok-passed-in-Extcall.ensures.found)
 
 pub visit_call-returns-in_ok-passed-in-Extcall-clause-float : goal.visit_call-returns-in_ok-passed-in-Extcall-clause-float
 visit_call-returns-in_ok-passed-in-Extcall-clause-float t c =
     let same = row_same c.in-Extcall.arguments-is in
-    float_by _ (ap (form_view c.args.at) c.in-Extcall.is ∙ extcall_view c.args.at c.in-Extcall.frame c.in-Extcall.name c.in-Extcall.arguments c.in-Extcall.given c.in-Extcall.result_at) (or_of (row_holds_float (row_of c.in-Extcall.arguments.items)) (is_float_result c.in-Extcall.given) c.either-in-Extcall.ensures (c.in_ok-passed-in-Extcall.ensures.float ∙ ap row_holds_float same) (c.is_float_ret-in-Extcall.ensures ∙ ap is_float_result c.in-Extcall.given-is))
+    float_by _ (ap (form_view c.args.at) c.in-Extcall.is ∙ extcall_view c.args.at c.in-Extcall.frame c.in-Extcall.name c.in-Extcall.arguments c.in-Extcall.given c.in-Extcall.result_at) (or_of (row_holds_float (expressions_of c.in-Extcall.arguments.items)) (is_float_result c.in-Extcall.given) c.either-in-Extcall.ensures (c.in_ok-passed-in-Extcall.ensures.float ∙ ap row_holds_float same) (c.is_float_ret-in-Extcall.ensures ∙ ap is_float_result c.in-Extcall.given-is))
 
 pub visit_branch-returns-in_ok-seen-in-Switch-clause-view : goal.visit_branch-returns-in_ok-seen-in-Switch-clause-view
 visit_branch-returns-in_ok-seen-in-Switch-clause-view t c =

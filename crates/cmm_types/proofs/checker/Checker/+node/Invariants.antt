@@ -1,7 +1,7 @@
 use Rattle.std.proofs.Common.{◌≡◌, ◌||◌, drop, take}
 use Rattle.cmm_types.specs.Types.{with_bindings, row_holds_float, type_of_cases, type_of_handlers, bindings_hold_float, cases_hold_float, handlers_hold_float, join}
 use Rattle.cmm_tree.specs.Symbols.{definition_of}
-use Rattle.cmm_tree.specs.Rows.{row_of, bindings_of, cases_of, handlers_of}
+use Rattle.cmm_tree.specs.Rows.{expressions_of, bindings_of, cases_of, handlers_of}
 use Rattle.cmm_types.specs.Lists.{AreAnnotated, AreBindingsAnnotated, AreCasesAnnotated, AreHandlersAnnotated}
 use Rattle.cmm_types.specs.Gathered.{row_faults, bindings_faults, cases_faults, handlers_faults}
 use Rattle.bs_fault.specs.Reported.{noted_all}
@@ -12,11 +12,11 @@ abbrev pub invariant-operands-loop-index : goal.invariant-operands-loop-index
 invariant-operands-loop-index l =
     record {
       unvisited : goal.unvisited-operands-loop-index l;
-      view : row_of l.exprs ≡ row_of l.initial.exprs;
+      view : expressions_of l.exprs ≡ expressions_of l.initial.exprs;
       typed : AreAnnotated l.initial.self.names (take l.index l.exprs);
-      noting : Noting l.initial.self l.self (row_faults l.role (definition_of l.symbols) l.initial.self.names l.initial.self.labels (row_of (drop l.index l.exprs))) (row_faults l.role (definition_of l.symbols) l.initial.self.names l.initial.self.labels (row_of l.initial.exprs));
-      plain : last_or l.initial.self.names l.plain (row_of (drop l.index l.exprs)) ≡ last_or l.initial.self.names l.initial.plain (row_of l.initial.exprs);
-      float : (l.float || row_holds_float (row_of (drop l.index l.exprs))) ≡ row_holds_float (row_of l.initial.exprs);
+      noting : Noting l.initial.self l.self (row_faults l.role (definition_of l.symbols) l.initial.self.names l.initial.self.labels (expressions_of (drop l.index l.exprs))) (row_faults l.role (definition_of l.symbols) l.initial.self.names l.initial.self.labels (expressions_of l.initial.exprs));
+      plain : last_or l.initial.self.names l.plain (expressions_of (drop l.index l.exprs)) ≡ last_or l.initial.self.names l.initial.plain (expressions_of l.initial.exprs);
+      float : (l.float || row_holds_float (expressions_of (drop l.index l.exprs))) ≡ row_holds_float (expressions_of l.initial.exprs);
     }
 
 abbrev pub invariant-bind_all-loop-index : goal.invariant-bind_all-loop-index
