@@ -1,7 +1,7 @@
 -- The lines that the program writes for faults of a text.
 use Rattle.std.specs.Prelude.{ℕ, List, ◌++◌, codes}
 use Rattle.std.specs.Fmt.{decimal}
-pub use Rattle.bs_fault.specs.Order.{fault_number, fault_place}
+use Rattle.bs_fault.specs.Order.{fault_number, fault_place}
 use Rattle.bs_fault.specs.declared.fault.Fault.{Fault}
 use Rattle.bs_fault.specs.declared.fault.Fault.TheVariants.{TooLong, BadToken, Unclosed, Unexpected, TooDeep, IntRange, TooManyParams, FunctionTooLong, DataTooLarge, DataItem, Unbound, UnknownSymbol, DuplicateSymbol, Arity, NoValue, NotMutable, AllocHeader, UnknownLabel, Float, AddrLive, AddrArgument, SwitchSize}
 

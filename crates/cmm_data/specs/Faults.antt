@@ -4,7 +4,7 @@ use Rattle.bs_words.specs.Fits.{data_start, data_limit}
 use Rattle.bs_words.specs.Word.{signed_of}
 use Rattle.bs_fault.specs.declared.fault.Fault.{Fault}
 use Rattle.bs_fault.specs.declared.fault.Fault.TheVariants.{DataTooLarge, DataItem}
-use Rattle.bs_fault.specs.FaultLines.{fault_place}
+use Rattle.bs_fault.specs.Order.{fault_place}
 use Rattle.cmm_tree.specs.Tree.{DatumTree, Byte, Half, Val, Address, Skip, Align, FileTree}
 use Rattle.cmm_data.specs.Placement.{PlacedItem, placed_items, size_at, is_unit, is_negative}
 

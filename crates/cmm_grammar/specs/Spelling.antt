@@ -35,7 +35,8 @@ pub data Spells : (s : Sort) → ℕ → Rule s → Value s → List TokenTree �
       → is_open o ≡ true
       → Spells s d (r o.at) a xs
       → Spells s (suc d) (Inside s r) a (o ∷ xs)
-  inside_first : (s t : Sort) (d : ℕ) (r : ℕ → Rule s) (k : Value s → Rule t) (other : Rule t) (o : TokenTree) (a : Value s) (b : Value t) (xs ys : List TokenTree)
+  inside_first : (s t : Sort) (d : ℕ) (r : ℕ → Rule s)
+      (k : Value s → Rule t) (other : Rule t) (o : TokenTree) (a : Value s) (b : Value t) (xs ys : List TokenTree)
       → is_open o ≡ true
       → Spells s d (r o.at) a xs
       → Spells t (suc d) (k a) b ys
@@ -44,13 +45,15 @@ pub data Spells : (s : Sort) → ℕ → Rule s → Value s → List TokenTree �
       → is_open u ≡ false
       → Spells t d other b (u ∷ ys)
       → Spells t d (InsideOr s t r k other) b (u ∷ ys)
-  labelled : (s t : Sort) (d : ℕ) (r : TokenTree → Rule s) (k : Value s → Rule t) (other : Expression → Rule t) (o n : TokenTree) (a : Value s) (b : Value t) (xs ys : List TokenTree)
+  labelled : (s t : Sort) (d : ℕ) (r : TokenTree → Rule s)
+      (k : Value s → Rule t) (other : Expression → Rule t) (o n : TokenTree) (a : Value s) (b : Value t) (xs ys : List TokenTree)
       → is_open o ≡ true
       → is_name n ≡ true
       → Spells s d (r n) a xs
       → Spells t (suc d) (k a) b ys
       → Spells t (suc d) (LabelledOr s t r k other) b (o ∷ n ∷ (xs ++ ys))
-  not_labelled : (s t : Sort) (d : ℕ) (r : TokenTree → Rule s) (k : Value s → Rule t) (other : Expression → Rule t) (e : Expression) (b : Value t) (xs ys : List TokenTree)
+  not_labelled : (s t : Sort) (d : ℕ) (r : TokenTree → Rule s)
+      (k : Value s → Rule t) (other : Expression → Rule t) (e : Expression) (b : Value t) (xs ys : List TokenTree)
       → is_labelled xs ≡ false
       → Spells AnExpression d Expr e xs
       → Spells t d (other e) b ys
@@ -60,12 +63,14 @@ pub data Spells : (s : Sort) → ℕ → Rule s → Value s → List TokenTree �
       → stop u ≡ true
       → Spells t d (k []) b (u ∷ ys)
       → Spells t d (Until s t stop r k) b (u ∷ ys)
-  one_more : (s t : Sort) (d : ℕ) (stop : TokenTree → Bool) (r : Rule s) (k : List (Value s) → Rule t) (u : TokenTree) (a : Value s) (b : Value t) (xs ys : List TokenTree)
+  one_more : (s t : Sort) (d : ℕ) (stop : TokenTree → Bool) (r : Rule s)
+      (k : List (Value s) → Rule t) (u : TokenTree) (a : Value s) (b : Value t) (xs ys : List TokenTree)
       → stop u ≡ false
       → Spells s d r a (u ∷ xs)
       → Spells t d (Until s t stop r (λ rest. k (a ∷ rest))) b ys
       → Spells t d (Until s t stop r k) b (u ∷ (xs ++ ys))
-  present : (s t : Sort) (d : ℕ) (f : TokenTree → Option (Value s)) (k : Option (Value s) → Rule t) (u : TokenTree) (a : Value s) (b : Value t) (ys : List TokenTree)
+  present : (s t : Sort) (d : ℕ) (f : TokenTree → Option (Value s))
+      (k : Option (Value s) → Rule t) (u : TokenTree) (a : Value s) (b : Value t) (ys : List TokenTree)
       → f u ≡ Some a
       → Spells t d (k (Some a)) b ys
       → Spells t d (Maybe s t f k) b (u ∷ ys)

@@ -1,7 +1,7 @@
 -- One fault is reported: of faults whose place and number say all, the leftmost is determined.
 use Rattle.std.proofs.Common.{◌≡◌, ℕ, ◌==◌, Bool, true, false, cond, List, [], ◌∷◌, Option, Some, None, inl, inr, refl, sym, ap, ◌∙◌}
 use Rattle.std.proofs.lemmas.Bool.{cases_order}
-use Rattle.bs_fault.specs.FaultLines.{fault_place}
+use Rattle.bs_fault.specs.Order.{fault_place}
 use Rattle.bs_fault.specs.declared.fault.Fault.{Fault}
 use Rattle.bs_fault.specs.declared.fault.Fault.TheVariants.{TooLong, BadToken, Unclosed, Unexpected, TooDeep, IntRange, TooManyParams, FunctionTooLong, DataTooLarge, DataItem, Unbound, UnknownSymbol, DuplicateSymbol, Arity, NoValue, NotMutable, AllocHeader, UnknownLabel, AddrLive, AddrArgument, SwitchSize}
 use Rattle.bs_fault.specs.declared.fault.Fault.TheVariants as fault

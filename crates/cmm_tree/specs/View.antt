@@ -51,18 +51,23 @@ abbrev mutual
   form_view at (form.Assign' name_at name p value_at value_ty value) = tree.Assign at name_at name (form_view value_at value)
   form_view at (form.Operator' op p left_at left_ty left q right_at right_ty right) = tree.Operator at op (form_view left_at left) (form_view right_at right)
   form_view at (form.Load' chunk p address_at address_ty address) = tree.Load at chunk (form_view address_at address)
-  form_view at (form.Store' chunk p address_at address_ty address q value_at value_ty value) = tree.Store at chunk (form_view address_at address) (form_view value_at value)
+  form_view at (form.Store' chunk p address_at address_ty address q value_at value_ty value) =
+      tree.Store at chunk (form_view address_at address) (form_view value_at value)
   form_view at (form.Alloc' header_at header shape operands) = tree.Alloc at header_at header (row_view operands)
-  form_view at (form.App' p callee_at callee_ty callee shape arguments result result_at) = tree.App at (form_view callee_at callee) (row_view arguments) result result_at
+  form_view at (form.App' p callee_at callee_ty callee shape arguments result result_at) =
+      tree.App at (form_view callee_at callee) (row_view arguments) result result_at
   form_view at (form.Extcall' frame name shape arguments result result_at) = tree.Extcall at frame name (row_view arguments) result result_at
   form_view at (form.Checkbound' p bound_at bound_ty bound q index_at index_ty index) = tree.Checkbound at (form_view bound_at bound) (form_view index_at index)
   form_view at (form.Raise' p value_at value_ty value) = tree.Raise at (form_view value_at value)
   form_view at (form.Seq' shape elements) = tree.Seq at (row_view elements)
-  form_view at (form.If' p condition_at condition_ty condition q true_at true_ty on_true r false_at false_ty on_false) = tree.If at (form_view condition_at condition) (form_view true_at on_true) (form_view false_at on_false)
-  form_view at (form.Switch' size_at size p selector_at selector_ty selector shape cases) = tree.Switch at size_at size (form_view selector_at selector) (cases_view cases)
+  form_view at (form.If' p condition_at condition_ty condition q true_at true_ty on_true r false_at false_ty on_false) =
+      tree.If at (form_view condition_at condition) (form_view true_at on_true) (form_view false_at on_false)
+  form_view at (form.Switch' size_at size p selector_at selector_ty selector shape cases) =
+      tree.Switch at size_at size (form_view selector_at selector) (cases_view cases)
   form_view at (form.Catch' p body_at body_ty body shape handlers) = tree.Catch at (form_view body_at body) (handlers_view handlers)
   form_view at (form.Exit' label_at label shape arguments) = tree.Exit at label_at (label_view label) (row_view arguments)
-  form_view at (form.Try' p body_at body_ty body name_at name q handler_at handler_ty handler) = tree.Try at (form_view body_at body) name_at name (form_view handler_at handler)
+  form_view at (form.Try' p body_at body_ty body name_at name q handler_at handler_ty handler) =
+      tree.Try at (form_view body_at body) name_at name (form_view handler_at handler)
 
   pub row_view : {m : _} → form.Row_of-Expr m → Expressions
   row_view form.end_of-Expr = NoMore
@@ -70,7 +75,8 @@ abbrev mutual
 
   pub bindings_view : {m : _} → form.Row_of-Binding m → Bindings
   bindings_view form.end_of-Binding = NoBinding
-  bindings_view (form.more_of-Binding at name declared value_at value_ty value rest) = Bind at name (option_map declared_view declared) (form_view value_at value) (bindings_view rest)
+  bindings_view (form.more_of-Binding at name declared value_at value_ty value rest) =
+      Bind at name (option_map declared_view declared) (form_view value_at value) (bindings_view rest)
 
   pub cases_view : {m : _} → form.Row_of-Case m → Cases
   cases_view form.end_of-Case = NoCase
@@ -78,7 +84,8 @@ abbrev mutual
 
   pub handlers_view : {m : _} → form.Row_of-Handler m → Handlers
   handlers_view form.end_of-Handler = NoHandler
-  handlers_view (form.more_of-Handler at label params body_at body_ty body rest) = Handle at (label_view label) (params_view params.items) (form_view body_at body) (handlers_view rest)
+  handlers_view (form.more_of-Handler at label params body_at body_ty body rest) =
+      Handle at (label_view label) (params_view params.items) (form_view body_at body) (handlers_view rest)
 
 abbrev pub expr_view : Expr → Expression
 expr_view e = form_view e.at e.form

@@ -1,7 +1,7 @@
 -- The faults that are gathered, and the one that is reported of them.
 use Rattle.std.proofs.Common.{◌≡◌, ◌<◌, ◌≤◌, Bool, true, false, cond, Option, Some, None, ◌⊎◌, inl, inr, refl, arith}
 use Rattle.std.proofs.lemmas.Bool.Decides.{nat_tests}
-use Rattle.bs_fault.specs.FaultLines.{fault_place}
+use Rattle.bs_fault.specs.Order.{fault_place}
 use Rattle.bs_fault.specs.declared.fault.Fault.{Fault}
 use Rattle.bs_fault.specs.Order.{fault_number, Precedes}
 use Rattle.bs_fault.specs.Reported.{Faults, NoFault, One, Both, one_if, precedes, noted, noted_all}
