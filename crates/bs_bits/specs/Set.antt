@@ -1,4 +1,6 @@
 -- Sets of numbers below a size: a list with a truth value for each number, whether it is a member.
+--
+-- A function from numbers would say the same, but no function can be the value of a Model.
 use Rattle.std.specs.Prelude.{◌≡◌, ℕ, ◌<◌, ◌≤◌, Bool, true, false, ◌||◌, List, [], ◌∷◌, slice_index_or}
 
 -- whether the number is a member; none from the size on is

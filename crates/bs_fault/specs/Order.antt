@@ -60,7 +60,9 @@ abbrev pub Precedes : Fault → Fault → Type 0
 Precedes a b =
     (fault_place a < fault_place b) ⊎ ((fault_place a ≡ fault_place b) × (fault_number a < fault_number b))
 
--- the fault that is reported of those that there are: none of them comes before it
+-- The fault that is reported of those that there are: none of them comes before it.
+-- An address that is live at a frame point is compared by three places instead (`Before` of `walk_tables`):
+-- two such faults may be used at one place and have one number.
 pub record IsLeftmost (stands : Fault → Type 0) (reported : Fault) : Type 0 where
   pub is_fault : stands reported
   pub none_before : (other : Fault) → stands other → ¬ Precedes other reported

@@ -1,4 +1,7 @@
 -- What static data holds: its bytes, its cells, and the memory that a run begins with.
+--
+-- An undefined symbol is 8 zero bytes: such a file is refused elsewhere. Of a symbol that is defined twice
+-- the first definition counts, functions and data together, the built-in one before all.
 use Rattle.std.specs.Prelude.{ℕ, zero, suc, ◌+◌, ◌-◌, ◌*◌, ◌/◌, ◌%◌, Bool, true, false, List, [], ◌∷◌, Option, Some, None, map, cond, replicate}
 use Rattle.std.specs.List.{flat_map}
 use Rattle.bs_words.specs.Memory.{StaticList, Memory}

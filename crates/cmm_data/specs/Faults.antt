@@ -1,4 +1,7 @@
 -- What is wrong with static data: it is too large, or an item breaks its rule.
+--
+-- A float item has no bytes and no fault here. Its own fault is reported in a later group, so this shows
+-- nowhere else.
 use Rattle.std.specs.Prelude.{◌≡◌, ℕ, ◌+◌, ◌%◌, Bool, true, cond, ◌&&◌, not, ◌==◌, nat_lt, nat_le, List, [], ◌∷◌, Option, Some, None, pos, negsuc, int_le, ℤ}
 use Rattle.bs_words.specs.Fits.{data_start, data_limit}
 use Rattle.bs_words.specs.Word.{signed_of}

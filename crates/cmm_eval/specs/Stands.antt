@@ -1,4 +1,7 @@
 -- The evaluation that a machine stands for.
+--
+-- A frame is a function on evaluations, and the loop keeps one equation: what is now, resumed by the
+-- frames, is the whole meaning.
 use Rattle.cmm_meaning.specs.State.{World, Here}
 use Rattle.cmm_meaning.specs.Evaluation.{Evaluation}
 use Rattle.cmm_meaning.specs.Evaluation as evaluation

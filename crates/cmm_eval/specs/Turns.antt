@@ -1,4 +1,7 @@
 -- How many turns a machine still takes.
+--
+-- They end by this measure: five for each unit that is left, one for each frame, and what is due for what
+-- is now. So no turn is answered as want of memory.
 use Rattle.std.specs.Prelude.{ℕ, ◌+◌, ◌*◌, ◌≤◌, length}
 use Rattle.eval_frames.specs.declared.frame.Now.{Now}
 use Rattle.eval_frames.specs.declared.frame.Now.TheVariants as now

@@ -1,4 +1,9 @@
 //! The run of a function of a file.
+//!
+//! `eval` takes the file, and not what the checks gave, so that it is below them. It asks for what it
+//! needs: data without a fault, nodes that hold their types, an entry that the arguments fit.
+//!
+//! The entry returns to an activation of nobody, so that its own tail calls are folded like any other.
 ghost use Rattle.std.specs.Prelude.{◌≡◌, ◌↔◌, None, IfOk, IsTrue, map, ◌<◌, ◌^◌, length};
 ghost use Rattle.bs_words.specs.Contents.{contents};
 ghost use Rattle.bs_words.specs.declared.values.Value.TheVariants.{Word};

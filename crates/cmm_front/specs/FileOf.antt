@@ -1,4 +1,7 @@
 -- The file of a text, or its fault.
+--
+-- The front is three calls in a row, each with its own faults. That a text has one file or one fault is
+-- proved once, above them, from the laws of tokens and grammar.
 use Rattle.std.specs.Prelude.{◌≡◌, ℕ, List, Ok, Err, None}
 use Rattle.bs_fault.specs.declared.fault.Fault.{Fault}
 use Rattle.bs_fault.specs.declared.fault.Fault.TheVariants.{AddrLive}

@@ -1,4 +1,7 @@
 -- What the generator draws, and its text.
+--
+-- What is drawn is data, whose text, tree, types and runs are each said of it. So reading, typing and
+-- running are proved for every drawn text, and not for those of some seed.
 use Rattle.std.specs.Prelude.{ℕ, zero, suc, ◌-◌, cond, nat_lt, Bool, true, false, List, [], ◌∷◌, ◌++◌, codes}
 use Rattle.std.specs.Fmt.{decimal}
 

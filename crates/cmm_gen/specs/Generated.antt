@@ -1,4 +1,7 @@
 -- What a generated text is.
+--
+-- That a drawn text is read as its tree goes through the grammar's relation, form by form. That reading
+-- gives the same follows from the law that a text has one reading.
 use Rattle.std.specs.Prelude.{◌≡◌, ℕ, List, Some, length, slice_get}
 use Rattle.cmm_tree.specs.Tree.{FunctionTree, FileTree, functions}
 use Rattle.cmm_front.specs.FileOf.{IsFileOf}

@@ -1,4 +1,8 @@
 -- Where tokens leave the grammar.
+--
+-- A token is unexpected where no text goes on with it at any depth, though some text that nests at most 250
+-- deep begins with the tokens before it. A parenthesis is too deep where a text that nests one level deeper
+-- begins so. The two are never on one token.
 use Rattle.std.specs.Prelude.{◌≡◌, ℕ, suc, true, List, [], ◌∷◌, ◌++◌, length}
 use Rattle.cmm_lex.specs.Token.{TokenTree}
 use Rattle.cmm_tree.specs.Tree.{ItemTree}

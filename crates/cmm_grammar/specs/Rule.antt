@@ -1,4 +1,7 @@
 -- Rules of a grammar: what comes one after the other, and what it gives.
+--
+-- The grammar is data, which a relation (`Spells`) and a reading from left to right (`reads`) both
+-- interpret. So each law is proved once, for all rules, and not once for each production.
 use Rattle.std.specs.Prelude.{ℕ, Bool, List, Option}
 use Rattle.cmm_lex.specs.Token.{TokenTree}
 use Rattle.cmm_tree.specs.Tree.{Expression, Parameter, Declaration, Index, DatumTree, DataItemTree}

@@ -1,4 +1,7 @@
 -- Regular forms: how a token may be spelled.
+--
+-- Forms have a relation of their own, and the longest match is a statement about all of them: no token of
+-- any kind at this place is longer. So `(+a x)` has the operator `+a`, and `(+ 3e)` the tokens `3` and `e`.
 use Rattle.std.specs.Prelude.{◌≡◌, ℕ, ◌≤◌, List, [], ◌∷◌, ◌++◌, ◌⊎◌}
 
 -- A regular form of lists of bytes.

@@ -1,4 +1,7 @@
 -- Strings: their escapes, and the bytes that they stand for.
+--
+-- Every three digits up to 255 after a backslash are a code. In a closed string the fault is at the first
+-- backslash that begins no escape.
 use Rattle.std.specs.Prelude.{◌≡◌, ℕ, ◌+◌, ◌-◌, ◌*◌, Bool, true, cond, ◌&&◌, ◌==◌, nat_le, List, [], ◌∷◌, ◌++◌, length, Contains}
 use Rattle.std.specs.Char.{is_ascii_digit}
 use Rattle.cmm_lex.specs.Enclosed.{BeginsWith}

@@ -1,4 +1,7 @@
 -- The evaluation of one function alone: what its callees and external calls do is handed in.
+--
+-- A raise of a callee fits val, as each value that a text raises does, or the evaluation is improper there.
+-- An external call is handed an answer and no memory, and its raise is improper.
 use Rattle.std.specs.Prelude.{⊤, ℕ, Bool, true, false, List, [], ◌∷◌, ◌++◌, Option, Some}
 use Rattle.bs_words.specs.External.{External}
 use Rattle.bs_words.specs.Memory.{Memory}

@@ -4,6 +4,10 @@
 -- evaluation of one function alone. Each node of the tree costs one unit of fuel when its evaluation
 -- begins, and a value is tested against the type of its node. Operands are evaluated right to left, but
 -- light addresses after all others.
+--
+-- The evaluation is in direct style. So the value that comes back after a tail call meets, on its way out,
+-- the tests of the nodes round it. A run that no accepted text has is given some improper end, so that
+-- definitions are total.
 use Rattle.std.specs.Prelude.{ℕ, zero, suc, Bool, true, false, not, cond, ◌&&◌, nat_lt, List, [], ◌∷◌, Option, Some, None, Result, Ok, Err, length, map, slice_get}
 use Rattle.bs_words.specs.Fits.{fits, misfit, type_of_comp, data_start}
 use Rattle.bs_words.specs.External.{External}
@@ -46,6 +50,8 @@ abbrev pub Evaluation : Type 0
 Evaluation = Evaluated (Option Value)
 
 -- What is round an expression.
+-- It is a parameter of the evaluation, so that one definition serves the run of a file and the evaluation
+-- of one function alone.
 pub record Surroundings : Type 0 where
   -- the first address past the data
   pub end : ℕ
@@ -145,7 +151,8 @@ fit_parameters end (c ∷ comps) (v ∷ values) =
     fits end (type_of_comp c) v && fit_parameters end comps values
 fit_parameters end _ _ = false
 
--- the activation after a call, which has changed nothing of it; no exit leaves a function of an accepted text
+-- The activation after a call, which has changed nothing of it; no exit leaves a function of an accepted text.
+-- Such an exit is a bad call, so that a callee gives, raises or stops, and nothing else.
 abbrev pub back_from_call : Here → Evaluation → Evaluation
 back_from_call h (Gives v _ w) = Gives v h w
 back_from_call h (Exits label values _ w) = Stops (NotProper BadCall) w
@@ -226,8 +233,9 @@ handled end (Some r) label values level tries h w again =
     let bound : Here = with_bound (map scoped_parameter r.params) values inside in
     again (entered end r.params values w (back level tries (r.body bound w)))
 
--- what a catch with these handlers makes of an evaluation of its body, or of one of its handlers; an exit
--- costs a unit each time, so that so many turns are enough
+-- What a catch with these handlers makes of an evaluation of its body, or of one of its handlers; an exit
+-- costs a unit each time, so that so many turns are enough.
+-- Where no turn is left an exit still tests its arguments, so that code made for it may test first.
 abbrev pub caught : ℕ → ℕ → Bool → List (Ready Body) → ℕ → ℕ → Evaluation → Evaluation
 caught end zero within handlers level tries e = e
 caught end (suc turns) within handlers level tries (Exits label values h w) =

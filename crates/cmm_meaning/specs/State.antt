@@ -14,6 +14,8 @@ pub data Doing : Type 0 where
 
 -- A call of a function of the file: which, on what, on how many stack bytes, whether the callee takes the place of its
 -- caller (a tail call), and inside how many tries of its caller.
+-- The stack bytes alone do not say whether it is a tail call where a frame has no bytes, and a compiler has
+-- to know.
 pub record Called : Type 0 where
   pub function : ℕ
   pub arguments : List Value
@@ -60,6 +62,8 @@ asked_outside row frame arguments memory =
     }
 
 -- The world of a run.
+-- What was handed in and asked for is here too, and is empty in the run of a whole file: so one type serves
+-- both readings of the evaluation.
 pub record World : Type 0 where
   -- units of fuel that are left
   pub left : ℕ
@@ -90,7 +94,9 @@ pub record Here : Type 0 where
   -- how many tries it has entered and not left
   pub tries : ℕ
 
--- the stack bytes with this activation's frame and its active tries, 16 bytes each
+-- The stack bytes with this activation's frame and its active tries, 16 bytes each.
+-- An activation keeps its frame and the number of its tries, and no sum, so that what a call rests on
+-- follows from the text.
 abbrev pub taken : Here → ℕ
 taken h = h.below + h.frame + 16 * h.tries
 

@@ -1,4 +1,7 @@
 -- What a function of the reader returns, by what reading gives.
+--
+-- A function whose body stops with want of memory meets every such clause. So a part can be checked over
+-- stand-ins, and the rows have texts that have to be read.
 use Rattle.std.specs.Prelude.{◌≡◌, ℕ, Bool, List, length, map, Result, Ok, Err}
 use Rattle.std.specs.Borrow.{Bor}
 use Rattle.cmm_lex.specs.Token.{TokenTree, token_view}
@@ -31,8 +34,10 @@ GivesReading view rest (Err stop) read = Fails stop read
 abbrev pub ReadPart : Type 0 → Type 0
 ReadPart X = X × Bor (List declared.Token)
 
--- a function that returned such a part: it is what the rule reads at the front of the tokens, where
--- parentheses may nest so deep
+-- A function that returned such a part: it is what the rule reads at the front of the tokens, where
+-- parentheses may nest so deep.
+-- A generic function's contract is public where a higher layer calls it: this is the one predicate that
+-- pins the result and each stop.
 abbrev pub ReadsBy : {X : Type 0} {s : Sort}
     → Rule s → (X → Value s) → ℕ → List ℕ → List declared.Token → Result (ReadPart X) Stop → Type 0
 ReadsBy rule view depth source tokens result =

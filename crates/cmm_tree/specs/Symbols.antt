@@ -33,7 +33,9 @@ abbrev pub symbols_among : List ItemTree → List DefinedSymbol
 symbols_among [] = []
 symbols_among (i ∷ items) = item_symbols i ++ symbols_among items
 
--- the symbols of a file, in the order of their definitions
+-- The symbols of a file, in the order of their definitions.
+-- The types want names, places in the text and numbers of parameters; the image and the meaning want
+-- addresses, which `placed_symbols` of `cmm_data` has. Of two definitions the first counts in both.
 abbrev pub symbols : FileTree → List DefinedSymbol
 symbols file = built_in ∷ symbols_among file.items
 

@@ -1,6 +1,9 @@
 -- The tree of a text, after the reader's rewriting, as definitions see it: no memory, no pointer.
 --
 -- Each node begins with `at`, the place of its first byte, in bytes from the start of the text.
+--
+-- So it is data of its own: boxes and vectors have pointers and capacities, which a definition must not
+-- compare. Only so can it be said, and proved, that a text has one file.
 use Rattle.std.specs.Prelude.{ℕ, Bool, true, false, List, [], ◌∷◌, Option, map, bytes_eq}
 use Rattle.bs_words.specs.declared.operators.IntOp.{IntOp}
 use Rattle.bs_words.specs.declared.types.Chunk.{Chunk}
@@ -26,6 +29,8 @@ pub record Index : Type 0 where
 
 -- The label of a handler. A named label, and the two of a `while`, which no text names, are visible in the
 -- body of their catch and in all its handlers; the bare one is visible in the body alone.
+-- The labels that a `while` makes are two constructors and not fresh names: no text can name them, and the
+-- innermost is always the own one.
 pub data LabelTree : Type 0 where
   Named : (name : List ℕ) → LabelTree
   Bare : LabelTree

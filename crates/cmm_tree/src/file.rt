@@ -10,6 +10,7 @@ pub struct File {
 }
 
 /// One item of a file.
+/// Each is a struct of its own, so that either is lent by itself.
 #[derive(Drop)]
 pub enum Item {
     /// A function.

@@ -1,4 +1,9 @@
 -- The faults of types and symbols, F11 to F19 and F21: one condition on a node or an item each.
+--
+-- Operands of a float form are in its scope, but their values count as not taken: the form's own fault is
+-- further left than any of theirs.
+--
+-- A label that is met a third time, and a second bare handler of one catch, are duplicates too.
 use Rattle.std.specs.Prelude.{◌≡◌, ℕ, ◌+◌, ◌/◌, ◌%◌, Bool, true, false, not, ◌&&◌, ◌==◌, nat_le, List, ◌∷◌, ◌++◌, Option, Some, None}
 use Rattle.std.specs.List.{Contains}
 use Rattle.bs_words.specs.declared.types.Comp.TheVariants as comp

@@ -22,6 +22,9 @@ use std::alloc::{AllocError, Global};
 use std::marker::Model;
 
 /// A file whose nodes hold their types, with its symbols in the order of their definitions. Contracts see the file.
+/// The view is the file, and that nodes hold their types is an invariant; so whoever takes a `Typed` need
+/// not ask for it. The tree of definitions cannot be the view: a value of a Model needs a code by which
+/// proofs tell its values apart, and the prover makes none for a recursive type of `specs/`.
 #[derive(Drop)]
 pub struct Typed {
     file: File,

@@ -386,6 +386,8 @@ impl Memory {
 }
 
 // The heap need with a block more of so many cells; 2^64 bytes or more are answered as want of memory.
+// No host holds so large a heap, but no contract says what all vectors take at once: so the sum stays a
+// test.
 fn added_need(need: u64, cells: u64) -> Result<u64, AllocError>
     ensures { IfOk result (λ more. more ≡ need + 8 * (cells + 1)) }
 {

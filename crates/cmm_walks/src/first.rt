@@ -1,4 +1,9 @@
 //! The first address that is live at a frame point.
+//!
+//! Each node gets the least place of a use that it leads to, walked back from the uses, then the same for
+//! frame points, then for bindings. A label at or below x says that a walk lies within the limit x, so
+//! three least labels one after the other are the least triple.
+//! A function that binds no address takes no such pass, and any other accepted one a single pass.
 ghost use Rattle.std.specs.Prelude.{◌≡◌, ◌<◌, suc, length, IfOk};
 ghost use Rattle.std.specs.List.{All, list_any};
 ghost use Rattle.cmm_walks.specs.Labels.{unlabelled, IsUnlabelled};

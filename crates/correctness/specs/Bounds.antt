@@ -34,6 +34,8 @@ FillCode from to (row ∷ rows) = (row.offset ≡ from) × FillCode (function_en
 
 -- An image is as small as the text of its file asks: each function keeps to its own text, and the code
 -- is the stub and the functions' words, with no other words.
+-- It is always cited beside `IsCorrect`: an image that claims a frame larger than any stack would be
+-- correct with any code after it.
 pub record IsBounded (file : FileTree) (image : Tables) : Type 0 where
   pub each : AllZip (IsWithinText image.descs) (functions file) image.funcs
   pub stub_first : take stub_words image.code ≡ stub

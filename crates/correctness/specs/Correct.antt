@@ -1,4 +1,7 @@
 -- An image is correct for a file: the machine does what the text means.
+--
+-- The two directions are relations between functions of a number, units of the text's run and instructions
+-- of the machine. The bound on instructions is in the forward part.
 use Rattle.std.specs.Prelude.{◌≡◌, ⊤, ℕ, ◌+◌, ◌*◌, ◌<◌, ◌≤◌, List, length}
 use Rattle.cmm_meaning.specs.Run.{Outcome, Returned, Raised, Asks, More, Improper, IsProper, Run, cmm_run}
 use Rattle.cmm_tree.specs.Tree.{FunctionTree, FileTree, functions}

@@ -1,4 +1,7 @@
 //! Which numbers reach each place.
+//!
+//! This is a solver of its own, forwards over the same tables. Liveness on a reversed graph would be wrong:
+//! a write belongs to the place that the original edge leaves.
 ghost use Rattle.std.specs.Prelude.{IfOk};
 ghost use Rattle.dataflow.specs.Flow.{IsFlowFormed};
 ghost use Rattle.dataflow.specs.Reach.{IsReaching};

@@ -1,4 +1,7 @@
 -- Tail calls: the frames between a function's last call and its caller do nothing but test.
+--
+-- A tail call tests nothing of what its callee gives or raises: who waits for it does, as after any other
+-- end of the function. So fewer runs are stuck, and the passes keep more.
 use Rattle.std.specs.Prelude.{◌≡◌, Bool, List}
 use Rattle.bs_words.specs.declared.types.Ret.{Ret}
 use Rattle.cmm_tree.specs.declared.expr.Form.{Form}

@@ -67,6 +67,8 @@ impl<'a> Here<'a> {
 
     /// The stack bytes up to here: a try takes 16. The error is want of memory; a stack of
     /// 2^64 bytes or more is answered so too.
+    /// That is no want of memory, but it can happen: frames are handed in, each as any word. The count of
+    /// tries has no test of its own, since each adds its 16 bytes to this sum first.
     pub fn taken(&self) -> Result<u64, AllocError>
         ensures { IfOk result (λ bytes. bytes ≡ taken (here_view self.now)) }
     {

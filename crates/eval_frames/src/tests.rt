@@ -25,6 +25,8 @@ pub enum Verdict {
 
 /// Tests that a value meets one after the other, however many they are: what they make of it depends on
 /// whether there is a value, and on whether it fits int and val.
+/// A table after a table is a table, so memory does not grow with tail calls. A list would not do: where a
+/// value is dropped between two tests of one type, the second reports what the first does not.
 #[derive(Clone, Copy)]
 pub struct Tests {
     /// Of no value.

@@ -1,5 +1,8 @@
 -- What is handed in for the calls of a function that is evaluated alone, where it is what calls do in the run of a whole
 -- file.
+--
+-- What is linked is a chain of calls, from which this list is read off: callees that came back, and at most
+-- one that did not. External calls are asked in order with them.
 use Rattle.std.specs.Prelude.{◌≡◌, Bool, true, List, [], ◌∷◌, ◌++◌, Option, Some, slice_get, ℕ}
 use Rattle.bs_words.specs.External.{External}
 use Rattle.bs_words.specs.Fits.{fits}

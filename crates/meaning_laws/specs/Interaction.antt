@@ -1,6 +1,12 @@
 -- The meaning of a function once more, as an interaction, in continuation style. It is beside the evaluation of
 -- an expression form by form, and has its words; of the world it knows the memory alone, so that it says what a
 -- function does whatever calls do, and however many units are left.
+--
+-- `both` and `unless_light` are those of the evaluation once more: each account has its own way to go on
+-- with a value. That the two agree is a law (`agree_unless_light`).
+--
+-- Catches take a number of turns, any that is not below the units left. It is the meaning of the text
+-- wherever calls give no units back, which is proved of whole runs and of runs alone.
 use Rattle.std.specs.Prelude.{ℕ, zero, suc, ◌+◌, Bool, true, false, cond, nat_lt, List, [], ◌∷◌, Option, Some, None, Result, Ok, Err, length, map, slice_get}
 use Rattle.bs_words.specs.Fits.{fits, misfit, type_of_comp}
 use Rattle.bs_words.specs.External.{External}

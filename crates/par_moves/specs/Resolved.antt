@@ -3,6 +3,9 @@
 -- A walk goes from a move to a pending move that reads its target, and from there on. Where nothing
 -- reads the last target any more, the last move is made. A walk that comes back to the source of its
 -- first move, the root, has found a cycle: the root's value goes to t0 first, and the root reads t0.
+--
+-- T0 has the component with which it is read out again, and moves that read t0 are made first. A place that
+-- is unset is a place like any other.
 use Rattle.std.specs.Prelude.{ℕ, zero, suc, ◌+◌, cond, List, [], ◌∷◌, ◌++◌, length, Option, Some, None}
 use Rattle.bs_words.specs.declared.types.Loc.{Loc}
 use Rattle.par_moves.specs.declared.moves.Move.{Move}

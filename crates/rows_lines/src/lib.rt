@@ -29,6 +29,8 @@ pub use sticking::Sticking;
 pub use watch::{Counting, Holding, Watch};
 
 /// The top call.
+/// It is a bound, so that libraries of rows rest on no compiler and are checked before it. A method learns
+/// nothing from a bound `Sync` of its own, so a clause asks for it (`IsSync`).
 pub trait Top {
     /// The status with which the program ends that is given these words. The watch hears of what it compiles.
     fn status<R: Threads + Sync>(

@@ -1,4 +1,7 @@
 -- What a frame call does to the machine: an external call at which the blocks move, and which may raise.
+--
+-- In the meaning of a text it leaves the memory as it was, since moving blocks changes no value of a run.
+-- It takes two answers whatever its result is, and has been made before its value is tested.
 use Rattle.std.specs.Prelude.{ℕ, ◌+◌, ◌%◌, Bool, ◌&&◌, ◌==◌, nat_le, List}
 use Rattle.bs_words.specs.declared.types.Ret.{Ret}
 use Rattle.bs_words.specs.declared.types.Ret.TheVariants as returns

@@ -1,6 +1,8 @@
 -- The memory of the machine: regions of 64-bit words, and accesses of 1, 2, 4 or 8 bytes.
 --
 -- Numbers are little-endian. An access is at a multiple of its width and lies whole inside one region.
+--
+-- Each width is a part of an aligned word. A list of bytes would cost many lines for each law.
 use Rattle.std.specs.Prelude.{ℕ, zero, suc, ◌+◌, ◌-◌, ◌*◌, ◌/◌, ◌%◌, ◌^◌, Bool, cond, ◌&&◌, ◌==◌, nat_le, List, [], ◌∷◌, Option, Some, None, slice_index, slice_set, option_map, length}
 use Rattle.bs_words.specs.Memory.{part, replaced}
 

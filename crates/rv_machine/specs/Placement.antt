@@ -57,6 +57,9 @@ abbrev pub are_apart : List Placed → Bool
 are_apart [] = true
 are_apart (b ∷ bs) = list_all (is_apart b) bs && are_apart bs
 
+-- A plan is valid block by block: each lies in one half, header and all, and none overlaps another. In the
+-- largest heap the halves meet, and a plan drawn for one half may run on into the other. A rule on whole
+-- plans, that each must fit its half, would have two forms.
 abbrev pub is_valid : ℕ → List Placed → List ℕ → Bool
 is_valid heap blocks starts =
     (length starts == length blocks) && list_all (is_in_heap heap) (placed_at blocks starts)

@@ -10,6 +10,8 @@ use Rattle.rv_machine.specs.Start.{start}
 use Rattle.rv_machine.specs.Places.{domain_start, limit_asked}
 
 -- When the mover asks, and where it puts the blocks.
+-- They are functions, of which finite lists are a case (`lists`). A list could not hold the plans of a
+-- seed, which depend on the blocks' sizes.
 pub record Schedule : Type 0 where
   -- whether it asks before the instruction of this number
   pub asks : ℕ → Bool

@@ -1,4 +1,7 @@
 //! What is reported of a run of a text.
+//!
+//! Causes are looked for in this order: the text's fault, the entry, the words, the size of the image, the
+//! run.
 ghost use Rattle.std.specs.Prelude.{◌≡◌, IfOk, IfErr};
 ghost use Rattle.bs_words.specs.Contents.{contents};
 ghost use Rattle.command_line.specs.View.{check_view};

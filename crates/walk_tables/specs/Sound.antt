@@ -81,6 +81,9 @@ free_in (item.Handler scope slot handlers own first rest) = slot
 free_in _ = 0
 
 -- Each slot in use has a cell before: that which binds it or takes it.
+-- What is left to do is made from its end, so the cells in which operands are used are before those that
+-- evaluate them. Cells and slots are indices of vectors, so no sum passes the machine's width and nothing
+-- is asked of the text's size.
 pub record AreItemsSound (items : List Item) : Type 0 where
   pub below : (c : ℕ) (x : Item) → item_at items c ≡ Some x → IsBelow c x
   pub held : (c : ℕ) (x : Item)

@@ -3,6 +3,8 @@
 -- A walk binds, uses, and passes frame points. What it binds is a name or an operand; each takes a slot of its
 -- own while it is in scope or pending, counted from 0 at the function's first parameter. An address is live at
 -- a frame point where some walk binds it, passes that point, and then uses it, with no binding between.
+--
+-- A slot that is taken again is bound before it is used, so numbers can stand for names.
 use Rattle.std.specs.Prelude.{◌≡◌, ℕ, zero, suc, ◌+◌, Bool, true, false, not, ◌&&◌, cond, List, [], ◌∷◌, ◌++◌, Option, Some, None, map, length, find, bytes_eq, Contains}
 use Rattle.std.specs.Option.{option_map}
 use Rattle.bs_words.specs.Fits.{type_of_comp}
@@ -247,6 +249,7 @@ behind_raise (_ ∷ rest) = behind_raise rest
 -- ---- walks
 
 -- One step of a walk, with its event, if it has one.
+-- It is apart from walks, so that what one step is, is said once.
 pub data NextTasks : List Task → List Event → List Task → Type 0 where
   does : (event : Event) (tasks : List Task) → NextTasks (Does event ∷ tasks) (event ∷ []) tasks
   evaluates : (scope : List Slotted) (slot : ℕ) (e : Expression) (tasks : List Task)

@@ -35,6 +35,7 @@ pub enum Step {
 }
 
 /// The nodes that may come next, by number. Most nodes have one or two, which need no memory of their own.
+/// Two are an array, so that all forms are lent as a slice, and definitions see one list.
 #[derive(Drop)]
 pub enum Next {
     /// None: a walk ends there.
