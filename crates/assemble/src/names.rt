@@ -1,4 +1,6 @@
 //! What the pieces of a function name.
+//!
+//! Names are resolved to one target for each piece before words are put.
 ghost use Rattle.std.specs.Prelude.{◌≡◌, ◌+◌, ◌*◌, ◌<◌, ◌≤◌, ℕ, None, map, IfOk};
 ghost use Rattle.assemble.specs.Source.{IsSource, laid_of, addresses_named_by, tree_of, source_entries};
 ghost use Rattle.cmm_data.specs.Placement.{value_of_symbol};

@@ -78,6 +78,8 @@ pub enum Chunk {
 }
 
 /// Where a register of the middle languages is.
+/// A slot has no type beside its place. With a Model the prover has no proof for functions that copy
+/// a value in which it is held. Without one it would have to be opened in every definition and law.
 #[derive(Clone, Copy, PartialEq, Eq)]
 pub enum Loc {
     /// It has no place yet.

@@ -1,4 +1,7 @@
 -- Mach functions whose registers are put at chosen places.
+--
+-- Places are proved for any choice by register, of which colouring and the last resort are cases. The
+-- relation is equality of what is live, since registers of one origin must agree in both.
 use Rattle.std.specs.Prelude.{◌≡◌, ◌≢◌, ◌⊎◌, ℕ, ◌<◌, ◌≤◌, List, length, map, Contains}
 use Rattle.bs_words.specs.declared.types.Loc.{Loc}
 use Rattle.bs_words.specs.declared.types.Loc.TheVariants as loc

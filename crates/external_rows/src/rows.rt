@@ -1,4 +1,7 @@
 //! Rows of external calls, by what each call is known by.
+//!
+//! A row is found by its result, its types, 255 (which is no type) and its name, in a map that keeps the
+//! order in which rows came. So numbering takes one look-up a call.
 ghost use Rattle.std.specs.Prelude.{◌≡◌, ◌+◌, ◌++◌, [], map, IfOk, OnOk};
 ghost use Rattle.bs_words.specs.Contents.{contents};
 ghost use Rattle.image_form.specs.Image.{comp_byte};

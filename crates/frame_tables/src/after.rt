@@ -1,4 +1,7 @@
 //! The places of the flow graph before which is live what is live after a frame point.
+//!
+//! Each frame point has a second place in the graph, which reads nothing and has the edges of all its
+//! positions: liveness before it is what the descriptor names.
 ghost use Rattle.std.specs.Prelude.{◌≡◌, ◌<◌, ◌↔◌, ℕ, suc, Some, length, slice_get, Contains, IfOk, IsTrue};
 ghost use Rattle.bs_words.specs.Contents.{contents};
 ghost use Rattle.lin_ir.specs.Meaning.{passes_frame};

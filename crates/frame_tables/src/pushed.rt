@@ -1,4 +1,7 @@
 //! How many traps are pushed before each line.
+//!
+//! Walks that follow raises count them. A count that comes to a handler wherever its trap is pushed is not
+//! kept where lines that no walk reaches are dropped: such a handler falls through into reached code.
 ghost use Rattle.std.specs.Prelude.{length, slice_index, IfOk};
 ghost use Rattle.lin_ir.specs.Descriptors.{FitsDescriptors};
 ghost use Rattle.lin_ir.specs.Formed.{AreLocated};

@@ -1,4 +1,7 @@
 -- How a function lies in the image: what the laws of its lines and of its entry take as known.
+--
+-- Where a function lies is no definition: the law says that there is a `Laid` with which all its lines
+-- stand.
 use Rattle.std.specs.Prelude.{◌≡◌, ℕ, ◌+◌, ◌-◌, ◌/◌, ◌≤◌, true, false, List, ◌∷◌, length, Option, slice_index}
 use Rattle.cmm_meaning.specs.Setting.{Setting}
 use Rattle.correctness.specs.Setting.{layout_of}

@@ -1,4 +1,7 @@
 -- The words of the stack that pieces name: by loads and stores whose address is sp and a constant.
+--
+-- A part is compared at every word of the stack, not at slots alone: by its bytes from sp as it was before
+-- the part, with sums followed through every register.
 use Rattle.std.specs.Prelude.{ℕ, ◌*◌, Bool, false, cond, nat_eq, not, ◌||◌, ◌&&◌, List, [], ◌∷◌}
 use Rattle.bs_words.specs.Word.{add_word, sub_word, shl_word, sext_word}
 use Rattle.rv_isa.specs.Registers.{sp}

@@ -1,4 +1,7 @@
 //! The positions that walks come to, each with its number.
+//!
+//! More positions than 32 bits count is answered as want of memory: any function may be searched, and one
+//! whose loop pushes traps has no end of them.
 ghost use Rattle.std.specs.Prelude.{◌≡◌, ◌<◌, ◌↔◌, option_copied, bytes_eq, Some, All, length, map, slice_get, IfOk, IfSome, IsTrue, IsFalse};
 ghost use Rattle.lin_laws.specs.Graph.{position, AreNumbersOf};
 ghost use Rattle.lin_flow.specs.Search.{all_positions, groups_of, search_members, AreGrouped, HasMember, Grown, PositionEntered, Starts, IsThere, HasFirst};

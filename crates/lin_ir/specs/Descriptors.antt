@@ -1,4 +1,7 @@
 -- Frames of a Linear function, and descriptors that are exact.
+--
+-- That names are exact is asked only where walks come: lines that no walk reaches are for a later pass to
+-- leave out.
 use Rattle.std.specs.Prelude.{◌≡◌, ◌≢◌, ◌↔◌, ℕ, ◌+◌, ◌*◌, ◌/◌, ◌%◌, ◌<◌, ◌≤◌, suc, Bool, true, false, cond, ◌||◌, List, [], ◌∷◌, length, All, AllPairs, Contains}
 use Rattle.bs_words.specs.declared.types.Comp.TheVariants as comp
 use Rattle.bs_words.specs.declared.types.Loc.{Loc}

@@ -1,4 +1,6 @@
 -- What holds of every Linear function that the back end takes, whatever it does.
+--
+-- The handler of a trap is a label with the entering of the trap right after it.
 use Rattle.std.specs.Prelude.{◌≡◌, ◌≢◌, ◌⊎◌, ℕ, suc, ◌<◌, ◌≤◌, Bool, true, false, List, [], ◌∷◌, ◌++◌, length, map, All, AllPairs, Contains}
 use Rattle.bs_words.specs.declared.types.Comp.{Comp}
 use Rattle.bs_words.specs.declared.types.Comp.TheVariants as comp
@@ -179,6 +181,8 @@ is_label _ = false
 -- A number for each place, by the lines that are left, which each step of a walk lowers that is no
 -- exit; a label, which has no instruction, need only not raise it. So control comes back to a place
 -- only by an exit, which is a unit.
+-- The place in the text would not do, since tests at loops' ends lead back. That labels need not lower it
+-- lets a jump over labels go without ordering those anew.
 pub record GoesDown (m : Lin) : Type 0 where
   pub order : ℕ → ℕ
   pub labels : (i : Line) (next : List Line) (tries : List ℕ) → Reached m (i ∷ next) tries →

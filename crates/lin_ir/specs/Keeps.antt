@@ -23,6 +23,8 @@ use Rattle.lin_ir.specs.declared.lin.Lin.{Lin}
 
 -- The second has pushed the same traps and allocated no less, by the shapes of blocks. What blocks
 -- hold between calls is not said: lines of Linear may be done in another order.
+-- That memories are the same but for blocks further on would be false then: a line may be stuck before a
+-- store is done.
 pub record NoLess (x y : Around) : Type 0 where
   pub tries : x.tries ≡ y.tries
   pub more : List Shape

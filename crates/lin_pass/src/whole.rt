@@ -1,4 +1,6 @@
 //! The Linear function of a Mach function.
+//!
+//! `linear` takes a function at its places, and nothing of the rounds that gave them.
 ghost use Rattle.std.specs.Prelude.{IfOk};
 ghost use Rattle.mach_ir.specs.Formed.{WellFormed};
 ghost use Rattle.mach_ir.specs.Placed.{FullyPlaced};

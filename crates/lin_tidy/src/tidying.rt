@@ -1,4 +1,8 @@
 //! A function made tidy.
+//!
+//! It looks again until no line goes. Walks are searched again only where a
+//! move of a location to itself went, which may be all that read another. When other lines go, walks still
+//! come to those that stay.
 ghost use Rattle.std.specs.Prelude.{IfOk};
 ghost use Rattle.lin_laws.specs.Graph.{AreNumbered};
 ghost use Rattle.lin_tidy_rules.specs.Tidied.{IsTidied};

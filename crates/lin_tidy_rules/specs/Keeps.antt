@@ -31,6 +31,8 @@ TidySimulation Suit m r =
     (c : ActivationSetting) (arguments : List Value) (memory : Memory) (doings : List Doing) (s : State) →
     linear_start c m arguments memory ≡ Some s → TidyBegins Suit c m r arguments memory doings s
 
+-- What states of both have in common while both are under way is handed in (`Suit`); all users hand in
+-- `SameRound`.
 pub record KeepsLin (Suit : State → State → Type 0) (m r : Lin) : Type 0 where
   pub name : r.name ≡ m.name
   pub result : r.result ≡ m.result

@@ -1,4 +1,6 @@
 -- Lines that a Linear function does without.
+--
+-- Labels and entries of handlers stay, reached or not: labels are no instructions.
 use Rattle.std.specs.Prelude.{◌≡◌, ℕ, Bool, true, false, cond, List, [], ◌∷◌, length}
 use Rattle.bs_words.specs.declared.types.Comp.{Comp}
 use Rattle.lin_ir.specs.Formed.{IsSelfMove, bare_flow}

@@ -36,8 +36,10 @@ pub data GoesOnTo (m : Lin) (l : ℕ) : ℕ → Type 0 where
   and_on : {k n : ℕ} {next : List Line} → GoesOnTo m l k →
       LabelsBetween (after_label k m.code) (bare_flow (flow.Jump n) ∷ next) → GoesOnTo m l n
 
--- from the first label control goes by labels and jumps alone to an exit, and from there to the
--- second
+-- From the first label control goes by labels and jumps alone to an exit, and from there to the
+-- second.
+-- Such a jump becomes an exit: the unit is counted once either way, and a turn of a `while` has one jump
+-- less. A branch becomes none, since no branch of Linear counts a unit.
 pub data ExitsTo (m : Lin) (l n : ℕ) : Type 0 where
   by_exit : {last out : ℕ} {next : List Line} → GoesOnTo m l last →
       LabelsBetween (after_label last m.code) (bare_flow (flow.Exit out) ∷ next) →
@@ -108,6 +110,8 @@ redirected_all m = with_code m (map (redirect (final_label m) (last_exit m)) m.c
 -- ---- changes in any order
 
 -- Lines that have no use are left out, jumps redirected and loops turned, as often as one likes.
+-- It is a relation and no function: each line that goes has a reason in terms of walks (`IsUseless`), and
+-- at the end no line has one (`IsTidy`).
 pub data Tidies (m : Lin) : Lin → Type 0 where
   as_it_is : Tidies m m
   then_leaves : {q r : Lin} → Tidies m q → LeavesOut q r → Tidies m r

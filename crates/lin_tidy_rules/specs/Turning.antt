@@ -1,5 +1,13 @@
 -- Loops that are turned round. Where an exit leads to a branch, the branch is repeated right after
 -- the exit, so that a turn of a loop has no jump back to its test.
+--
+-- The exit pays its unit before the repeated test reads its operands, so lines, units and their order are
+-- those of before. A branch that tests first and pays where it is taken would stop a unit too early where
+-- the test is stuck.
+--
+-- The test keeps its label where that is before the exit, and else its opposite leads to a label after the
+-- head's branch: both mean the same, and the other choice costs a jump. An exit is not turned where the
+-- label comes first after it, nor after a jump or an exit, where it goes later.
 use Rattle.std.specs.Prelude.{◌≡◌, ◌≢◌, ℕ, suc, ◌+◌, ◌*◌, Bool, true, false, cond, ◌||◌, ◌&&◌, nat_eq, nat_le, Option, Some, None, List, [], ◌∷◌, ◌++◌, length, AllPairs}
 use Rattle.lin_ir.specs.Formed.{labels_in, bare_flow}
 use Rattle.lin_ir.specs.Meaning.{after_label, has_label}

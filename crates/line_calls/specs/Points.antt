@@ -99,7 +99,8 @@ pub data IsTurn : LinOp → Type 0 where
   it_pops : IsTurn (lin.Flow flow.PopTrap)
   it_enters : IsTurn (lin.Flow flow.EnterTrap)
 
--- the last word of an external call is the instruction that serves it; these are before it
+-- The last word of an external call is the instruction that serves it; these are before it.
+-- The service is a step of its own, so the line is followed in one word fewer than it has.
 abbrev pub before_service : LinOp → ℕ → ℕ
 before_service (lin.Flow g) words = words
 before_service (lin.Op (op.Calling (calling.External row frame))) words = words - 1

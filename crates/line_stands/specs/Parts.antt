@@ -1,4 +1,6 @@
 -- How the pieces of a part lie in the image.
+--
+-- A part carries that its forms reach, since a near form is right only where it does.
 use Rattle.std.specs.Prelude.{◌≡◌, ℕ, ◌+◌, ◌-◌, ◌/◌, List}
 use Rattle.rv_machine.specs.Memory.{code_start}
 use Rattle.rv_pieces.specs.declared.piece.Piece.{Piece}

@@ -1,4 +1,6 @@
 //! Copies of operations.
+//!
+//! They are functions of our own, since what a derived clone of nested enums promises is too little.
 ghost use Rattle.std.specs.Prelude.{◌≡◌, IfOk};
 
 use bs_words::Name;

@@ -1,4 +1,6 @@
 //! Which slots occur in a function, and the numbers that they get.
+//!
+//! Each gets the number of those that occur below it, through a table up to the greatest one.
 ghost use Rattle.std.specs.Prelude.{◌≡◌, ◌<◌, ◌↔◌, ◌^◌, ◌++◌, suc, [], length, IfOk, IsTrue};
 ghost use Rattle.linearise_rules.specs.Lowered.{slots_of_regs, slots_of_function, limit_above};
 ghost use Rattle.linearise.specs.Numbers.{AreSlotFlags, IsTable, running};

@@ -2,6 +2,8 @@
 -- `asmcomp/linearize.ml`).
 --
 -- Each definition takes the lines that follow, so that nothing is appended.
+--
+-- A copy of any kind from a place to itself, of one component, has no line.
 use Rattle.std.specs.Prelude.{ℕ, zero, suc, Bool, false, cond, ◌&&◌, ◌||◌, nat_eq, max, List, [], ◌∷◌, map}
 use Rattle.bs_words.specs.declared.operators.CmpOp.{CmpOp}
 use Rattle.bs_words.specs.declared.operators.CmpOp.TheVariants as compare

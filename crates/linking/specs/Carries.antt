@@ -1,5 +1,8 @@
 -- A machine that carries out a program. Its states only stand for those of the program: how, is
 -- known by predicates, which may hide where blocks lie, and when the mover asks.
+--
+-- A callee's place below its caller is what the machine gives when it is entered. So no stack of suspended
+-- callers is part of any statement of linking.
 use Rattle.std.specs.Prelude.{◌≡◌, ℕ, suc, ◌+◌, ◌-◌, ◌*◌, ◌≤◌, ◌<◌, ◌⊎◌, List, Some}
 use Rattle.bs_words.specs.Memory.{Memory, heap_need}
 use Rattle.bs_words.specs.Observed.{Made}

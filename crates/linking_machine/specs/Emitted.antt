@@ -1,4 +1,7 @@
 -- What layout and emission give of an image, function by function and line by line.
+--
+-- The machine's laws want more than the rules of images: each function's word lies inside the code, and the
+-- end of the data is that of the text's setting.
 use Rattle.std.specs.Prelude.{◌≡◌, ◌⊎◌, ℕ, ◌+◌, ◌-◌, ◌*◌, ◌<◌, ◌≤◌, List, [], ◌∷◌, Some, length, slice_get, slice_index}
 use Rattle.std.specs.List.{AllByRecursion}
 use Rattle.bs_words.specs.Memory.{Memory}

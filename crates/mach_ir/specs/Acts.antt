@@ -1,6 +1,11 @@
 -- What an operation does to values and to what is round a function. Registers, places and colours
 -- do not occur here, so that Mach and Linear have this in common, and a pass treats what it leaves
 -- alone once.
+--
+-- The two meanings are stuck a little more often than they need to be: at a header that is not the
+-- allocation's, at a value that does not fit what is written, at the end of the code. A text's run is
+-- improper in each case. So what selection promises is the stronger for it, and what passes need the
+-- weaker.
 use Rattle.std.specs.Prelude.{ℕ, zero, suc, ◌+◌, ◌%◌, ◌^◌, Bool, true, false, cond, ◌&&◌, ◌||◌, not, nat_eq, nat_lt, List, [], ◌∷◌, ◌++◌, Option, Some, None, Result, Ok, Err, length, replicate, slice_get}
 use Rattle.bs_words.specs.External.{External}
 use Rattle.bs_words.specs.Fits.{fits, type_of_comp}

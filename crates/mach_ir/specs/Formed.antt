@@ -1,5 +1,8 @@
 -- What holds of every Mach function that the passes hand on, whatever it does: the forms of its
 -- instructions, its labels, and how its tries nest. Each of these can be read off the text.
+--
+-- Control goes back by an exit alone, a handler is after its try, and a function is left outside its tries:
+-- the bound on instructions rests on it.
 use Rattle.std.specs.Prelude.{◌≡◌, ◌≢◌, ℕ, ◌<◌, ◌≤◌, Bool, true, false, cond, ◌+◌, nat_eq, List, [], ◌∷◌, ◌++◌, length, map, All, AllPairs, Contains}
 use Rattle.bs_words.specs.declared.types.Comp.{Comp}
 use Rattle.bs_words.specs.declared.types.Comp.TheVariants as comp

@@ -1,5 +1,7 @@
 -- The forms of operations: which operands and results go with each, by their components. Mach and
 -- Linear have this in common.
+--
+-- A constant operand is on the right side alone, where the machine has an immediate for it.
 use Rattle.std.specs.Prelude.{◌≡◌, ◌≢◌, ℕ, ◌<◌, ◌≤◌, Bool, true, false, ◌&&◌, ◌||◌, nat_le, nat_lt, List, [], ◌∷◌, ◌++◌, length, All}
 use Rattle.bs_words.specs.declared.operators.CmpOp.TheVariants as compare
 use Rattle.bs_words.specs.declared.operators.IntOp.{IntOp}

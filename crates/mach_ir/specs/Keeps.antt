@@ -1,4 +1,11 @@
 -- When one Mach function does what another does.
+--
+-- Slots are kept per register and origin. That each new slot is numbered as its register's origin does not
+-- compose where it is said of the function as a whole.
+--
+-- There are two halves: where the first function is not stuck, the second comes to a state that has
+-- allocated no less, and to one that has allocated no more. With one half a function that allocates what
+-- the first never does would pass.
 use Rattle.std.specs.Prelude.{◌≡◌, ◌≢◌, ◌⊎◌, ℕ, suc, ◌<◌, Bool, true, List, [], ◌∷◌, ◌++◌, Option, Some, None, Contains, map}
 use Rattle.bs_words.specs.External.{External}
 use Rattle.bs_words.specs.Memory.{Memory}

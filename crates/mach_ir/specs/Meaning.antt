@@ -1,6 +1,10 @@
 -- What one Mach function does, from a memory and registers, on what is handed in for its calls.
 --
 -- A state holds the code that is left, from the next instruction on, and not the number of a place.
+--
+-- The handler of a raise is the innermost one of the text. How many tries are pushed says only whether it
+-- is caught here. What a frame call raises is a unit, as what an operation raises is, so that the laws of
+-- the text count it.
 use Rattle.std.specs.Prelude.{ℕ, Bool, true, false, cond, ◌&&◌, ◌||◌, not, nat_eq, nat_le, List, [], ◌∷◌, ◌++◌, Option, Some, None}
 use Rattle.bs_words.specs.Fits.{fits, type_of_comp}
 use Rattle.bs_words.specs.Memory.{Memory, sizes}

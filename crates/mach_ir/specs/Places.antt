@@ -1,4 +1,6 @@
 -- Places and components of registers, compared.
+--
+-- What is said of places and components alone is here, since five passes ask the one and two the other.
 use Rattle.std.specs.Prelude.{Bool, true, false, List, [], ◌∷◌}
 use Rattle.bs_words.specs.declared.types.Comp.{Comp}
 use Rattle.bs_words.specs.declared.types.Comp.TheVariants as comp

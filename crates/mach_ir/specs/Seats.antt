@@ -1,4 +1,7 @@
 -- Where operands and results are by the conventions of calls, in both languages.
+--
+-- Arguments, results and raised values are at the places of the convention from selection on, so that no
+-- call needs moves at once.
 use Rattle.std.specs.Prelude.{◌≡◌, List, [], ◌∷◌, ◌++◌, map, Contains}
 use Rattle.bs_words.specs.declared.types.Loc.{Loc}
 use Rattle.bs_words.specs.declared.types.Loc.TheVariants as loc

@@ -1,4 +1,10 @@
 -- Walks of a Mach function: what is live, and which registers are joined.
+--
+-- A raise passes no write: what a call writes interferes with what is live after the call, and not with
+-- what only its handler reads.
+--
+-- No address is live at a frame point that is reached; in Linear at none at all, since linearisation leaves
+-- out what no walk reaches.
 use Rattle.std.specs.Prelude.{◌≡◌, ◌≢◌, ℕ, Bool, true, false, List, [], ◌∷◌, map, Contains}
 use Rattle.bs_words.specs.declared.types.Comp.TheVariants as comp
 use Rattle.mach_ir.specs.Acts.{Target, On, At}

@@ -1,4 +1,11 @@
 -- The words in which functions of both languages are printed.
+--
+-- A test prints `not` where a branch goes where it fails: a branch of Linear goes to its label where its
+-- test holds. An `if` prints the word of its comparison first, since two comparisons of the same operands
+-- must differ.
+--
+-- Constants and offsets print by their signed reading; `case`, `else` and `with` at the level of their
+-- structure.
 use Rattle.std.specs.Prelude.{ℕ, ◌+◌, ◌-◌, Bool, true, false, cond, ◌&&◌, nat_le, List, [], ◌++◌, codes}
 use Rattle.std.specs.Fmt.{decimal, signed_decimal}
 use Rattle.bs_words.specs.Word.{signed_of}

@@ -1,4 +1,7 @@
 //! The blocks of an allocation.
+//!
+//! An allocation lists each block's header and number of cells. Memory has that header at once, and the
+//! first store of a header must store that very word: so cells may be written before or after it.
 ghost use Rattle.std.specs.Prelude.{◌≡◌, ◌<◌, ◌+◌, ◌++◌, [], ◌∷◌, IfOk};
 ghost use Rattle.mach_ir.specs.Blocks.{new_block_bytes, total_block_bytes};
 

@@ -2,6 +2,9 @@
 //!
 //! Operands and results are in the instruction. What an operation holds itself is what it is
 //! known by beside them: a constant, a symbol, a chunk, an offset, a row.
+//!
+//! Beside these Mach has marks for its structures, and Linear labels, jumps and traps: so no mark can be in
+//! Linear.
 
 use crate::blocks::Blocks;
 use crate::seq::Seq;
@@ -124,6 +127,8 @@ pub enum Leaving {
 }
 
 /// An operation of both languages.
+/// What each does to control and to registers is said once, by its functions here and in `MachOp`: liveness and
+/// the passes ask these, in place of a match of their own.
 #[derive(Clone, Drop)]
 pub enum Op {
     /// Computes from registers alone.

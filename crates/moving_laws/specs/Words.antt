@@ -12,8 +12,10 @@ pub record IsFormed (m : List Region) : Type 0 where
 pub record IsReadable (m : List Region) (a : ℕ) : Type 0 where
   pub is : is_some (loaded_number m a 8) ≡ true
 
--- the word of the region that has a byte at this address, whole also where the region ends inside
--- it; 0 where there is none
+-- The word of the region that has a byte at this address, whole also where the region ends inside
+-- it; 0 where there is none.
+-- The last list of static data may have a part of its last cell alone. Stores set that word whole; where
+-- all 8 bytes can be read, it is what the machine reads and writes.
 abbrev pub held_word : List Region → ℕ → ℕ
 held_word [] x = 0
 held_word (r ∷ rs) x =

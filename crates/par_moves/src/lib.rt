@@ -4,6 +4,9 @@
 //! hold what its source held before any of them. A move whose target is still to be read must wait, and
 //! a cycle of moves needs a spare place, which is the scratch register t0. The order is that of a walk
 //! from a move to the moves that read its target, as in CompCert's `Parallelmove`.
+//!
+//! Nothing calls it yet: moves into the places of arguments are one after the other from selection on, and
+//! colouring sees them as such.
 #![tactic(auto)]
 
 pub mod moves;

@@ -3,6 +3,8 @@
 -- A word of 64 bits is made from the top: its highest 32 bits or fewer by lui and addiw, then 12
 -- bits at a time by a shift and addi. Addi and addiw add their 12 bits with their sign, so that
 -- what is above is rounded: one more where the highest of the 12 bits is set.
+--
+-- Zeros at the low end are not stripped: at most nine words, one or two for what fits 12 or 32 bits.
 use Rattle.std.specs.Prelude.{ℕ, zero, suc, ◌+◌, ◌-◌, ◌/◌, ◌%◌, Bool, cond, ◌||◌, nat_eq, nat_lt, nat_le, List, [], ◌∷◌, ◌++◌}
 use Rattle.mach_ir.specs.Forms.{is_immediate_12}
 use Rattle.rv_isa.specs.declared.instr.AluOp.TheVariants as alu

@@ -1,4 +1,7 @@
 -- Loads, stores and allocations.
+--
+-- The bytes of an allocation are made twice, taken off s10 and put into t0, so that the way that does not
+-- ask is short.
 use Rattle.std.specs.Prelude.{ℕ, ◌+◌, ◌*◌, cond, List, [], ◌∷◌, ◌++◌, length}
 use Rattle.bs_words.specs.declared.types.Chunk.{Chunk}
 use Rattle.bs_words.specs.declared.types.Chunk.TheVariants as chunk

@@ -2,6 +2,9 @@
 --
 -- Operands in slots are read into t1 and t2, and a result in a slot is made in t1. T0 keeps its
 -- value over what reads registers alone, loads and stores.
+--
+-- So t1 and t2 alone are scratch where t0 may be live, and a far stack access sets its own scratch
+-- register.
 use Rattle.std.specs.Prelude.{ℕ, ◌+◌, ◌*◌, cond, nat_lt, List, [], ◌∷◌, ◌++◌}
 use Rattle.bs_words.specs.declared.types.Loc.{Loc}
 use Rattle.bs_words.specs.declared.types.Loc.TheVariants as loc

@@ -1,4 +1,7 @@
 -- Labels, jumps, branches on tests, and switches.
+--
+-- A `switch` stays one operation up to here: whether it becomes tests or a table of jumps is decided by
+-- emission.
 use Rattle.std.specs.Prelude.{ℕ, cond, nat_eq, nat_le, List, [], ◌∷◌, ◌++◌, length, map}
 use Rattle.bs_words.specs.declared.operators.CmpOp.{CmpOp}
 use Rattle.bs_words.specs.declared.operators.CmpOp.TheVariants as compare

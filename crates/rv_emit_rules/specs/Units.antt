@@ -3,6 +3,10 @@
 -- An exit counts a unit. Where its label comes right after it, with other labels alone between, and a
 -- branch is right after that label, control comes there without an instruction. The branch takes
 -- one whichever way it goes, and that one stands for the unit.
+--
+-- What shows that the machine goes on is a debt by the code that is left, and not by the run: a plain
+-- number, of at most one unit, owed before a branch alone. A credit of lines before the exit would ask of
+-- each operator that it has words.
 use Rattle.std.specs.Prelude.{ℕ, Bool, true, false, cond, ◌&&◌, List, [], ◌∷◌}
 use Rattle.lin_ir.specs.Formed.{is_label}
 use Rattle.lin_ir.specs.Meaning.{has_label}

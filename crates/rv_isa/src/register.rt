@@ -2,6 +2,10 @@
 //!
 //! Their names are those of the calling convention (RISC-V ELF psABI, "Register Convention"). What they are
 //! used for is the convention of this compiler.
+//!
+//! Registers have this one home, below all that speaks of them; a plain number of a register is in no code
+//! or definition above. Definitions say them in words that compute to the same numbers, since proofs
+//! compute with these.
 
 ghost use Rattle.std.specs.Prelude.{◌≡◌, option_copied, slice_get};
 

@@ -2,6 +2,8 @@
 -- the least forms in which each branch and jump reaches its label.
 --
 -- Places are numbers of words from the entry of the function.
+--
+-- The least ones are unique, so that no order of rounds shows in the image.
 use Rattle.std.specs.Prelude.{◌≡◌, ℕ, ◌+◌, ◌≤◌, Bool, false, cond, ◌&&◌, ◌==◌, nat_lt, nat_le, List, [], ◌∷◌, Option, Some, None, ⊤}
 use Rattle.rv_layout_rules.specs.declared.form.Form.{Form}
 use Rattle.rv_layout_rules.specs.declared.form.Form.TheVariants.{Near, Middle, Far}
@@ -87,7 +89,9 @@ branch_form from to =
 abbrev pub jump_form : (from to : ℕ) → Form
 jump_form from to = cond (jal_reaches from to) Near Far
 
--- a call goes by address where its callee is far, that is where no distance to it is known
+-- A call goes by address where its callee is far, that is where no distance to it is known.
+-- By address it is lui, addi and jalr, so that a unit's relocations can patch it. In an image nothing is
+-- far (`none_far`); no code links units yet.
 abbrev pub call_form : (is_far : Bool) → Form
 call_form is_far = cond is_far Far Near
 

@@ -1,4 +1,6 @@
 //! Code that is made from its end.
+//!
+//! The view is reversed, so that the program follows the definition clause by clause.
 ghost use Rattle.std.specs.Prelude.{◌≡◌, [], ◌∷◌, IfOk, OnOk};
 ghost use Rattle.selection_rules.specs.Instructions as emit;
 ghost use Rattle.mach_ir.specs.declared.mach.Instr.{Instr};

@@ -1,4 +1,8 @@
 //! Calls, exits and raises, with their operands.
+//!
+//! Where a row of registers is held, few calls can fail: a row, a scope and code are dropped at each `?`
+//! after them, and each such exit is proved with all that is before it. So numbers are reckoned first, by
+//! functions that answer a `Copy` struct, and what needs rows is a function over the code.
 ghost use Rattle.std.specs.Prelude.{◌≡◌, ℕ, ◌+◌, ◌<◌, ◌≤◌, ◌∷◌, ◌&&◌, not, length, OnOk};
 ghost use Rattle.cmm_tree.specs.Rows.{expressions_of};
 ghost use Rattle.cmm_tree.specs.Tree.{App, Extcall, Exit, Raise};

@@ -2,6 +2,10 @@
 //! are apart, and an allocation writes a register of its own.
 //!
 //! The crate holds laws alone.
+//!
+//! Registers of a tree are sets with a role, numbered in ranges, and not a table from numbers to registers:
+//! so these laws are short inductions over one walk of the code. Where a seat is live follows from the code
+//! ahead alone, up to the first instruction that is not pure; so that seats are apart needs no graph.
 #![tactic(auto)]
 
 ghost use Rattle.std.specs.Prelude.{ℕ, ◌+◌, ◌-◌, ◌*◌, ◌<◌, List, length, Option};

@@ -1,4 +1,7 @@
 -- What selection promises of the Mach function that it makes of a function of an accepted file.
+--
+-- It asks for runs that are nowhere stuck, since that is the premise of what a pass keeps: so a pass that
+-- keeps carries the text's meaning on.
 use Rattle.std.specs.Prelude.{◌≡◌, ◌≢◌, ℕ, ◌-◌, ◌*◌, List, Option, All, Contains}
 use Rattle.bs_words.specs.External.{External}
 use Rattle.bs_words.specs.declared.types.Comp.TheVariants as comp

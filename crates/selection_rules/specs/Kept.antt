@@ -1,5 +1,7 @@
 -- The machine that loses no addr at a frame point. Selection is proved of it: that it does what the
 -- true machine does, where no addr is live after a frame point, is a fact of the code alone.
+--
+-- So operands, names and parameters need no case of their own.
 use Rattle.std.specs.Prelude.{ℕ, List, [], ◌∷◌, Option, Some, None}
 use Rattle.bs_words.specs.declared.values.Value.{Value}
 use Rattle.mach_ir.specs.Acts.{Around}

@@ -1,5 +1,7 @@
 -- The code of an expression. It is one definition over the tree: the code that follows is handed
 -- in, and each register and label is numbered from a number that is handed in, too.
+--
+-- So no append is in its laws, and a program may fill a vector from the back.
 use Rattle.std.specs.Prelude.{ℕ, zero, suc, ◌+◌, ◌-◌, ◌*◌, ◌%◌, ◌^◌, nat_le, nat_eq, Bool, true, false, not, cond, ◌&&◌, List, [], ◌∷◌, ◌++◌, Option, Some, None, map, length, slice_index_or, bytes_eq}
 use Rattle.bs_words.specs.Fits.{type_of_comp}
 use Rattle.bs_words.specs.declared.operators.CmpOp.{CmpOp}

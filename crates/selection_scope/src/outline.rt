@@ -1,4 +1,6 @@
 //! What of an expression decides how it is selected as a part of another one.
+//!
+//! It is one function, so that a new form has to be put there.
 ghost use Rattle.std.specs.Prelude.{List};
 ghost use Rattle.cmm_types.specs.Annotated.{IsAnnotated};
 ghost use Rattle.cmm_types.specs.Types.{Scoped};

@@ -33,6 +33,8 @@ impl Default for InRow {
 
 /// Registers in a row: the operands of an instruction while they are selected, or parameters. As many as a call has
 /// operands are kept in the value, and take no memory. Contracts see the list of the registers.
+/// There are 17 places, for a callee and 16 arguments. A place wraps a blank of its own, since the list
+/// wants one and a register has none.
 #[derive(Drop)]
 pub struct Regs {
     items: SmallVec<InRow, MOST>,
