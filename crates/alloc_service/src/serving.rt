@@ -1,4 +1,7 @@
 //! The services that move the blocks.
+//!
+//! A service that stops leaves the machine as it was: young blocks that were taken into the table are taken
+//! back.
 ghost use Rattle.std.specs.Prelude.{◌≡◌, ◌≤◌, ◌<◌, ◌-◌, ◌^◌};
 ghost use Rattle.rv_machine.specs.Allocation.{allocation_served, is_request};
 ghost use Rattle.rv_machine.specs.FrameCalls.{collected};

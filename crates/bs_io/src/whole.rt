@@ -1,4 +1,6 @@
 //! Whole reads and whole writes.
+//!
+//! These are loops over `read` and `write`: std's whole reads and writes say little after an error.
 ghost use Rattle.std.specs.Prelude.{◌≡◌, ◌+◌, ◌-◌, ◌^◌, ◌≤◌, ◌<◌, length, take, drop, IfOk, OnOk, IfErr, OnErr, IfSome, vec_len, Err};
 ghost use Rattle.std.specs.Io.KnownBytes.{Consumes, Keeps, Appends, IsAtEnd};
 ghost use Rattle.bs_words.specs.Contents.{contents};

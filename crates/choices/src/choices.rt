@@ -1,6 +1,8 @@
 //! What may be chosen.
 
 /// How registers get their places (OCaml's `asmcomp/asmgen.ml`, its flag `-linscan`).
+/// What is made of a function is indexed by it, and the laws hold for every choice. There is one value
+/// today; a second is a second case in `Chooses` of `reg_rounds_rules`.
 #[derive(Clone, Copy, Drop)]
 pub enum Alloc {
     /// By colouring the graph of interference.

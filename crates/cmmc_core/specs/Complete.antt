@@ -36,6 +36,8 @@ HasOutput out status = Is 0 status ⊎ (Rose out × (status ≡ 6))
 
 -- What a command comes to by the image that is made for the text's file, where it is asked of that
 -- file. Where the command needs an image that fits (`IsSized`), and it does not, the status is 8.
+-- That a text without a fault gives 0, 8, 9 or 6 is said for itself (`accepted`): clauses over the image
+-- that is made do not say that there is one.
 pub record ImageComplete
     (text : List ℕ) (IsAsked IsSized : FileTree → Type 0) (out : Side) (status : ℕ)
     : Type 0 where
@@ -130,6 +132,7 @@ pub record SoakComplete (seed functions : ℕ) (out : Side) (status : ℕ) : Typ
 
 -- The words and what the source is known to hold give the status, but for want of memory. A fault of
 -- out matters only where there is an output, and one of the source only where it is read.
+-- A fault of err matters always, since want of memory has a line too.
 pub record Complete (words : List (List ℕ)) (e : Effects) (status : ℕ) : Type 0 where
   pub no_command : (AreCommandWords words → ⊥) → HasNotRisen e.err → Is 2 status
   pub no_value : ((command : CommandTree) → IsCommand words command → ⊥)

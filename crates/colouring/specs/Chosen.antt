@@ -1,5 +1,8 @@
 -- Which place colouring chooses for each register of a graph: for one after the other, in a fixed order,
 -- the best colour that no neighbour has, or else the slot of its origin.
+--
+-- Unlike in OCaml's `coloring.ml` only direct moves count, a register's own before its neighbours', and
+-- ties go by number. That it is a good choice is not proved.
 use Rattle.std.specs.Prelude.{◌≡◌, ◌↔◌, ◌⊎◌, ℕ, ◌+◌, ◌*◌, ◌/◌, ◌<◌, Bool, true, false, cond, not, nat_eq, nat_lt, nat_le, List, [], ◌∷◌, Option, Some, None, AllPairs, Contains, length, count_by, sum_by, filter, find}
 use Rattle.bs_words.specs.declared.types.Loc.{Loc}
 use Rattle.bs_words.specs.declared.types.Loc.TheVariants as loc

@@ -1,4 +1,7 @@
 //! The choice of places, one after the other.
+//!
+//! What is safe and what is not needless are a clause each. The first holds of whatever chooses places, so
+//! a way of choosing that leaves a colour unused keeps as well.
 ghost use Rattle.std.specs.Prelude.{◌≡◌, IfOk};
 ghost use Rattle.mach_ir.specs.Graph.{IsColourable, InGraph, JoinedIn, coloured_location};
 ghost use Rattle.mach_ir.specs.Placed.{IsProperColouring, NoNeedlessSlot};

@@ -1,4 +1,8 @@
 //! The order in which registers get their places.
+//!
+//! Registers of reloads are first: such a one lives only beside one instruction, and a slot for it would
+//! ask for another of its kind in the next round. Neighbours in slots do not count among those in a
+//! register's way, since they take no colour.
 ghost use Rattle.std.specs.Prelude.{◌≡◌, ℕ, IfOk, OnOk, filter, not};
 ghost use Rattle.std.specs.List.Sorted.{IsPermutation, IsSortedBy, IsStableBy};
 ghost use Rattle.mach_ir.specs.Graph.{IsOrdered};

@@ -49,6 +49,7 @@ pub record IsProperAssignment (m : Mach) (place : LocationAssignment) : Type 0 w
 
 -- The registers of the colours have lower numbers than those whose places are open: so none of these
 -- becomes the register of least number at a colour.
+-- What a call destroys at a colour is written to the register of least number there.
 abbrev pub ColoursLow : Mach → Type 0
 ColoursLow m =
     (r q : Reg) → Contains m.colours r → IsRegister m q → q.loc ≡ loc.Unset → r.number < q.number

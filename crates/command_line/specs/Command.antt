@@ -106,7 +106,7 @@ pub record IsCommand (words : List (List ℕ)) (tree : CommandTree) : Type 0 whe
   pub form : IsForm command others
   pub means : Means others command tree
 
--- the words are the command `compile`, with whatever jobs
+-- The words are the command `compile`, with whatever jobs: what is said of the image knows nothing of them.
 abbrev pub AsksToCompile : List (List ℕ) → Type 0
 AsksToCompile words = (jobs : ℕ) × IsCommand words (CompileCommand jobs)
 

@@ -4,6 +4,9 @@
 //! `--name=value` and at most once, and where the command has one a plain word, which does not begin
 //! with `-`. The command line is stricter than usual: there is no help and no version, no `--`, and
 //! no option in two words.
+//!
+//! Words are tested before `clap` reads them, since its own rules are wider and its refusals name other
+//! causes. Of words of the form it refuses none.
 #![tactic(auto)]
 
 mod command;

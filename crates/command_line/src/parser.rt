@@ -1,4 +1,7 @@
 //! The parser that reads words of the form, and what it is given.
+//!
+//! It is given names, defaults, and that there is no help: no type of a value, and not that an option has
+//! to be there, which the form has tested. A default is a text, read as a given value is.
 ghost use Rattle.std.specs.Prelude.{◌≡◌, [], ◌∷◌, IfOk, IsErrOf, false};
 ghost use Rattle.clap.specs.declared.builder.command.Command.TheViews.{out-Command};
 ghost use Rattle.clap.specs.Words.{app_of, new_rule, rule_of, subcommand_of, subcommand_rows_of, with_subcommand};

@@ -1,4 +1,7 @@
 //! The command that words are.
+//!
+//! The words go along with the matches for the contracts alone: what a value is said to be is said of the
+//! words, and the code looks at the matches. That values come from the matches alone no clause says.
 ghost use Rattle.std.specs.Prelude.{◌≡◌, ◌≤◌, [], ◌∷◌, IfOk, IsErrOf, count_by, Contains};
 ghost use Rattle.clap.specs.Words.{first_value, found_of, subcommand_of, subcommand_rows_of};
 ghost use Rattle.bs_words.specs.Contents.{contents};

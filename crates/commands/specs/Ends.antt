@@ -132,6 +132,8 @@ pub data Cause (words : List (List ℕ)) (source : Side) : ℕ → List ℕ → 
   no_memory : Cause words source 9 no_memory_line
 
 -- How a call ends.
+-- It has one constructor for each way of ending, in place of a list of "exactly where" clauses. The exact
+-- causes are read off: `Complete` says the other half.
 pub data CommandEnds (words : List (List ℕ)) (e : Effects) : ℕ → Type 0 where
   -- out has the whole output, and err nothing
   written : (bytes : List ℕ)

@@ -1,4 +1,7 @@
 -- What the command `soak` does.
+--
+-- It is made of `check` and `run`, by the trees of their words, so that nothing of a run is said again. It
+-- compares nothing; that its three lines are alike is a row.
 use Rattle.std.specs.Prelude.{◌≡◌, ◌≢◌, ◌⊎◌, ℕ, ◌-◌, List, [], ◌∷◌, ◌++◌, codes, length, All}
 use Rattle.cmm_gen.specs.Drawn.{symbol_of, text_of}
 use Rattle.cmm_gen.specs.Drawing.{drawn, generator}

@@ -1,4 +1,6 @@
 //! A sink that keeps what is written to it.
+//!
+//! Its writes fail for want of memory alone, so a write fault of it is answered as that.
 ghost use Rattle.std.specs.Prelude.{◌≡◌, ◌≤◌, ◌<◌, [], Some, length, take, IfOk, OnErr};
 ghost use Rattle.std.specs.Io.KnownBytes.{Appends, Keeps};
 ghost use Rattle.bs_io.specs.Faults.{Risen};

@@ -3,6 +3,9 @@
 //! the image, gives these the status, and writes the line on err (`tell`, `tell_refusal`, `tell_image`).
 //!
 //! `compile`, `check` and `list` read a Cmm text, `run` an image, `soak` nothing. How a call ends is `Ends`.
+//!
+//! A whole output is made before it is written, so that after want of memory out is empty. The outcome of
+//! `run` alone is written as it comes.
 #![tactic(auto)]
 
 pub mod check;

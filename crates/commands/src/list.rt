@@ -1,4 +1,6 @@
 //! The command `list`: a Cmm text in, the text of a stage of the compiler out.
+//!
+//! The gate that it hands in does nothing, since what it makes are texts.
 ghost use Rattle.std.specs.Prelude.{◌<◌, ℕ, List, All, IfOk, IfErr};
 ghost use Rattle.bs_words.specs.Contents.{contents};
 ghost use Rattle.command_line.specs.Command.{IsCommand, ListCommand};

@@ -1,4 +1,7 @@
 //! The command `soak`: a text is drawn, compiled, and run by its meaning and on the machine.
+//!
+//! What cannot come of a drawn text is not answered: that it has no fault, and that its last function takes
+//! two words in file and image, is proved. So those arms are unreachable.
 ghost use Rattle.std.specs.Prelude.{◌≡◌, ◌≤◌, ℕ, List, length, IfOk, IfErr};
 ghost use Rattle.bs_words.specs.Contents.{contents};
 ghost use Rattle.command_line.specs.Command.{IsCommand, SoakCommand};

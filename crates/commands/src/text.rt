@@ -1,4 +1,6 @@
 //! Reading the text of a source.
+//!
+//! At most one byte past the limit is read: a longer input is no text.
 ghost use Rattle.std.specs.Prelude.{IfOk, IfErr};
 ghost use Rattle.bs_words.specs.Contents.{contents};
 ghost use Rattle.bs_fault.specs.Limits.{longest_text};

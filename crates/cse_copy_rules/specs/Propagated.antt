@@ -1,4 +1,8 @@
 -- Mach functions in which operands are read from the registers that they are copies of.
+--
+-- Selection copies each use of a name into a register of its own, so in its code no two operators have the
+-- same operands. Once operands are read from what they are copies of, repeats are found by the operands'
+-- registers.
 use Rattle.std.specs.Prelude.{◌≡◌, ◌≢◌, ℕ, false, List, [], ◌∷◌, ◌++◌, length, map, Contains}
 use Rattle.bs_words.specs.declared.types.Comp.TheVariants as comp
 use Rattle.bs_words.specs.declared.types.Loc.TheVariants as loc
@@ -59,6 +63,8 @@ pub record IsPropagatedBefore (plan : ℕ → Reg → Reg) (m : Mach) (i : Instr
       ≡ made ++ instr_with_sources plan (length next) i ∷ with_sources plan next
 
 -- Each operand is read from what it is a copy of.
+-- That is within a straight run alone, and between open registers of one type. A fixed place stays what the
+-- convention wants of it, and another type would change what is live as val at a frame point.
 pub record IsPropagated (m q : Mach) : Type 0 where
   pub plan : ℕ → Reg → Reg
   pub is : q ≡ record m { code = with_sources plan m.code }

@@ -11,7 +11,9 @@ use Rattle.mach_ir.specs.declared.mach.Instr.{Instr}
 use Rattle.mach_ir.specs.declared.mach.Mach.{Mach}
 use Rattle.cse_repeat_rules.specs.Repeated.{RepeatsEarlier}
 
--- no register is made from another
+-- No register is made from another.
+-- The earlier result is live for longer than before, and a run is stuck where two live registers of one
+-- origin differ. So repeats come before spilling and splitting, which make registers of one origin.
 abbrev pub OwnOrigins : Mach → Type 0
 OwnOrigins m = (r : Reg) → IsRegister m r → r.origin ≡ r.number
 

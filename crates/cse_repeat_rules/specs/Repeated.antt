@@ -62,6 +62,7 @@ pub record StillStands (before : List Instr) (j : Instr) (r : Reg) : Type 0 wher
 
 -- An operator after this code computes what an earlier one did, whose operands and result still hold what
 -- they held then.
+-- An addr repeats none from before an allocation, where its value is lost.
 pub record RepeatsEarlier (before : List Instr) (i : Instr) (r : Reg) : Type 0 where
   pub earlier : Instr
   pub stands : StillStands before earlier r
@@ -99,6 +100,8 @@ pub record IsRepeatedBefore (plan : ℕ → Option Reg) (m : Mach) (i : Instr) (
       ≡ made ++ instr_with_earlier plan (length next) i ∷ with_moves plan next
 
 -- Exactly those operators are moves that repeat one of those that are left before them.
+-- What a repeat repeats is looked for in the code that is left, so one walk from the front finds all. The
+-- work is then dead code's and colouring's.
 pub record IsRepeated (m q : Mach) : Type 0 where
   pub plan : ℕ → Option Reg
   pub is : q ≡ record m { code = with_moves plan m.code }

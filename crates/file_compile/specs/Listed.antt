@@ -68,6 +68,8 @@ stage_text choices Code tree of = []
 
 -- This is the function's text at the stage: the passes up to it make it, and whatever code is made of the
 -- function is made of what this is the text of.
+-- `list` makes no pass past the stage, so this does not say that code is made at all: where the image is
+-- too large there is none.
 pub record IsFunctionText (choices : Choices) (stage : Stage) (tree : FunctionTree) (text : List ℕ)
     : Type 0 where
   pub passed : IsPassText choices stage tree text

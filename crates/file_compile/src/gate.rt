@@ -4,6 +4,8 @@
 /// its number among those of the file, from 0.
 ///
 /// A Gate changes nothing that the compiler sees.
+/// Crates above hand it on, so that what is above them does not name this crate. That it is informed no
+/// clause says; a row does.
 pub trait Gate {
     /// The compile of this function begins when this returns.
     fn enter(&self, piece: u32);

@@ -2,6 +2,9 @@
 //! allocations only in need, it is as small as the text asks, and its descriptors are exact.
 //!
 //! The crate holds laws alone.
+//!
+//! A file has fewer functions than numbers of 32 bits, since its text has at most 2^24 bytes
+//! (`few_functions`). So what numbers them answers no want of memory for it.
 #![tactic(auto)]
 
 ghost use Rattle.std.specs.Prelude.{◌≡◌, ◌<◌, ℕ, All, List, None};

@@ -1,4 +1,7 @@
 //! Where numbers are cut in two parts by their work.
+//!
+//! Functions are not equally long, so of two halves of equal count one would wait for the other. The clause
+//! says only that neither side is empty: what the calls give does not depend on it.
 ghost use Rattle.std.specs.Prelude.{◌≤◌, ◌<◌, length};
 
 /// How many of the numbers the first side gets, so that its part of the work comes near to the part that its jobs are

@@ -2,6 +2,9 @@
 //!
 //! It knows nothing of what is computed: what the calls give is in the order of their numbers, whatever
 //! order they ended in and however many threads there were.
+//!
+//! The contract is over `post` of the function that is called, so that halves in the wrong order are
+//! refused for every function. That threads are started no clause can say; a row does.
 #![tactic(auto)]
 
 mod cut;

@@ -2,6 +2,9 @@
 //!
 //! Each function is laid out by itself, many at a time; then the functions follow the stub one after
 //! the other.
+//!
+//! Pieces are read where other threads can help; of each function one thread alone reads no more than its
+//! sizes (`Laid`).
 #![tactic(auto)]
 
 mod places;

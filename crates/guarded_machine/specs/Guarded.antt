@@ -1,4 +1,7 @@
 -- The machine that refuses an allocation service where s10 is not below the limit word.
+--
+-- That an image is correct is shown over this machine. It never comes to the refusal, so it is the machine
+-- itself, and each service was needed.
 use Rattle.std.specs.Prelude.{ℕ, Bool, true, false, cond, not, ◌&&◌, ◌||◌, ◌==◌, nat_lt}
 use Rattle.machine_laws.specs.Steps.{moments}
 use Rattle.rv_isa.specs.Registers.{s10, t2}

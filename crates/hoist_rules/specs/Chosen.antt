@@ -47,6 +47,9 @@ AreChosen m moves =
     (moves (length next) ≡ true) ↔ IsMoved m i next
 
 -- The second is the first with these constants made at the entry.
+-- The entry is one place for all loops; that each walk passes the place before a loop would have to be
+-- proved. Constants that fit an immediate stay, so that few registers are taken. Symbols stay too: a
+-- setting that does not know the name would be stuck at once.
 pub record HasConstantsFirst (m q : Mach) : Type 0 where
   pub moves : ℕ → Bool
   pub chosen : AreChosen m moves

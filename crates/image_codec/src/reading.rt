@@ -1,4 +1,7 @@
 //! An image from bytes.
+//!
+//! A longer input than any image is still read as one, up to one byte past the longest, so that its first
+//! fault is reported.
 ghost use Rattle.std.specs.Prelude.{◌≡◌, List, ℕ, [], ◌*◌, ◌<◌, length, map, codes, IfOk, IfErr, Ok};
 ghost use Rattle.image_form.specs.Tables.{tables, func, sym, ext, desc, func_names};
 ghost use Rattle.image_form.specs.Image.{IsImage, image_bytes};

@@ -1,4 +1,7 @@
 //! The rows of the tables, each read in view of those before it.
+//!
+//! The number of parameters is tested at its own byte. The count of a table is not tested: one that is too
+//! large shows at the first field past the body's end.
 ghost use Rattle.std.specs.Prelude.{◌≡◌, List, ℕ, [], ◌∷◌, ◌++◌, ◌&&◌, ◌+◌, ◌%◌, ◌==◌, map, nat_lt, nat_le, IfOk};
 ghost use Rattle.std.specs.Int.{w32};
 ghost use Rattle.bs_words.specs.External.{External};

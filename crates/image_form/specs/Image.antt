@@ -1,4 +1,8 @@
 -- The rules that each image keeps, and the one spelling of an image in bytes.
+--
+-- What the compiler writes is less than what an image may hold: that `caml_bound_error` is the first
+-- symbol, and that external entries come in the order of first use, are no rules. An image with an empty
+-- SYMS is read and run.
 use Rattle.std.specs.Prelude.{◌≡◌, ◌≢◌, ⊤, ℕ, ◌+◌, ◌*◌, ◌%◌, ◌^◌, ◌<◌, ◌≤◌, List, [], ◌∷◌, ◌++◌, length, map, ◌⊎◌, codes, cond, ◌==◌}
 use Rattle.bs_words.specs.Fits.{data_limit}
 use Rattle.bs_words.specs.Symbol.{IsSymbol}

@@ -1,4 +1,6 @@
 //! How often the code reads or writes each register.
+//!
+//! Each use counts one, in a loop or not: Mach has no loops but exits that go back.
 ghost use Rattle.std.specs.Prelude.{◌≡◌, ◌+◌, ◌<◌, ℕ, All, length, slice_index, IfOk};
 ghost use Rattle.mach_ir.specs.Graph.{times_among, uses_of};
 ghost use Rattle.mach_ir.specs.Sizes.{operand_count, number_limit};

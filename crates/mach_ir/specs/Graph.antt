@@ -76,7 +76,9 @@ abbrev pub uses_of : ℕ → List Instr → ℕ
 uses_of n [] = 0
 uses_of n (i ∷ is) = times_among n i.args + times_among n i.results + uses_of n is
 
--- the graph of a function: its registers, exactly its edges, its moves and its uses
+-- The graph of a function: its registers, exactly its edges, its moves and its uses.
+-- Nodes and neighbours are by rising number, so that the graph is determined by the function, and with it
+-- the colouring.
 pub record IsGraph (m : Mach) (g : Graph) : Type 0 where
   pub order : IsOrdered g
   pub sorted : AreSorted g

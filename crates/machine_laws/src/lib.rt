@@ -2,4 +2,6 @@
 //! stays over, and no call is forgotten.
 //!
 //! The crate holds definitions and laws alone.
+//!
+//! It is below the services, so that what is known of words, regions, blocks and the start is stated once.
 #![tactic(auto)]

@@ -1,5 +1,8 @@
 -- What is known of a function that was compiled, whatever passes made it. That the image of a file
 -- is correct rests on this alone.
+--
+-- What is known of its lines is a record of its own, which speaks of the Linear function and of the text's
+-- alone. So a pass over Linear that comes last has to give that again, and nothing above changes.
 use Rattle.std.specs.Prelude.{◌≡◌, ℕ, List, [], All, length}
 use Rattle.bs_words.specs.declared.types.Comp.{Comp}
 use Rattle.cmm_tree.specs.Tree.{FunctionTree}

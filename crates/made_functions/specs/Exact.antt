@@ -27,6 +27,8 @@ pub record IsFunctionExact (choices : Choices) (tree : FunctionTree)
   pub laid : IsLaidOutAs lin descriptors pieces
 
 -- The image is laid out of such pieces, one for each function of the file, in order.
+-- It is said of parts, and not of words alone: emission places operands of returns and calls by the
+-- convention and does not look at them. So another function with the same words may have more that is live.
 pub record IsExact (choices : Choices) (file : FileTree) (image : Tables) : Type 0 where
   pub pieces : List Pieces
   pub laid : IsLaid file pieces image

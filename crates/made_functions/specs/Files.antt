@@ -1,4 +1,7 @@
 -- What the compiler makes of a file.
+--
+-- Status 8 speaks of these tables, with the first section that passes its limit, computed before any word
+-- is made. So no padded code can bring it about. They are tables, and no image: an image keeps its limits.
 use Rattle.std.specs.Prelude.{List}
 use Rattle.std.specs.List.{AllZip}
 use Rattle.choices.specs.declared.choices.Choices.{Choices}

@@ -1,6 +1,9 @@
 -- What the compiler makes of one function of a text, by what is chosen: its Mach function, what the
 -- passes over Mach and register allocation make of that, its Linear function, its frame descriptors and
 -- its pieces of code.
+--
+-- It is a relation with one value, and no function: some passes are definitions, and the others are
+-- determined by what they promise. That there is at most one is proved in `made_once`.
 use Rattle.std.specs.Prelude.{◌≡◌, List, length}
 use Rattle.choices.specs.declared.choices.Choices.{Choices}
 use Rattle.choices.specs.declared.choices.Order.{Order}

@@ -5,7 +5,8 @@ use Rattle.rv_machine.specs.Placement.{drawn_plan}
 use Rattle.rv_machine.specs.Run.{Schedule}
 use Rattle.mover_plans.specs.Words.{seed_word}
 
--- no asks and no plans
+-- No asks and no plans.
+-- Without a valid plan the blocks are packed.
 abbrev pub never : Schedule
 never = record { asks = λ k. false; plan = λ s blocks. [] }
 

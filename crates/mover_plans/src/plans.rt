@@ -1,4 +1,7 @@
 //! The plans of a seed.
+//!
+//! The word of a service is found by a jump of the generator, and not by a second one that runs along: the
+//! word is the same.
 ghost use Rattle.std.specs.Prelude.{◌≡◌};
 ghost use Rattle.bs_words.specs.Word.{add_word};
 ghost use Rattle.mover_plans.specs.Words.{seed_word};

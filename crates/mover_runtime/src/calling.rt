@@ -1,4 +1,7 @@
 //! External calls.
+//!
+//! A frame call that ends in HeapOut or Stopped is not among the calls, so what its arguments showed is
+//! kept until the blocks have moved. S1 is tested after the move, since a descriptor may name it.
 ghost use Rattle.std.specs.Prelude.{◌≡◌, ◌≤◌, ◌<◌, ◌-◌, ◌^◌, ℕ, List, [], ◌∷◌, length, drop, IfOk, None, suc};
 ghost use Rattle.bs_words.specs.Contents.{contents};
 ghost use Rattle.image_form.specs.Tables.{ext};

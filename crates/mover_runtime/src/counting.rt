@@ -1,4 +1,7 @@
 //! What the machine does where its counts are not at their ends.
+//!
+//! Definitions count instructions and services without end. The code's counts stay at the end of their
+//! type, and its contracts say so.
 ghost use Rattle.std.specs.Prelude.{◌≡◌, ◌<◌, ◌≤◌, ◌-◌, ◌^◌, suc, true};
 ghost use Rattle.alloc_service.specs.Plan.{Serves, plan_of};
 ghost use Rattle.rv_machine.specs.Allocation.{allocation_served};

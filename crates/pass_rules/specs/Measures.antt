@@ -36,6 +36,9 @@ words_for_instr (mach.Mark f) args results = mark_words f + 16 * length results
 abbrev pub instr_words : Instr → ℕ
 instr_words i = words_for_instr i.op i.args i.results
 
+-- The words of code, before it has places: a copy has six, a load and a store with far offsets. Any other
+-- operation has 32, and 16 for each result. So copies, of which passes make many, do not use up the words
+-- that an image may have.
 abbrev pub code_words : List Instr → ℕ
 code_words [] = 0
 code_words (i ∷ is) = instr_words i + code_words is
@@ -65,6 +68,8 @@ operands_with (mach.Op (op.Pure (pure.Copy kind))) args results = 0
 operands_with (mach.Op f) args results = length args + length results
 operands_with (mach.Mark f) args results = length args + length results
 
+-- The operands and results of what is no copy: neither spilling nor a round makes more of them, so that
+-- words do not depend on how many rounds there are.
 abbrev pub other_operands : List Instr → ℕ
 other_operands [] = 0
 other_operands (i ∷ is) = operands_with i.op i.args i.results + other_operands is

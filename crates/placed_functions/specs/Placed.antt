@@ -1,5 +1,9 @@
 -- What is known of the Mach function with places that is made of a function of an accepted text, whatever
 -- passes made it. That its code does what the text says, and is as small, rests on this alone.
+--
+-- No pass counts slots. Each keeps that no origin is new, and that a new slot is numbered as its register's
+-- origin; selected code has no slot. So slots are among the origins of selection's open registers, at most
+-- `2 * (tokens - tries)`, whatever passes there were, and frames need nothing of the passes.
 use Rattle.std.specs.Prelude.{◌+◌, ◌*◌, ◌-◌, ◌≤◌, length, All}
 use Rattle.cmm_tree.specs.Measures.{all_tries}
 use Rattle.cmm_tree.specs.Tree.{FunctionTree}

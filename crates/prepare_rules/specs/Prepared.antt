@@ -1,5 +1,11 @@
 -- What the passes before register allocation make of a Mach function (OCaml's `asmcomp/asmgen.ml`,
 -- with two more right before spilling).
+--
+-- It is one flat record, a field for each pass with its relation: so one function is made, though most
+-- passes are said by relations.
+--
+-- Copies and repeats are done twice, which finds the addresses of elements. What is three deep is left; one
+-- walk that reads sources and looks for repeats in the same code would find it too.
 use Rattle.std.specs.Prelude.{ℕ, ◌+◌, ◌*◌, length}
 use Rattle.comballoc_rules.specs.Combined.{combined}
 use Rattle.comballoc_rules.specs.Kept.{IsCombinable}

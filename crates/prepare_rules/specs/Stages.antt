@@ -1,4 +1,7 @@
 -- What the passes before register allocation make up to a stage.
+--
+-- Constants and late stores are seen in the stage of spilling, since the stages that `list` shows are
+-- OCaml's.
 use Rattle.std.specs.Prelude.{◌≡◌, ⊤}
 use Rattle.comballoc_rules.specs.Combined.{combined}
 use Rattle.cse_copy_rules.specs.Propagated.{IsPropagated}

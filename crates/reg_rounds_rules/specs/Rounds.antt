@@ -65,6 +65,8 @@ pub record IsAllocatedIn (alloc : Alloc) (m q : Mach) (rounds : ℕ) (rest : Boo
   pub free : IsFree m fresh
   pub ends : EndsRounds alloc fresh m q rounds rest
 
+-- That rounds end is not proved. The last resort begins with the function as it was before the first round,
+-- so that nothing of the rounds has to be undone.
 pub record IsRegisterAllocated (alloc : Alloc) (m q : Mach) : Type 0 where
   pub rounds : ℕ
   pub rest : Bool

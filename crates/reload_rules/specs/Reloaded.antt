@@ -1,5 +1,8 @@
 -- Mach functions in which what is in slots is reloaded before it is read and spilled after it is
 -- written, but by copies.
+--
+-- A register of a reload that is put into a slot itself goes to the slot of its origin, and that copy has
+-- no words. So an operand costs words once, however many rounds there are.
 use Rattle.std.specs.Prelude.{◌≡◌, ℕ, suc, ◌<◌, ◌≤◌, Bool, true, false, cond, ◌&&◌, ◌||◌, not, List, [], ◌∷◌, ◌++◌}
 use Rattle.bs_words.specs.declared.types.Loc.{Loc}
 use Rattle.bs_words.specs.declared.types.Loc.TheVariants as loc

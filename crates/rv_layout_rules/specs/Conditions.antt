@@ -102,6 +102,8 @@ pub record IsFileLaid (file : FileTree) : Type 0 where
 -- ---- both
 
 -- A file and the pieces of its functions, in order.
+-- All pieces have to weigh less than 2^48, so that places, sizes and sums of them are numbers of 64 bits. A
+-- text of at most 16 MiB has no more (`images_are_bounded`).
 pub record CanBeLaid (file : FileTree) (ps : List Pieces) : Type 0 where
   pub of_file : IsFileLaid file
   pub each_one : length ps ≡ length (functions file)

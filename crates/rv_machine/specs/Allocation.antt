@@ -27,6 +27,8 @@ blocks_at_request h = cond (is_request (bytes_asked h)) (blocks_at h (young_from
 abbrev pub after_request : ℕ → Hart → Serviced
 after_request bytes h = Goes (past_ecall (emptied bytes h))
 
+-- As `moved_memory`, `frames` and `hart` it is opened by name alone, so that goals over it stay short
+-- elsewhere.
 unfoldable pub allocation_served : (List Placed → List ℕ) → Hart → Serviced
 allocation_served plan h =
     serve_then (after_request (bytes_asked h)) (with_blocks plan h (blocks_at_request h))

@@ -1,4 +1,8 @@
 -- The walk up the stack: the frames of the functions that have not returned, and what they name.
+--
+-- The walk is bounded by the stack's bytes divided by 16, which no stack comes to. Sums may wrap: with
+-- sizes of 32 bits the first frame's sum can come round into the stack, so what is visited is stated from
+-- the stack's base.
 use Rattle.std.specs.Prelude.{ℕ, zero, suc, ◌+◌, ◌-◌, ◌/◌, ◌%◌, Bool, true, false, cond, not, ◌&&◌, ◌||◌, ◌==◌, nat_le, List, [], ◌∷◌, ◌++◌, Option, Some, None, find, option_map, option_and_then}
 use Rattle.std.specs.List.{list_any, list_all}
 use Rattle.bs_words.specs.Word.{add_word}

@@ -1,5 +1,8 @@
 -- The table of marks: a word for each word where a block may start, those of the young area first, then
 -- those of the second half of the heap and of the first.
+--
+-- A block is found by its old start in one access, so a service is linear in the bytes of blocks and stack.
+-- All words are 0 between services.
 use Rattle.std.specs.Prelude.{◌≡◌, ℕ, ◌+◌, ◌-◌, ◌/◌, ◌%◌, Bool, cond, ◌&&◌, ◌==◌, nat_le, nat_lt, List, Option, Some, None, slice_index}
 use Rattle.rv_machine.specs.Observation.{young_start}
 use Rattle.rv_machine.specs.Places.{half_start}

@@ -1,5 +1,8 @@
 -- How a service moves blocks from their old places to new ones. Every word that is moved or rewritten is
 -- read from the old state.
+--
+-- Named locations and root cells are rewritten first, then old places vacated, then
+-- blocks copied. For places outside the heap that order does not show.
 use Rattle.std.specs.Prelude.{ℕ, suc, ◌%◌, ◌^◌, Bool, true, false, cond, ◌==◌, nat_lt, List, [], ◌∷◌, map, replicate, slice_index}
 use Rattle.rv_machine.specs.Hart.{Placed, with_register}
 use Rattle.rv_machine.specs.Memory.{Region, memory_word, write, words_at, put}

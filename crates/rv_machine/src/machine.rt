@@ -39,6 +39,8 @@ pub(crate) struct Room {
 }
 
 /// The machine. Contracts see the state of its hart.
+/// It borrows its image and decodes each word as it comes, so that there is no second way to run. A table
+/// of decoded words, tried, takes a quarter of a step's time away.
 #[derive(Drop)]
 pub struct Machine<'a> {
     /// The image that it runs.

@@ -1,5 +1,9 @@
 -- Which registers are moved to themselves before a call, so that spilling stores them there and at
 -- none of the assignments before.
+--
+-- The move is a write, so spilling, whose definition stays as it was, stores this write and none before it.
+-- A register is moved only where it is written since the last call on every walk, and no other call and no
+-- read may find it both so and not. Without that a call in one branch would be stored for twice.
 use Rattle.std.specs.Prelude.{◌≡◌, ◌↔◌, ◌<◌, ℕ, true, false, List, ◌∷◌, ◌++◌, length, All, AllPairs, Contains}
 use Rattle.bs_words.specs.declared.types.Loc.TheVariants as loc
 use Rattle.mach_ir.specs.Placed.{is_straight, AreStraight}
@@ -63,6 +67,8 @@ pub record IsSinkChoice (m : Mach) (plan : SinkPlan) : Type 0 where
       (plan.moves (length next) r.number ≡ true) ↔ IsSunkAt m i next r
 
 -- The second is the first with these moves.
+-- The move is at the start of the straight run to the call. Right before the call the operands of the call
+-- have taken the colours of the convention, so a register that lives on could not have one of them.
 pub record IsSunk (m q : Mach) : Type 0 where
   pub plan : SinkPlan
   pub chosen : IsSinkChoice m plan

@@ -20,6 +20,7 @@ pub data Fresh (m : Mach) (n : ℕ) : List Instr → Type 0 where
 -- Some walk leads to this code from the entry, where it is no parameter, or from over a call or the
 -- entry of a handler, and does not write the register: so it may hold nothing yet, or be in its
 -- slot already. What an instruction writes is not written on the way to a handler.
+-- A move that reads what no walk has written would be stuck where the function is not.
 pub data Stale (m : Mach) (n : ℕ) : List Instr → Type 0 where
   at_entry : (AmongRegisters n m.params → ⊥) → Stale m n m.code
   over : {i : Instr} {next to : List Instr} → StandsAsInstr i next m.code →

@@ -14,6 +14,8 @@ use Rattle.spill_rules.specs.Spilled.{SpillPlan, reloads_of, spills_of, operand_
 -- A register is live over an instruction that destroys every colour (a call or the entry of a
 -- handler): it is live where control goes on from there, and not written there. A tail call goes
 -- nowhere. An external call leaves colours, so what is live over it may keep one.
+-- Thirty values over an external call then take 21 slots and not thirty, and nine none. OCaml's `spill.ml`
+-- sets the two apart in the same way.
 pub data LivesOver (m : Mach) (n : ℕ) (i : Instr) (next : List Instr) : List Instr → Type 0 where
   lives : {to : List Instr} → StandsAsInstr i next m.code → destroyed_by i.op ≡ Everything →
       (Writes m i n → ⊥) → WalkStep m i next to → Live m n to → LivesOver m n i next to

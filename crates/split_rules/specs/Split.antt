@@ -48,6 +48,8 @@ pub record IsDense (m : Mach) (names : Naming) : Type 0 where
 
 -- The web of a register's first write keeps the register's number, and each other web has the index
 -- of its first write, from the first free number on. An operand to which no write comes keeps its own.
+-- So splitting has one result: which web keeps the register's number is settled by the order of first
+-- writes, in which the entry's come first.
 pub record AreByFirst (m : Mach) (names : Naming) : Type 0 where
   pub free : ℕ
   pub above : (r : Reg) → IsRegister m r → r.number < free

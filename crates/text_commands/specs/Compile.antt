@@ -13,6 +13,7 @@ use Rattle.rv_layout_rules.specs.TooLarge.{first_too_large}
 use Rattle.choices.specs.Defaults.{defaults}
 
 -- This image is made for the file, and no other.
+-- So TooLarge speaks of that image whoever reads it.
 pub record IsOnlyMadeFor (file : FileTree) (image : Tables) : Type 0 where
   -- each function through all passes, and all of them laid out
   pub made : AreTablesMadeFor defaults file image

@@ -12,6 +12,7 @@ use Rattle.text_commands.specs.declared.compile.Refusal.{Refusal}
 use Rattle.text_commands.specs.declared.compile.Refusal.TheVariants.{Fault, TooLarge, OutOfMemory}
 
 -- These bytes are such a text of the image of the text, which is correct, and exact.
+-- `frames` and `code` are texts of the image, and have none for a function.
 pub record ListsImage (text_of : Tables → List ℕ) (text bytes : List ℕ) : Type 0 where
   pub image : Tables
   pub is_image : IsImageOf text image

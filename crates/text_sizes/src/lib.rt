@@ -2,6 +2,9 @@
 //! tokens, its external calls and its symbols.
 //!
 //! The crate holds definitions and laws alone.
+//!
+//! The bound of words by the text rests on the limit of nesting: an exit pops one trap, in two words, for
+//! each try that it ends, and at most 250 tries nest. Tokens alone would not bound it.
 #![tactic(auto)]
 
 ghost use Rattle.std.specs.Prelude.{ℕ, ◌≤◌, List, Contains};
