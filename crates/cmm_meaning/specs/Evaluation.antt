@@ -151,8 +151,8 @@ fit_parameters end (c ∷ comps) (v ∷ values) =
     fits end (type_of_comp c) v && fit_parameters end comps values
 fit_parameters end _ _ = false
 
--- The activation after a call, which has changed nothing of it; no exit leaves a function of an accepted text.
--- Such an exit is a bad call, so that a callee gives, raises or stops, and nothing else.
+-- The activation after a call, which has changed nothing of it. No exit leaves a function of an accepted text:
+-- it is a bad call, so that a callee gives, raises or stops, and nothing else.
 abbrev pub back_from_call : Here → Evaluation → Evaluation
 back_from_call h (Gives v _ w) = Gives v h w
 back_from_call h (Exits label values _ w) = Stops (NotProper BadCall) w
@@ -233,7 +233,7 @@ handled end (Some r) label values level tries h w again =
     let bound : Here = with_bound (map scoped_parameter r.params) values inside in
     again (entered end r.params values w (back level tries (r.body bound w)))
 
--- What a catch with these handlers makes of an evaluation of its body, or of one of its handlers; an exit
+-- What a catch with these handlers makes of an evaluation of its body, or of one of its handlers. An exit
 -- costs a unit each time, so that so many turns are enough.
 -- Where no turn is left an exit still tests its arguments, so that code made for it may test first.
 abbrev pub caught : ℕ → ℕ → Bool → List (Ready Body) → ℕ → ℕ → Evaluation → Evaluation

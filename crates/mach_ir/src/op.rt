@@ -127,8 +127,8 @@ pub enum Leaving {
 }
 
 /// An operation of both languages.
-/// What each does to control and to registers is said once, by its functions here and in `MachOp`: liveness and
-/// the passes ask these, in place of a match of their own.
+/// What each does to control and to registers is said once, by its functions here and in `MachOp`.
+/// Liveness and the passes ask these, in place of a match of their own.
 #[derive(Clone, Drop)]
 pub enum Op {
     /// Computes from registers alone.
