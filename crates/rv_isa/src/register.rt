@@ -3,9 +3,9 @@
 //! Their names are those of the calling convention (RISC-V ELF psABI, "Register Convention"). What they are
 //! used for is the convention of this compiler.
 //!
-//! Registers have this one home, below all that speaks of them; a plain number of a register is in no code
-//! or definition above. Definitions say them in words that compute to the same numbers, since proofs
-//! compute with these.
+//! Registers have this one home, below all that speaks of them. Above, no code or definition has a plain
+//! number of one, but rows of tests, and a jump that keeps no return address (0, which is x0). Definitions
+//! say them in words that compute to the same numbers, since proofs compute with these.
 
 ghost use Rattle.std.specs.Prelude.{◌≡◌, option_copied, slice_get};
 
