@@ -22,7 +22,8 @@ use crate::stack::descriptor_of;
 use image_form::Image;
 use rv_machine::{BlockPlace, CODE_START, Memory, Space, Table};
 
-// Chooses the new starts of the blocks and marks the old ones with them.
+// The table serves twice: a plan is tested by claims in it, which leave it clean, and then the old starts are
+// marked with the new ones.
 fn prepare(plan: Plan<'_>, number: u64, heap: u64, space: &mut Space, blocks: &[BlockPlace])
     requires space { IsSpace heap space.old }
     requires aligned { heap % 16 ≡ 0 }
@@ -43,7 +44,7 @@ fn prepare(plan: Plan<'_>, number: u64, heap: u64, space: &mut Space, blocks: &[
     forward_all(&mut space.table, blocks, &space.starts);
 }
 
-// Makes the space as it is between services.
+// Between services all marks are 0 and the lists are empty, also after a service that stops.
 fn restore(heap: u64, space: &mut Space, blocks: &[BlockPlace])
     requires prepared { (news : List Placed) × IsPrepared heap blocks.now news space.old }
     requires placed { AllByRecursion (IsPlaced heap) blocks.now }
@@ -124,7 +125,8 @@ pub fn attempt(
     }
 }
 
-// Moves the blocks to the starts in the space, and rewrites all that points to them.
+// Moves the blocks. All is read and redirected while the old starts are in the table, and the words of the
+// blocks are gathered before any place is written over, since old and new places may overlap.
 fn move_all(
     image: &Image,
     caller: Caller,
@@ -170,7 +172,7 @@ fn move_all(
     space.words.clear();
 }
 
-// Rewrites the registers that the first frame names, if there is one.
+// Only the first frame names registers, since a call destroys those of its caller.
 fn redirect_first(
     image: &Image,
     table: &Table,

@@ -62,7 +62,8 @@ fn is_in_half(half: u64, heap: u64, start: u64, words: u64) -> bool
     half + 8 <= start && start <= half + heap && start + 8 * words <= half + heap
 }
 
-// Claims the words of each block at its new place, or reports that one was claimed before.
+// Claims the words of each block at its new place, or reports that one was claimed before. So overlaps are
+// found in one pass over the bytes, and not by pairs of blocks.
 fn claim(table: &mut Table, heap: u64, blocks: &[BlockPlace], starts: &[u64]) -> bool
     requires clean { IsClean table.old }
     requires of_heap { table.old.heap ≡ heap }

@@ -56,7 +56,7 @@ pub fn take_young(
 }
 
 // Reads the blocks from an address up to the young area's top, the lowest first, or reports that there are no
-// whole blocks.
+// whole blocks. A block has 16 bytes at least, so the loop ends whatever the headers say.
 fn read_young(memory: &Memory, from: u64, young: &mut Vec<BlockPlace>) -> bool
     requires empty { young.old.items ≡ [] }
     requires room { 4097 ≤ vec_capacity young.old }
@@ -98,7 +98,7 @@ fn bytes_used(blocks: &[BlockPlace]) -> u64
     used
 }
 
-// Moves the blocks into the table, the last first.
+// The last goes first: allocation goes down, so the block at the highest address has the first serial.
 fn enter(young: &mut Vec<BlockPlace>, blocks: &mut Vec<BlockPlace>)
     requires { length blocks.old.items + length young.old.items ≤ vec_capacity blocks.old }
     ensures entered { blocks.new.items ≡ blocks.old.items ++ reverse young.old.items }
