@@ -113,7 +113,8 @@ fn claim_block(table: &mut Table, start: u64, words: u64) -> bool
     true
 }
 
-// Takes all claims back.
+// Takes all claims back. Each word is unmarked, claimed or not: a plan that is refused has claimed some of
+// them.
 fn release(table: &mut Table, heap: u64, blocks: &[BlockPlace], starts: &[u64])
     requires of_heap { table.old.heap ≡ heap }
     requires most { heap ≤ most_room }

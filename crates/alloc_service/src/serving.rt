@@ -73,7 +73,8 @@ pub fn serve_frame_call(machine: &mut Machine<'_>, plan: Plan<'_>) -> ServiceEnd
     }
 }
 
-// Empties the young area but for so many bytes, and asks no more.
+// Empties the young area but for so many bytes. The limit word goes back to its start, since an ask is over
+// once it is served.
 fn empty(machine: &mut Machine<'_>, bytes: u64)
     requires { bytes ≤ 2056 }
     ensures { machine.new ≡ emptied bytes machine.old }

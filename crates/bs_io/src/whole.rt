@@ -52,7 +52,7 @@ pub enum OutFault {
     Write,
 }
 
-// The most bytes that one read is given room for.
+// The most bytes that one read is given room for: the limit is far above most inputs.
 const CHUNK: usize = 64 * 1024;
 
 /// Reads a source to its end, which has to come within `limit` bytes.
@@ -110,7 +110,7 @@ fn make_room(buffer: &mut Vec<u8>, filled: usize, most: usize) -> Result<(), All
     buffer.resize(grown, 0)
 }
 
-// One read into the buffer from `at` on.
+// One read, by itself: its clause speaks of the bytes from `at` on, and not of what was read before.
 fn read_at<S: Source>(source: &mut S, buffer: &mut [u8], at: usize) -> Result<usize, Failed>
     requires { at < length buffer.old }
     ensures front { take at buffer.new ≡ take at buffer.old }

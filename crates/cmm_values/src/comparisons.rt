@@ -96,7 +96,7 @@ fn unsigned_holds(op: CmpOp, left: u64, right: u64) -> bool
     }
 }
 
-// A pointer at a byte of its block.
+// A pointer at a byte of its block. In 128 bits eight times a number of cells cannot wrap.
 fn is_in(memory: &Memory, serial: u64, offset: u64) -> bool
     ensures { result ≡ is_in (sizes memory.now) serial offset }
 {
@@ -113,14 +113,15 @@ pub(crate) fn is_near(memory: &Memory, serial: u64, offset: u64) -> bool
 /// The offset of the header of a block: 8 bytes before its start.
 const HEADER: u64 = 0xFFFF_FFFF_FFFF_FFF8;
 
-// A word that is the address of no byte of a block at this offset.
+// A word that is the address of no byte of a block at this offset, wherever the mover puts the block: blocks
+// start at multiples of 8 from 0x30000000 on, and lie below 0x40000000.
 fn is_apart_from_block(offset: u64, word: u64) -> bool
     ensures { result ≡ is_apart_from_block offset word }
 {
     word < 0x3000_0000 || word > 0x3FFF_FFFF || (word % 2 == 1 && offset % 2 == 0)
 }
 
-// A word that is the address of no function.
+// A word that is the address of no function: these are even, and in the code's region.
 fn is_apart_from_code(word: u64) -> bool
     ensures { result ≡ is_apart_from_code word }
 {

@@ -155,7 +155,7 @@ fn unequal_bits_of(left: Value, right: Value) -> Result<Value, Kind>
     }
 }
 
-// A divisor 0 comes before everything else.
+// A divisor 0 comes before everything else, so that of a pointer too it is `DivideByZero`.
 fn quotient_of(left: Value, right: Value) -> Result<Value, Kind>
     ensures { result ≡ quotient_of div_word left right }
 {
@@ -178,7 +178,7 @@ fn remainder_of(left: Value, right: Value) -> Result<Value, Kind>
     }
 }
 
-// An amount of 64 or more comes before everything else.
+// An amount of 64 or more comes before everything else, so that of a pointer too it is `ShiftRange`.
 fn left_shift_of(left: Value, right: Value) -> Result<Value, Kind>
     ensures { result ≡ shift_of shl_word left right }
 {

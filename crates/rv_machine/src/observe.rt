@@ -57,7 +57,8 @@ fn serial_in(blocks: &[BlockPlace], address: u64) -> Option<u64>
 }
 
 // The serial of the block that starts at an address, among the young ones from `from` on, the one at the
-// highest address being the first.
+// highest address being the first. A header says only where the next higher block is, so the walk goes up and
+// the serial is counted from its end (`passed`).
 fn young_serial(memory: &Memory, from: u64, address: u64) -> Option<u64>
     ensures exact { result
         ≡ serial_from 0 (reverse (or_none (young_blocks memory.now from))) address }
