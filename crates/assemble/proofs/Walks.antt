@@ -19,11 +19,10 @@ use Rattle.image_form.specs.Image.{code_limit, stub_words}
 use Rattle.image_form.specs.Tables.{Func}
 use Rattle.rv_layout_rules.specs.declared.form.Form.{Form}
 use Rattle.rv_layout_rules.specs.Conditions.{IsFunctionLaid, HasAlignedTarget, AllLead}
-use Rattle.rv_layout_rules.specs.Forms.{total_words, place_or_entry}
+use Rattle.rv_layout_rules.specs.Forms.{total_words, place_or_entry, all_words}
 use Rattle.rv_layout_rules.specs.Laid.{function_entries_from, address_of_place, function_words, row_at, rows_from, addresses_named_at}
 use Rattle.rv_layout_rules.specs.TooLarge.{first_too_large}
 use Rattle.rv_layout_rules.specs.Words.{NameAddresses, target_of, words_to}
-use Rattle.rv_layout_rules.proofs.Rules.{all_words}
 use Rattle.rv_layout_rules.proofs.Standing.{words_by_targets}
 use Rattle.mach_ir.specs.Acts.{external_row}
 use Rattle.rv_layout.specs.Tables.{words_of_labels, IsLabelTable}

@@ -7,9 +7,8 @@ use Rattle.std.proofs.lemmas.List.Sums.{sum_by-cons}
 use Rattle.function_places.specs.Places.{IsLaid}
 use Rattle.function_places.specs.declared.places.Laid.{Laid}
 use Rattle.rv_layout_rules.specs.declared.form.Form.{Form}
-use Rattle.rv_layout_rules.specs.Forms.{total_words}
+use Rattle.rv_layout_rules.specs.Forms.{total_words, all_words}
 use Rattle.rv_layout_rules.specs.Laid.{function_entries_from, AreAllForms}
-use Rattle.rv_layout_rules.proofs.Rules.{all_words}
 use Rattle.rv_pieces.specs.declared.piece.Pieces.{Pieces}
 use Rattle.bs_words.proofs.Lists.{drop_step}
 

@@ -7,9 +7,8 @@ use Rattle.function_places.specs.declared.places.Places.{Places}
 use Rattle.image_form.specs.Image.{stub_words}
 use Rattle.rv_layout_rules.specs.declared.form.Form.{Form}
 use Rattle.rv_layout_rules.specs.Conditions.{weight_of}
-use Rattle.rv_layout_rules.specs.Forms.{total_words, none_far, AreForms}
+use Rattle.rv_layout_rules.specs.Forms.{total_words, none_far, AreForms, all_words}
 use Rattle.rv_layout_rules.specs.Laid.{function_entries_from, AreAllForms}
-use Rattle.rv_layout_rules.proofs.Rules.{all_words}
 use Rattle.rv_pieces.specs.declared.piece.Pieces.{Pieces}
 
 abbrev pub size_of : Pieces → ℕ

@@ -7,6 +7,7 @@ use Rattle.rv_layout_rules.specs.declared.form.Form.{Form}
 use Rattle.rv_layout_rules.specs.declared.form.Form.TheVariants.{Near, Middle, Far}
 use Rattle.rv_pieces.specs.declared.piece.Piece.{Piece}
 use Rattle.rv_pieces.specs.declared.piece.Piece.TheVariants.{Known, Label, Branch, Jump, Row, LabelAddress, Call, TailCall, SymbolAddress, ExternalNumber, Descriptor}
+use Rattle.rv_pieces.specs.declared.piece.Pieces.{Pieces}
 
 -- ---- words
 
@@ -47,6 +48,12 @@ abbrev pub total_words : List Piece → List Form → ℕ
 total_words [] forms = 0
 total_words (p ∷ ps) [] = 0
 total_words (p ∷ ps) (f ∷ forms) = piece_words p f + total_words ps forms
+
+-- the words of all functions
+abbrev pub all_words : List Pieces → List (List Form) → ℕ
+all_words [] forms = 0
+all_words (p ∷ ps) [] = 0
+all_words (p ∷ ps) (f ∷ forms) = total_words p.code f + all_words ps forms
 
 -- ---- places
 

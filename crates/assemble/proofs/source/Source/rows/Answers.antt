@@ -7,9 +7,8 @@ use Rattle.assemble.proofs.Walks.{forms_long, function_at, rows_more, function_h
 use Rattle.cmm_tree.specs.Tree.{functions_among}
 use Rattle.cmm_tree.specs.View.{function_view, item_view}
 use Rattle.image_form.specs.Tables.{func}
-use Rattle.rv_layout_rules.specs.Forms.{total_words}
+use Rattle.rv_layout_rules.specs.Forms.{total_words, all_words}
 use Rattle.rv_layout_rules.specs.Laid.{rows_from}
-use Rattle.rv_layout_rules.proofs.Rules.{all_words}
 use Rattle.rv_pieces.specs.declared.piece.Pieces.{Pieces}
 use Rattle.assemble.proofs.source.Source.rows.Goals as goal
 use Rattle.assemble.proofs.source.Source.rows.Goals.{in-Function+in_ok-row-in-Function+in_ok-push-in-Function, in-Data}
