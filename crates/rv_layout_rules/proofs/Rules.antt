@@ -8,7 +8,7 @@ use Rattle.image_form.specs.Tables.{Desc}
 use Rattle.rv_layout_rules.specs.declared.form.Form.{Form}
 use Rattle.rv_layout_rules.specs.declared.form.Form.TheVariants.{Near, Middle, Far}
 use Rattle.rv_layout_rules.specs.Conditions.{AreDescriptors, IsDescriptor, IsFunctionLaid, IsRowLaid}
-use Rattle.rv_layout_rules.specs.Forms.{branch_words, jump_words, call_words, piece_words, total_words, all_words}
+use Rattle.rv_layout_rules.specs.Forms.{branch_words, jump_words, words_of_call, piece_words, total_words, all_words}
 use Rattle.rv_layout_rules.specs.Laid.{rows_from, descs_in, descs_from}
 use Rattle.rv_pieces.specs.declared.piece.Piece.{Piece}
 use Rattle.rv_pieces.specs.declared.piece.Piece.TheVariants.{Known, Label, Branch, Jump, Row, LabelAddress, Call, TailCall, SymbolAddress, ExternalNumber, Descriptor}
@@ -24,7 +24,7 @@ jump_some Near = omega arith
 jump_some Middle = omega arith
 jump_some Far = omega arith
 
-call_some : (f : Form) → 1 ≤ call_words f
+call_some : (f : Form) → 1 ≤ words_of_call f
 call_some Near = omega arith
 call_some Middle = omega arith
 call_some Far = omega arith

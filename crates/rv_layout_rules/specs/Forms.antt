@@ -25,10 +25,10 @@ jump_words Far = 2
 
 -- auipc and jalr, however far the callee is from here; or its address by lui and addi, and jalr,
 -- where no distance is known before the code is linked
-abbrev pub call_words : Form → ℕ
-call_words Near = 2
-call_words Middle = 3
-call_words Far = 3
+abbrev pub words_of_call : Form → ℕ
+words_of_call Near = 2
+words_of_call Middle = 3
+words_of_call Far = 3
 
 abbrev pub piece_words : Piece → Form → ℕ
 piece_words (Known i) form = 1
@@ -37,8 +37,8 @@ piece_words (Branch c a b l) form = branch_words form
 piece_words (Jump l) form = jump_words form
 piece_words (Row l) form = 2
 piece_words (LabelAddress r l) form = 2
-piece_words (Call name) form = call_words form
-piece_words (TailCall name) form = call_words form
+piece_words (Call name) form = words_of_call form
+piece_words (TailCall name) form = words_of_call form
 piece_words (SymbolAddress r name) form = 2
 piece_words (ExternalNumber r row) form = 2
 piece_words (Descriptor d) form = 0
