@@ -21,11 +21,10 @@ use Rattle.assemble_rules.proofs.Placed.{Lie, items_lie, end_of_lists-above}
 use Rattle.assemble_rules.proofs.Whole.{all_length, length_of_data}
 use Rattle.rv_layout_rules.specs.declared.form.Form.{Form}
 use Rattle.rv_layout_rules.specs.Externals.{external_number}
-use Rattle.rv_layout_rules.specs.Forms.{piece_words, total_words, is_label_piece, label_from, place_or_entry, label_word_offset}
+use Rattle.rv_layout_rules.specs.Forms.{piece_words, total_words, is_label_piece, label_from, place_or_entry, label_word_offset, all_words}
 use Rattle.rv_layout_rules.specs.Laid.{function_entries_from, code_from, address_of_value, AreAllForms}
 use Rattle.rv_layout_rules.specs.TooLarge.{first_too_large}
 use Rattle.rv_layout_rules.proofs.Functions.{forms_length}
-use Rattle.rv_layout_rules.proofs.Rules.{all_words}
 use Rattle.rv_pieces.specs.declared.piece.Piece.{Piece}
 use Rattle.rv_pieces.specs.declared.piece.Pieces.{Pieces}
 

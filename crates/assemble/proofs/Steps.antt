@@ -3,7 +3,7 @@ use Rattle.std.proofs.Common.{◌≡◌, ℕ, zero, suc, ◌+◌, ◌<◌, List,
 use Rattle.std.specs.Prelude.{sum_by, slice_get}
 use Rattle.std.specs.List.{AllByRecursion, AllZip}
 use Rattle.std.proofs.lemmas.List.Sums.{sum_by-cons}
-use Rattle.function_places.specs.Places.{IsLaid}
+use Rattle.function_places.specs.Places.{IsLaidFunction}
 use Rattle.function_places.proofs.Starts.{own_forms}
 use Rattle.assemble.specs.Sizes.{descs_size}
 use Rattle.function_places.specs.Sizes.{pieces_size}
@@ -12,17 +12,17 @@ use Rattle.rv_pieces.specs.declared.piece.Pieces.{Pieces}
 
 -- ---- functions that are laid out
 
-pub descs_laid : (ps : List Pieces) (all : List Laid) → AllZip IsLaid ps all → sum_by descs_size all ≡ sum_by pieces_size ps
+pub descs_laid : (ps : List Pieces) (all : List Laid) → AllZip IsLaidFunction ps all → sum_by descs_size all ≡ sum_by pieces_size ps
 descs_laid [] [] each = refl
 descs_laid [] (own ∷ all) each = absurd each
 descs_laid (p ∷ ps) [] each = absurd each
 descs_laid (p ∷ ps) (own ∷ all) each =
     omega (arith, sum_by-cons descs_size own all, sum_by-cons pieces_size p ps, each.0.descs, descs_laid ps all each.1)
 
-pub laid_at : (ps : List Pieces) (all : List Laid) (i : ℕ) (p : Pieces) (own : Laid) → AllZip IsLaid ps all → i < length ps → p ≡ get_or ps i p → own ≡ get_or all i own → IsLaid p own
+pub laid_at : (ps : List Pieces) (all : List Laid) (i : ℕ) (p : Pieces) (own : Laid) → AllZip IsLaidFunction ps all → i < length ps → p ≡ get_or ps i p → own ≡ get_or all i own → IsLaidFunction p own
 laid_at [] all i p own each h is of = absurd (omega (arith, h))
 laid_at (q ∷ ps) [] i p own each h is of = absurd each
-laid_at (q ∷ ps) (k ∷ all) zero p own each h is of = subst (λ x. IsLaid x own) (sym is) (subst (IsLaid q) (sym of) each.0)
+laid_at (q ∷ ps) (k ∷ all) zero p own each h is of = subst (λ x. IsLaidFunction x own) (sym is) (subst (IsLaidFunction q) (sym of) each.0)
 laid_at (q ∷ ps) (k ∷ all) (suc i) p own each h is of = laid_at ps all i p own each.1 (omega (arith, h)) is of
 
 pub here : {A B : Type 0} (f : A → B) (xs : List A) (i : ℕ) (x : A) → i < length xs → x ≡ get_or xs i x → drop i (map f xs) ≡ f x ∷ drop (i + 1) (map f xs)

@@ -1,7 +1,7 @@
 -- One function after the other: its place, its words and its row.
 use Rattle.std.proofs.Common.{◌≡◌, ℕ, zero, suc, ◌+◌, ◌*◌, ◌^◌, ◌<◌, ◌≤◌, List, [], ◌∷◌, ◌++◌, length, map, get_or, drop, None, refl, sym, ap, ap₂, ◌∙◌, subst, append_assoc, arith}
 use Rattle.std.proofs.lemmas.List.{length-map}
-use Rattle.function_places.specs.Places.{forms_in, size_of, IsLaid}
+use Rattle.function_places.specs.Places.{forms_in, size_of, IsLaidFunction}
 use Rattle.assemble.specs.Source.{IsSource, tree_of, source_entries, laid_of, addresses_named_by}
 use Rattle.function_places.specs.declared.places.Laid.{Laid}
 use Rattle.assemble.specs.declared.source.Source.{Source}
@@ -19,11 +19,10 @@ use Rattle.image_form.specs.Image.{code_limit, stub_words}
 use Rattle.image_form.specs.Tables.{Func}
 use Rattle.rv_layout_rules.specs.declared.form.Form.{Form}
 use Rattle.rv_layout_rules.specs.Conditions.{IsFunctionLaid, HasAlignedTarget, AllLead}
-use Rattle.rv_layout_rules.specs.Forms.{total_words, place_or_entry}
+use Rattle.rv_layout_rules.specs.Forms.{total_words, place_or_entry, all_words}
 use Rattle.rv_layout_rules.specs.Laid.{function_entries_from, address_of_place, function_words, row_at, rows_from, addresses_named_at}
 use Rattle.rv_layout_rules.specs.TooLarge.{first_too_large}
 use Rattle.rv_layout_rules.specs.Words.{NameAddresses, target_of, words_to}
-use Rattle.rv_layout_rules.proofs.Rules.{all_words}
 use Rattle.rv_layout_rules.proofs.Standing.{words_by_targets}
 use Rattle.mach_ir.specs.Acts.{external_row}
 use Rattle.rv_layout.specs.Tables.{words_of_labels, IsLabelTable}
@@ -36,7 +35,7 @@ use Rattle.bs_words.proofs.Lists.{drop_step}
 -- Function i of a file is these pieces, laid out so, and its entry is here.
 pub record At (s : Source) (i : ℕ) (p : Pieces) (own : Laid) (entry : ℕ) : Type 0 where
   pub laid : IsFunctionLaid (tree_of s) p
-  pub is : IsLaid p own
+  pub is : IsLaidFunction p own
   pub few : size_of p < 2 ^ 48
   pub same : length own.forms.items ≡ length p.code
   pub inside : entry + total_words p.code own.forms.items ≤ s.places.now.end

@@ -5,7 +5,7 @@ ghost use Rattle.bs_words.specs.Contents.{contents};
 ghost use Rattle.cmm_tree.specs.View.{function_view, params_view};
 ghost use Rattle.cmm_tree.specs.Tree.{comps_of};
 ghost use Rattle.cmm_types.specs.Typing.{IsFunctionAnnotated};
-ghost use Rattle.function_places.specs.Places.{IsLaid};
+ghost use Rattle.function_places.specs.Places.{IsLaidFunction};
 ghost use Rattle.image_form.specs.Tables.{func};
 ghost use Rattle.rv_layout_rules.specs.Forms.{total_words as words_in};
 ghost use Rattle.rv_layout_rules.specs.Laid.{row_at};
@@ -40,7 +40,7 @@ fn row(
     entry: u64,
 ) -> Result<FuncRow, AllocError>
     requires annotated { IsFunctionAnnotated function.now }
-    requires laid { IsLaid pieces.now laid.now }
+    requires laid { IsLaidFunction pieces.now laid.now }
     requires inside { 4 * (entry + words_in pieces.now.code laid.now.forms.items) < 2 ^ 32 }
     ensures { IfOk result (λ row. func row
         ≡ row_at entry (function_view function.now) pieces.now laid.now.forms.items) }

@@ -21,13 +21,13 @@ use Rattle.rv_layout_rules.specs.declared.form.Form.{Form}
 use Rattle.rv_layout_rules.specs.declared.form.Form.TheVariants.{Near, Middle, Far}
 use Rattle.rv_layout_rules.specs.Conditions.{HasAlignedTarget, IsFunctionLaid, CanBeLaid}
 use Rattle.rv_layout_rules.specs.Externals.{externals}
-use Rattle.rv_layout_rules.specs.Forms.{piece_words, total_words, label_word_offset}
+use Rattle.rv_layout_rules.specs.Forms.{piece_words, total_words, label_word_offset, all_words}
 use Rattle.rv_layout_rules.specs.Laid.{address_of_place, function_entries_from, addresses_named_at, function_words, code_from, row_at, rows_from, cell_bytes, data_of, sym_of, laid_out, AllReach}
 use Rattle.rv_pieces.specs.Named.{PieceFits, has_words}
 use Rattle.rv_layout_rules.specs.TooLarge.{first_too_large}
 use Rattle.rv_layout_rules.specs.Words.{NameAddresses, target_of, words_from, instructions_of_piece}
 use Rattle.rv_layout_rules.proofs.Functions.{forms_length, names_lead, function_length}
-use Rattle.rv_layout_rules.proofs.Rules.{each_func, each_desc, descs_in_order, all_words, all_append}
+use Rattle.rv_layout_rules.proofs.Rules.{each_func, each_desc, descs_in_order, all_append}
 use Rattle.rv_layout_rules.proofs.Standing.{code_fits}
 use Rattle.rv_isa.specs.Encoding.{InstrFits, encoded}
 use Rattle.rv_isa.specs.declared.instr.Instr.{Instr}

@@ -13,7 +13,7 @@ use Rattle.image_form.specs.Tables.{Tables, Func, Desc}
 use Rattle.rv_layout_rules.specs.declared.form.Form.{Form}
 use Rattle.rv_layout_rules.specs.declared.form.Form.TheVariants.{Near, Middle, Far}
 use Rattle.rv_layout_rules.specs.Conditions.{AreDescriptors, IsFunctionLaid, CanBeLaid}
-use Rattle.rv_layout_rules.specs.Forms.{call_words, branch_words, jump_words, piece_words, total_words}
+use Rattle.rv_layout_rules.specs.Forms.{words_of_call, branch_words, jump_words, piece_words, total_words}
 use Rattle.rv_layout_rules.specs.Laid.{row_at, rows_from, descs_in, descs_from, laid_out, AllReach, IsLaid}
 use Rattle.rv_layout_rules.proofs.Functions.{filled}
 use Rattle.rv_layout_rules.proofs.Rules.{all_append}
@@ -37,7 +37,7 @@ jump_few Near = omega arith
 jump_few Middle = omega arith
 jump_few Far = omega arith
 
-call_few : (f : Form) → call_words f ≤ 3
+call_few : (f : Form) → words_of_call f ≤ 3
 call_few Near = omega arith
 call_few Middle = omega arith
 call_few Far = omega arith

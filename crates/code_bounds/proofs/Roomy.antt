@@ -18,10 +18,9 @@ use Rattle.assemble_rules.proofs.Limits.{AreShort}
 use Rattle.assemble_rules.proofs.Whole.{all_length, length_of_data}
 use Rattle.rv_layout_rules.specs.declared.form.Form.{Form}
 use Rattle.rv_layout_rules.specs.Conditions.{IsRowLaid, CanBeLaid}
-use Rattle.rv_layout_rules.specs.Forms.{piece_words, total_words}
+use Rattle.rv_layout_rules.specs.Forms.{piece_words, total_words, all_words}
 use Rattle.rv_layout_rules.specs.Laid.{function_entries_from, code_from, row_at, rows_from, descriptor_laid_at, descs_in, descs_from, laid_out, IsLaid}
 use Rattle.rv_layout_rules.specs.TooLarge.{section_bytes_of, first_too_large}
-use Rattle.rv_layout_rules.proofs.Rules.{all_words}
 use Rattle.lin_ir.specs.declared.descr.Descr.{Descr}
 use Rattle.rv_pieces.specs.Named.{marks_in}
 use Rattle.rv_pieces.specs.declared.piece.Piece.{Piece}

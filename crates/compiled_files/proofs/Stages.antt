@@ -23,7 +23,7 @@ use Rattle.lin_ir.specs.Meaning.{NamedAt}
 use Rattle.lin_ir.specs.declared.lin.Lin.{Lin}
 use Rattle.selection_rules.specs.Bounded.{BoundedDoings}
 use Rattle.selection_rules.specs.Select.{selected}
-use Rattle.selection_rules.proofs.Plays.{Meets, returned, threw, running, asking, improper, left_by_exit}
+use Rattle.selection_rules.specs.Selected.{MeetsEvaluation, returned, threw, running, asking, improper, left_by_exit}
 use Rattle.selection_laws.proofs.Proper.{selected_bounded}
 use Rattle.first_statics.proofs.Known.{accepted_keeps, accepted_proper, front_setting, front_memory, definitions, front_accepts, selectable, selectable_at, front_symbols}
 use Rattle.walk_tables.specs.AddrLive.{IsLiveIn}
@@ -59,7 +59,7 @@ module _ (text : List ℕ) (file : FileTree) (is : IsFileOf text file) where
 
   -- ---- selection
 
-  moves : {u : ℕ} {e : Evaluation} {r : RunProgress mach.State} → IsProperEnd e → Meets u e r → r ≢ Wrong
+  moves : {u : ℕ} {e : Evaluation} {r : RunProgress mach.State} → IsProperEnd e → MeetsEvaluation u e r → r ≢ Wrong
   moves ok (returned a b) w = cc
   moves ok (threw a b) w = cc
   moves ok (running a b same) w = cc
@@ -68,7 +68,7 @@ module _ (text : List ℕ) (file : FileTree) (is : IsFileOf text file) where
   moves ok left_by_exit w = absurd ok
 
   -- where the text has no units left, the run has asked for no more heap
-  no_more_heap : {units : ℕ} {e : Evaluation} {r : RunProgress mach.State} → Meets units e r → (u : World) (s : mach.State) (t : Tally) →
+  no_more_heap : {units : ℕ} {e : Evaluation} {r : RunProgress mach.State} → MeetsEvaluation units e r → (u : World) (s : mach.State) (t : Tally) →
       e ≡ Stops OutOfFuel u → r ≡ Running s t → heap_need s.around.memory ≤ heap_need u.memory
   no_more_heap (returned a b) u s t p q = absurd (cc)
   no_more_heap (threw a b) u s t p q = absurd (cc)

@@ -49,10 +49,9 @@ use Rattle.rv_machine.specs.Sound.{IsStackBase}
 use Rattle.rv_pieces.specs.declared.piece.Pieces.{Pieces}
 use Rattle.lin_machine.specs.Follows.{IsDone}
 use Rattle.lin_machine.specs.Outside.{observed_argument}
-use Rattle.lin_machine.specs.Relation.{HeapStands, IsUsable, OwnRegisters, Laid, StandsFor, blocks_by_serial}
+use Rattle.lin_machine.specs.Relation.{HeapStands, IsUsable, OwnRegisters, Laid, StandsFor, blocks_by_serial, nothing_below}
 use Rattle.lin_machine.specs.Straight.{Changes}
 use Rattle.lin_machine.specs.View.{Fixed, IsInstructionAt, HasView, View}
-use Rattle.lin_machine.proofs.Beginning.{nothing_below}
 use Rattle.lin_machine.proofs.Formats.{sets_imm}
 use Rattle.machine_laws.proofs.Immediates.{low_12, up}
 use Rattle.lin_machine.proofs.Keeping.{heap_kept}

@@ -4,7 +4,7 @@ use Rattle.std.proofs.lemmas.List.Elements.{Contains-append_cases, All-contains}
 use Rattle.std.proofs.Math.Nat.{le_of_eq}
 use Rattle.std.specs.List.{All, Contains}
 use Rattle.bs_words.proofs.Lists.{none_in, first_in, later_in, in_cons}
-use Rattle.cse_copy_rules.specs.Propagated.{move, ReadFor, source, itself, instr_with_sources, alone_with_sources, with_sources, IsPropagatedBefore}
+use Rattle.cse_copy_rules.specs.Propagated.{move_instruction, ReadFor, source, itself, instr_with_sources, alone_with_sources, with_sources, IsPropagatedBefore}
 use Rattle.mach_ir.specs.Forms.{HasForm}
 use Rattle.mach_ir.specs.Formed.{comps, IsFormedInstruction, MarkHasForm, formed_op, formed_mark, WellFormed}
 use Rattle.mach_ir.specs.Seats.{AreSeated, mach_operand_seats, mach_result_seats, places_of, Seated}
@@ -115,7 +115,7 @@ module _ (m : Mach) (plan : ℕ → Reg → Reg)
 
   known_source : {made : List Instr} {r s : Reg} → AreKnown made → IsRegister m r → ReadFor made r s → IsRegister m s
   known_source {made} {r} {s} known i (source w) =
-      known (move s r) (subst (λ xs. Contains xs (move s r)) (sym w.within) (in_append w.others (move s r) w.run)) s (first_in s [])
+      known (move_instruction s r) (subst (λ xs. Contains xs (move_instruction s r)) (sym w.within) (in_append w.others (move_instruction s r) w.run)) s (first_in s [])
   known_source known i (itself h) = i
 
   module _ (i : Instr) (next before made : List Instr) (whole : m.code ≡ before ++ i ∷ next)

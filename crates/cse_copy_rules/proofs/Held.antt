@@ -8,7 +8,7 @@ use Rattle.bs_words.specs.declared.types.Comp.TheVariants as comp
 use Rattle.bs_words.specs.declared.values.Value.{Value}
 use Rattle.bs_words.proofs.Lists.{first_in, later_in}
 use Rattle.cse_repeat_rules.proofs.Known.{frame_loses}
-use Rattle.cse_copy_rules.specs.Propagated.{move, ReadFor, instr_with_sources, IsPropagatedBefore}
+use Rattle.cse_copy_rules.specs.Propagated.{move_instruction, ReadFor, instr_with_sources, IsPropagatedBefore}
 use Rattle.mach_ir.specs.Acts.{Around, On, Goes}
 use Rattle.mach_ir.specs.Formed.{WellFormed}
 use Rattle.mach_ir.specs.Meaning.{Held, File, assign_register, put_all, clear_registers, killed, values, with_held, past_frame, passes_frame, mach_act}
@@ -137,7 +137,7 @@ module _ (m : Mach) (formed : WellFormed m) where
 
     -- a move has just made a copy
     now : (copy source : Reg) → source.comp ≡ copy.comp → IsRegister m source → (a d : File) (x after : Around) (vs ws : List Value) →
-        Typed a → values a (source ∷ []) ≡ Some vs → mach_act c.setting (move source copy).op vs x ≡ Goes ws On after →
+        Typed a → values a (source ∷ []) ≡ Some vs → mach_act c.setting (move_instruction source copy).op vs x ≡ Goes ws On after →
         put_all c.setting.end (copy ∷ []) ws a ≡ Some d → Holding d copy source
     now copy source same_comp one a d x after vs ws typed e acts puts =
         by (read_one a source vs e)
@@ -149,7 +149,7 @@ module _ (m : Mach) (formed : WellFormed m) where
         by w =
             let v : Value = w.held.value in
             let known : ws ≡ v ∷ [] =
-            given v ws (sym (ap (λ us. mach_act c.setting (move source copy).op us x) w.one) ∙ acts) in
+            given v ws (sym (ap (λ us. mach_act c.setting (move_instruction source copy).op us x) w.one) ∙ acts) in
             let is : d ≡ assign_register copy v a =
             put_is
             (subst (λ us. PutAll c.setting.end a (copy ∷ []) us d) known

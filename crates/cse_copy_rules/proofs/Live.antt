@@ -6,7 +6,7 @@ use Rattle.std.proofs.lemmas.List.Elements.{All-contains, Contains-append_left}
 use Rattle.bs_words.specs.declared.types.Comp.TheVariants as comp
 use Rattle.bs_words.specs.declared.types.Loc.TheVariants as loc
 use Rattle.bs_words.proofs.Lists.{first_in}
-use Rattle.cse_copy_rules.specs.Propagated.{move, ReadFor, instr_with_sources, alone_with_sources, with_sources, IsPropagatedBefore}
+use Rattle.cse_copy_rules.specs.Propagated.{move_instruction, ReadFor, instr_with_sources, alone_with_sources, with_sources, IsPropagatedBefore}
 use Rattle.mach_ir.specs.Formed.{IsFormedInstruction, WellFormed}
 use Rattle.mach_ir.specs.Meaning.{passes_frame}
 use Rattle.mach_ir.specs.Placed.{is_straight}
@@ -44,17 +44,17 @@ module _ (m : Mach) (plan : ℕ → Reg → Reg) (formed : WellFormed m)
       let s = stands_of ending in read_at m plan reads i next s (form_of i (contains_of s)) r c
 
   -- the move that made a copy is in the second too
-  move_there : {rest : List Instr} (c s : Reg) → Standing m plan rest c s → Contains q.code (move s c)
+  move_there : {rest : List Instr} (c s : Reg) → Standing m plan rest c s → Contains q.code (move_instruction s c)
   move_there {rest} c s w =
       let t = w.copies in
-      subst (λ xs. Contains xs (move s c)) (sym w.whole)
-      (Contains-append_left w.made (expand f rest) (move s c)
-      (subst (λ xs. Contains xs (move s c)) (sym t.within) (in_append t.others (move s c) t.run)))
+      subst (λ xs. Contains xs (move_instruction s c)) (sym w.whole)
+      (Contains-append_left w.made (expand f rest) (move_instruction s c)
+      (subst (λ xs. Contains xs (move_instruction s c)) (sym t.within) (in_append t.others (move_instruction s c) t.run)))
 
   -- the source of a copy that stands is a register of both
   pub standing_register : {rest : List Instr} (c s : Reg) → Standing m plan rest c s → IsRegister m s
   standing_register c s w =
-      let t = stands_in q.code (move s c) (move_there c s w) in
+      let t = stands_in q.code (move_instruction s c) (move_there c s w) in
       was_register m plan reads s (is_in_code (args_in t.1 (first_in s [])))
 
   -- ---- what is live

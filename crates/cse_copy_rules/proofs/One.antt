@@ -2,7 +2,7 @@
 use Rattle.std.proofs.Common.{◌≡◌, ℕ, List, [], ◌∷◌, ◌++◌, length, map, refl, sym, ap, ◌∙◌, subst}
 use Rattle.std.specs.List.{Contains}
 use Rattle.bs_words.proofs.Lists.{first_in, later_in}
-use Rattle.cse_copy_rules.specs.Propagated.{move, IsCopyOf, ReadFor, source, itself, instr_with_sources, with_sources, IsPropagatedBefore, IsPropagated}
+use Rattle.cse_copy_rules.specs.Propagated.{move_instruction, IsCopyOf, ReadFor, source, itself, instr_with_sources, with_sources, IsPropagatedBefore, IsPropagated}
 use Rattle.mach_ir.specs.declared.reg.Reg.{Reg}
 use Rattle.mach_ir.specs.declared.mach.Instr.{Instr}
 use Rattle.mach_ir.specs.declared.mach.Mach.{Mach}
@@ -13,14 +13,14 @@ use Rattle.cse_repeat_rules.proofs.One.{only_same}
 
 -- none writes the copy after the move that made it one
 written_later : {made : List Instr} (c s : Reg) (w : IsCopyOf made c s) (k : Reg) (mid after : List Instr) →
-    w.run ≡ mid ++ move k c ∷ after → ⊥
+    w.run ≡ mid ++ move_instruction k c ∷ after → ⊥
 written_later c s w k mid after e =
-    w.stays (move k c) (subst (λ xs. Contains xs (move k c)) (sym e) (in_append mid (move k c) after)) c (first_in c []) refl
+    w.stays (move_instruction k c) (subst (λ xs. Contains xs (move_instruction k c)) (sym e) (in_append mid (move_instruction k c) after)) c (first_in c []) refl
 
 one_source : {made : List Instr} (c r s : Reg) → IsCopyOf made c r → IsCopyOf made c s → r ≡ s
-one_source c r s x y = by (order x.others y.others (move r c) (move s c) x.run y.run (sym x.within ∙ y.within))
+one_source c r s x y = by (order x.others y.others (move_instruction r c) (move_instruction s c) x.run y.run (sym x.within ∙ y.within))
   where
-    by : Order (move r c) (move s c) x.run y.run → r ≡ s
+    by : Order (move_instruction r c) (move_instruction s c) x.run y.run → r ≡ s
     by (together e) = only_same (ap (λ (i : Instr). i.args) e)
     by (first_one mid e) = absurd (written_later c r x s mid y.run e)
     by (first_other mid e) = absurd (written_later c s y r mid x.run e)

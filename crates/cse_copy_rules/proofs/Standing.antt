@@ -7,7 +7,7 @@ use Rattle.std.specs.List.{Contains}
 use Rattle.bs_words.specs.declared.types.Comp.{Comp}
 use Rattle.bs_words.specs.declared.types.Comp.TheVariants as comp
 use Rattle.bs_words.proofs.Lists.{none_in}
-use Rattle.cse_copy_rules.specs.Propagated.{move, IsCopyOf, ReadFor, source, itself, instr_with_sources, alone_with_sources, with_sources, IsPropagatedBefore}
+use Rattle.cse_copy_rules.specs.Propagated.{move_instruction, IsCopyOf, ReadFor, source, itself, instr_with_sources, alone_with_sources, with_sources, IsPropagatedBefore}
 use Rattle.mach_ir.specs.Acts.{Landing}
 use Rattle.mach_ir.specs.Formed.{MarkHasForm, exit_form, if_form, else_form, switch_form, case_form, catch_form, with_form, try_form, leave_form, handler_form, end_form, comps, IsFormedInstruction, formed_op, formed_mark}
 use Rattle.mach_ir.specs.Meaning.{is_handler_of, after_label, from_handler, landing_code}
@@ -61,13 +61,13 @@ reads_no_handler (formed_mark {f = f} {args = args} h) c l =
 
 -- what is a copy after an instruction was one before it, or it made it one
 pub data Since (made : List Instr) (x : Instr) (c s : Reg) : Type 0 where
-  just_there : x ≡ move s c → Since made x c s
+  just_there : x ≡ move_instruction s c → Since made x c s
   stood : IsCopyOf made c s → is_straight x.op ≡ true → ((w : Reg) → Contains x.results w → w.number ≢ c.number) →
       ((w : Reg) → Contains x.results w → EndsHeldValue s w → ⊥) → (s.comp ≡ comp.Addr → allocates x.op ≡ false) → Since made x c s
 
 -- a copy was one earlier in its run too
 restricted : {made : List Instr} (c s : Reg) (w : IsCopyOf made c s) (ys zs : List Instr) → w.run ≡ ys ++ zs →
-    IsCopyOf (w.others ++ move s c ∷ ys) c s
+    IsCopyOf (w.others ++ move_instruction s c ∷ ys) c s
 restricted c s w ys zs e =
     record {
       others = w.others;
@@ -86,9 +86,9 @@ restricted c s w ys zs e =
     to_run i d = subst (λ xs. Contains xs i) (sym e) (Contains-append_left ys zs i d)
 
 pub since : (made : List Instr) (x : Instr) (c s : Reg) → IsCopyOf (made ++ x ∷ []) c s → Since made x c s
-since made x c s w = by (last_of made x w.others (move s c) w.run w.within)
+since made x c s w = by (last_of made x w.others (move_instruction s c) w.run w.within)
   where
-    by : Last made x w.others (move s c) w.run → Since made x c s
+    by : Last made x w.others (move_instruction s c) w.run → Since made x c s
     by (it_is e) = just_there e
     by (in_run ys e h) =
         stood
@@ -128,7 +128,7 @@ module _ (m : Mach) (plan : ℕ → Reg → Reg) where
     pub starts : Begins rest
 
   pub data Earlier (i : Instr) (next : List Instr) (c s : Reg) : Type 0 where
-    just_now : instr_with_sources plan (length next) i ≡ move s c → Earlier i next c s
+    just_now : instr_with_sources plan (length next) i ≡ move_instruction s c → Earlier i next c s
     earlier : Standing (i ∷ next) c s → is_straight i.op ≡ true → ((w : Reg) → Contains i.results w → w.number ≢ c.number) →
         ((w : Reg) → Contains i.results w → EndsHeldValue s w → ⊥) → (s.comp ≡ comp.Addr → allocates i.op ≡ false) → Earlier i next c s
 
@@ -163,7 +163,7 @@ module _ (m : Mach) (plan : ℕ → Reg → Reg) where
   pub not_at_entry : (c s : Reg) → Standing m.code c s → ⊥
   not_at_entry c s w =
       let v : IsCopyOf [] c s = subst (λ made. IsCopyOf made c s) (append_cancel_right w.made [] q.code (sym w.whole)) w.copies in
-      none_before v.others (move s c) v.run v.within
+      none_before v.others (move_instruction s c) v.run v.within
 
   within : (c s : Reg) → IsWithin m (λ rest. Standing rest c s)
   within c s =

@@ -17,8 +17,8 @@ use Rattle.mach_ir.specs.declared.mach.Mach.{Mach}
 use Rattle.mach_laws.specs.Expand.{expand}
 use Rattle.cse_repeat_rules.specs.Repeated.{allocates, EndsHeldValue}
 
-abbrev pub move : Reg → Reg → Instr
-move from to =
+abbrev pub move_instruction : Reg → Reg → Instr
+move_instruction from to =
     record { op = mach.Op (op.Pure (pure.Copy copy.Move)); args = from ∷ []; results = to ∷ [] }
 
 -- One register is a copy of another at the end of this code: a move made it so, only instructions of the
@@ -26,7 +26,7 @@ move from to =
 pub record IsCopyOf (before : List Instr) (copy source : Reg) : Type 0 where
   pub others : List Instr
   pub run : List Instr
-  pub within : before ≡ others ++ move source copy ∷ run
+  pub within : before ≡ others ++ move_instruction source copy ∷ run
   pub straight : AreStraight run
   -- both hold values of one kind, and have no place
   pub same_comp : source.comp ≡ copy.comp

@@ -20,7 +20,7 @@ use Rattle.mach_ir.specs.declared.mach.Instr.{Instr}
 use Rattle.mach_ir.specs.declared.mach.Mach.{Mach}
 use Rattle.mach_ir.specs.declared.mach.MachOp.TheVariants as mach
 use Rattle.mach_laws.proofs.Places.{args_in_code, results_in_code, comp_is, is_unset, same_comp_is}
-use Rattle.cse_copy_rules.specs.Propagated.{move, IsCopyOf, ReadFor, source, itself, IsPropagatedBefore, IsPropagated}
+use Rattle.cse_copy_rules.specs.Propagated.{move_instruction, IsCopyOf, ReadFor, source, itself, IsPropagatedBefore, IsPropagated}
 use Rattle.cse_deadcode.specs.declared.events.Event.{Event}
 use Rattle.cse_deadcode.specs.declared.events.Event.TheVariants as event
 use Rattle.cse_deadcode.specs.Made.{remade, made_by}
@@ -72,7 +72,7 @@ parts_of at time q r e =
 record Moves (i : Instr) : Type 0 where
   from : Reg
   to : Reg
-  is : i ≡ move from to
+  is : i ≡ move_instruction from to
 
 one_operand : (cs ds : List Comp) → HasForm (op.Pure (pure.Copy kind.Move)) cs ds → length cs ≡ 1
 one_operand cs ds form.copies = refl
@@ -81,7 +81,7 @@ one_result : (cs ds : List Comp) → HasForm (op.Pure (pure.Copy kind.Move)) cs 
 one_result cs ds form.copies = refl
 
 a_move : (args results : List Reg) (r w : Reg) → args ≡ r ∷ [] → results ≡ w ∷ [] →
-    record { op = mach.Op (op.Pure (pure.Copy kind.Move)); args = args; results = results } ≡ move r w
+    record { op = mach.Op (op.Pure (pure.Copy kind.Move)); args = args; results = results } ≡ move_instruction r w
 a_move args results r w e h =
     ap (λ (xs : List Reg). record { op = mach.Op (op.Pure (pure.Copy kind.Move)); args = xs; results = results }) e
     ∙ ap (λ (xs : List Reg). record { op = mach.Op (op.Pure (pure.Copy kind.Move)); args = r ∷ []; results = xs }) h
@@ -104,13 +104,13 @@ moves_of (formed_op {f = op.Leaving f} h) e = absurd (not_both false e refl)
 moves_of (formed_mark h) e = absurd (not_both false e refl)
 
 -- what is written in a move
-target_of : (q w : Reg) (n : ℕ) → happens (event.Writes n) (move q w) ≡ true → w.number ≡ n
+target_of : (q w : Reg) (n : ℕ) → happens (event.Writes n) (move_instruction q w) ≡ true → w.number ≡ n
 target_of q w n e =
     number_written n w
     (only_first (writes (event.Writes n) w) false refl
     (only_first (list_any (writes (event.Writes n)) (w ∷ [])) false refl e))
 
-target_written : (q w : Reg) → happens (event.Writes w.number) (move q w) ≡ true
+target_written : (q w : Reg) → happens (event.Writes w.number) (move_instruction q w) ≡ true
 target_written q w =
     or_left (list_any (writes (event.Writes w.number)) (w ∷ [])) false
     (or_left (writes (event.Writes w.number) w) false (written_number w.number w refl))
@@ -141,7 +141,7 @@ module _ (m : Mach) (formed : WellFormed m) where
     written_since : (q : Reg) (c : IsCopyOf made r q) → length c.others < last_time made key
     written_since q c =
         subst (λ code. length c.others < last_time code key) (sym c.within)
-        (last_from (happens key) c.others c.run (move q r) (target_written q r))
+        (last_from (happens key) c.others c.run (move_instruction q r) (target_written q r))
 
     -- a copy is one by the times
     copy_is : (q : Reg) (c : IsCopyOf made r q) → is_still_copy (last_time made) (suc (length c.others)) q r ≡ true
@@ -151,9 +151,9 @@ module _ (m : Mach) (formed : WellFormed m) where
           one = c.same_comp;
           source_open = c.source_open;
           target_open = c.copy_open;
-          in_run = later_quiet made c.others (move q r) c.run q c.within event.EndsRun
+          in_run = later_quiet made c.others (move_instruction q r) c.run q c.within event.EndsRun
               (λ i d. in_run i (of_each (λ (i : Instr). is_straight i.op ≡ true) c.run i c.straight d));
-          stands = holds_still made c.others (move q r) c.run q c.within c.stands c.kept;
+          stands = holds_still made c.others (move_instruction q r) c.run q c.within c.stands c.kept;
         }
 
     -- no instruction wrote it
@@ -176,7 +176,7 @@ module _ (m : Mach) (formed : WellFormed m) where
 
       -- it is the move of a copy
       record IsTheMove (q : Reg) (c : IsCopyOf made r q) : Type 0 where
-        is : move q r ≡ f.found
+        is : move_instruction q r ≡ f.found
         place : c.others ≡ f.others
 
       the_move : (q : Reg) (c : IsCopyOf made r q) → IsTheMove q c
@@ -184,9 +184,9 @@ module _ (m : Mach) (formed : WellFormed m) where
           let lt = written_since q c in
           let here = f.place in
           let le : length c.others ≤ length f.others = omega (arith, lt, last, here) in
-          by (places c.others (move q r) c.run f.others f.found f.run (sym c.within ∙ f.within) le)
+          by (places c.others (move_instruction q r) c.run f.others f.found f.run (sym c.within ∙ f.within) le)
         where
-          by : Places c.others (move q r) c.run f.others f.found f.run → IsTheMove q c
+          by : Places c.others (move_instruction q r) c.run f.others f.found f.run → IsTheMove q c
           by (one_place a b g) = record { is = b; place = a }
           by (further_on mid a b) =
               absurd (not_both (happens key f.found) f.holds
@@ -201,10 +201,10 @@ module _ (m : Mach) (formed : WellFormed m) where
 
       record MovedTo : Type 0 where
         from : Reg
-        is : f.found ≡ move from r
+        is : f.found ≡ move_instruction from r
 
       moved_to : is_move f.found.op ≡ true → MovedTo
-      moved_to h = record { from = g.read s.from; is = whole ∙ ap (move (g.read s.from)) same }
+      moved_to h = record { from = g.read s.from; is = whole ∙ ap (move_instruction (g.read s.from)) same }
         where
           g : IsMade f.found
           g = are f.found (subst (λ code. Contains code f.found) (sym f.within) (Contains-append_right f.others (f.found ∷ f.run) f.found (first_in f.found f.run)))
@@ -212,7 +212,7 @@ module _ (m : Mach) (formed : WellFormed m) where
           s : Moves g.from
           s = moves_of (of_each IsFormedInstruction m.code g.from formed.instrs g.known) (ap (λ (j : Instr). is_move j.op) (sym g.is) ∙ h)
 
-          whole : f.found ≡ move (g.read s.from) s.to
+          whole : f.found ≡ move_instruction (g.read s.from) s.to
           whole = g.is ∙ ap (read_by g.read) s.is
 
           target : Contains g.from.results s.to
@@ -229,24 +229,24 @@ module _ (m : Mach) (formed : WellFormed m) where
       copied : (d : MovedTo) → is_still_copy (last_time made) time d.from r ≡ true → IsCopyOf made r d.from
       copied d h =
           let p = parts_of (last_time made) time d.from r h in
-          let holds = still_holds made f.others (move d.from r) f.run d.from within p.stands in
+          let holds = still_holds made f.others (move_instruction d.from r) f.run d.from within p.stands in
           record {
             others = f.others;
             run = f.run;
             within = within;
             straight = all_straight f.run
-                (λ i c. ends_run i (quiet_later made f.others (move d.from r) f.run d.from within event.EndsRun p.in_run i c));
+                (λ i c. ends_run i (quiet_later made f.others (move_instruction d.from r) f.run d.from within event.EndsRun p.in_run i c));
             same_comp = p.one;
             source_open = p.source_open;
             copy_open = p.target_open;
             stays = λ i c w g e.
-                unwritten key f.run (quiet_later made f.others (move d.from r) f.run d.from within key now) i c w g
+                unwritten key f.run (quiet_later made f.others (move_instruction d.from r) f.run d.from within key now) i c w g
                 (written_number r.number w e);
             stands = holds.stands;
             kept = holds.kept;
           }
         where
-          within : made ≡ f.others ++ move d.from r ∷ f.run
+          within : made ≡ f.others ++ move_instruction d.from r ∷ f.run
           within = f.within ∙ ap (λ j. f.others ++ j ∷ f.run) d.is
 
           now : nat_le (last_time made key) time ≡ true

@@ -7,8 +7,7 @@ use Rattle.function_places.specs.Sizes.{piece_size}
 use Rattle.rv_layout_rules.specs.declared.form.Form.{Form}
 use Rattle.rv_layout_rules.specs.declared.form.Form.TheVariants.{Near, Middle, Far}
 use Rattle.rv_layout_rules.specs.Conditions.{piece_weight, weight_of}
-use Rattle.rv_layout_rules.specs.Forms.{piece_words, total_words}
-use Rattle.rv_layout_rules.proofs.Rules.{all_words}
+use Rattle.rv_layout_rules.specs.Forms.{piece_words, total_words, all_words}
 use Rattle.rv_pieces.specs.declared.piece.Piece.{Piece}
 use Rattle.rv_pieces.specs.declared.piece.Piece.TheVariants.{Known, Label, Branch, Jump, Row, LabelAddress, Call, TailCall, SymbolAddress, ExternalNumber, Descriptor}
 use Rattle.rv_pieces.specs.declared.piece.Pieces.{Pieces}

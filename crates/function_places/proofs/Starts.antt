@@ -4,12 +4,11 @@ use Rattle.std.specs.Prelude.{sum_by}
 use Rattle.std.specs.List.{AllZip}
 use Rattle.std.proofs.lemmas.List.{append-nil, drop_all}
 use Rattle.std.proofs.lemmas.List.Sums.{sum_by-cons}
-use Rattle.function_places.specs.Places.{IsLaid}
+use Rattle.function_places.specs.Places.{IsLaidFunction}
 use Rattle.function_places.specs.declared.places.Laid.{Laid}
 use Rattle.rv_layout_rules.specs.declared.form.Form.{Form}
-use Rattle.rv_layout_rules.specs.Forms.{total_words}
+use Rattle.rv_layout_rules.specs.Forms.{total_words, all_words}
 use Rattle.rv_layout_rules.specs.Laid.{function_entries_from, AreAllForms}
-use Rattle.rv_layout_rules.proofs.Rules.{all_words}
 use Rattle.rv_pieces.specs.declared.piece.Pieces.{Pieces}
 use Rattle.bs_words.proofs.Lists.{drop_step}
 
@@ -36,20 +35,20 @@ starts_done all i at entries total h so_far =
     let none = ap (λ l. entries ++ starts at l) (drop_all i all h) in
     sym (append-nil entries) ∙ (sym none ∙ so_far)
 
-pub forms_laid : (ps : List Pieces) (all : List Laid) → AllZip IsLaid ps all → AreAllForms ps (map own_forms all)
+pub forms_laid : (ps : List Pieces) (all : List Laid) → AllZip IsLaidFunction ps all → AreAllForms ps (map own_forms all)
 forms_laid [] [] each = tt
 forms_laid [] (own ∷ all) each = absurd each
 forms_laid (p ∷ ps) [] each = absurd each
 forms_laid (p ∷ ps) (own ∷ all) each = (each.0.forms, forms_laid ps all each.1)
 
-pub starts_laid : (at : ℕ) (ps : List Pieces) (all : List Laid) → AllZip IsLaid ps all → starts at all ≡ function_entries_from at ps (map own_forms all)
+pub starts_laid : (at : ℕ) (ps : List Pieces) (all : List Laid) → AllZip IsLaidFunction ps all → starts at all ≡ function_entries_from at ps (map own_forms all)
 starts_laid at [] [] each = refl
 starts_laid at [] (own ∷ all) each = absurd each
 starts_laid at (p ∷ ps) [] each = absurd each
 starts_laid at (p ∷ ps) (own ∷ all) each =
     ap (λ l. at ∷ l) (ap (λ n. starts (at + n) all) each.0.words ∙ starts_laid (at + total_words p.code own.forms.items) ps all each.1)
 
-pub words_laid : (ps : List Pieces) (all : List Laid) → AllZip IsLaid ps all → sum_by own_words all ≡ all_words ps (map own_forms all)
+pub words_laid : (ps : List Pieces) (all : List Laid) → AllZip IsLaidFunction ps all → sum_by own_words all ≡ all_words ps (map own_forms all)
 words_laid [] [] each = refl
 words_laid [] (own ∷ all) each = absurd each
 words_laid (p ∷ ps) [] each = absurd each

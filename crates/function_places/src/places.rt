@@ -1,7 +1,7 @@
 //! Where functions begin, and in which forms their pieces are laid.
 ghost use Rattle.std.specs.Prelude.{◌≡◌, ◌*◌, ◌<◌, ◌≤◌, ◌^◌, length, sum_by, IfOk};
 ghost use Rattle.std.specs.List.{AllZip};
-ghost use Rattle.function_places.specs.Places.{ArePlaces, IsLaid, IsLaidAt, size_of};
+ghost use Rattle.function_places.specs.Places.{ArePlaces, IsLaidFunction, IsLaidAt, size_of};
 ghost use Rattle.rv_layout_rules.specs.Forms.{total_words};
 
 use crate::sizes::code_size;
@@ -64,7 +64,7 @@ pub fn work_of(alloc: Global, pieces: &[Pieces]) -> Result<Vec<u32>, AllocError>
 /// A function laid out by itself.
 fn laid_out(alloc: Global, function: &Pieces) -> Result<Laid, AllocError>
     requires { size_of function.now < 2 ^ 48 }
-    ensures { IfOk result (IsLaid function.now) }
+    ensures { IfOk result (IsLaidFunction function.now) }
 {
     let code = function.code.as_slice();
     let forms = forms_of(alloc, code)?;
@@ -89,7 +89,7 @@ fn all_laid<R: Threads + Sync>(
     requires numbers { length pieces.now < 2 ^ 32 }
     requires same { length work.now ≡ length pieces.now }
     requires few { sum_by size_of pieces.now < 2 ^ 48 }
-    ensures { IfOk result (λ all. AllZip IsLaid pieces.now all.items) }
+    ensures { IfOk result (λ all. AllZip IsLaidFunction pieces.now all.items) }
 {
     let laid_at = |index: u32| -> Result<Laid, AllocError>
         requires { (index < length pieces.now) × (sum_by size_of pieces.now < 2 ^ 48) }

@@ -2,37 +2,12 @@
 ghost use Rattle.std.specs.Prelude.{◌≡◌, ◌<◌, ℕ, ◌^◌, cond, length, map, IfOk};
 ghost use Rattle.lin_ir.specs.Meaning.{has_label};
 ghost use Rattle.mach_ir.specs.Acts.{At};
-ghost use Rattle.mach_ir.specs.Labels.{is_that_label, place_to};
+ghost use Rattle.mach_ir.specs.Labels.{place_to};
 ghost use Rattle.lin_flow.specs.Labels.{line_of_label, AreLabelsOf};
 
-use lin_ir::{Flow, Lin, LinOp};
+use lin_ir::{Lin, LinOp};
 use mach_ir::{Label, LabelPlaces};
 use std::alloc::{AllocError, Global};
-
-/// The label of a line that has one.
-fn flow_label(flow: &Flow) -> Option<Label>
-    ensures { (l : ℕ) → has_label l (LinOp.Flow flow.now) ≡ is_that_label result l }
-{
-    match flow {
-        Flow::Label(label) => Some(*label),
-        Flow::Jump(_) => None,
-        Flow::Exit(_) => None,
-        Flow::Branch { test: _, label: _ } => None,
-        Flow::Switch(_) => None,
-        Flow::PushTrap(_) => None,
-        Flow::PopTrap => None,
-        Flow::EnterTrap => None,
-    }
-}
-
-fn own_label(op: &LinOp) -> Option<Label>
-    ensures { (l : ℕ) → has_label l op.now ≡ is_that_label result l }
-{
-    match op {
-        LinOp::Op(_) => None,
-        LinOp::Flow(flow) => flow_label(flow),
-    }
-}
 
 /// The place after each label, of a label that occurs twice after the first; of any other the place
 /// after the last line.
@@ -66,7 +41,7 @@ impl LineLabels {
         ensures { IfOk result (λ _. (l : ℕ) → line_of_label self.new l ≡
             cond (has_label l op.now) after (line_of_label self.old l)) }
     {
-        match own_label(op) {
+        match op.own_label() {
             None => Ok(()),
             Some(label) => self.places.put(label, after),
         }

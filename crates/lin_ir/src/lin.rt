@@ -1,4 +1,9 @@
 //! The instructions of Linear.
+ghost use Rattle.std.specs.Prelude.{◌≡◌, ℕ};
+ghost use Rattle.std.specs.Option.{option_to_list};
+ghost use Rattle.mach_ir.specs.Labels.{is_that_label};
+ghost use Rattle.lin_ir.specs.Formed.{is_label, label_of};
+ghost use Rattle.lin_ir.specs.Meaning.{has_label};
 
 use bs_words::{Comp, Loc, Name, Ret};
 use mach_ir::{Label, Op, Seq, Test};
@@ -45,6 +50,60 @@ pub enum LinOp {
     Op(Op),
     /// What steers control.
     Flow(Flow),
+}
+
+impl LinOp {
+    /// The label that a line with this operation has, if it has one.
+    pub fn own_label(&self) -> Option<Label>
+        ensures first { (l : ℕ) → has_label l self.now ≡ is_that_label result l }
+        ensures all { option_to_list result ≡ label_of self.now }
+    {
+        match self {
+            LinOp::Flow(Flow::Label(label)) => Some(*label),
+            LinOp::Flow(Flow::Jump(_)) => None,
+            LinOp::Flow(Flow::Exit(_)) => None,
+            LinOp::Flow(Flow::Branch { test: _, label: _ }) => None,
+            LinOp::Flow(Flow::Switch(_)) => None,
+            LinOp::Flow(Flow::PushTrap(_)) => None,
+            LinOp::Flow(Flow::PopTrap) => None,
+            LinOp::Flow(Flow::EnterTrap) => None,
+            LinOp::Op(_) => None,
+        }
+    }
+
+    /// Whether it is a label.
+    pub fn is_label(&self) -> bool
+        ensures { result ≡ is_label self.now }
+    {
+        match self {
+            LinOp::Flow(Flow::Label(_)) => true,
+            LinOp::Flow(Flow::Jump(_)) => false,
+            LinOp::Flow(Flow::Exit(_)) => false,
+            LinOp::Flow(Flow::Branch { test: _, label: _ }) => false,
+            LinOp::Flow(Flow::Switch(_)) => false,
+            LinOp::Flow(Flow::PushTrap(_)) => false,
+            LinOp::Flow(Flow::PopTrap) => false,
+            LinOp::Flow(Flow::EnterTrap) => false,
+            LinOp::Op(_) => false,
+        }
+    }
+
+    /// Whether it is that label.
+    pub fn has_label(&self, wanted: Label) -> bool
+        ensures { result ≡ has_label wanted self.now }
+    {
+        match self {
+            LinOp::Flow(Flow::Label(label)) => *label == wanted,
+            LinOp::Flow(Flow::Jump(_)) => false,
+            LinOp::Flow(Flow::Exit(_)) => false,
+            LinOp::Flow(Flow::Branch { test: _, label: _ }) => false,
+            LinOp::Flow(Flow::Switch(_)) => false,
+            LinOp::Flow(Flow::PushTrap(_)) => false,
+            LinOp::Flow(Flow::PopTrap) => false,
+            LinOp::Flow(Flow::EnterTrap) => false,
+            LinOp::Op(_) => false,
+        }
+    }
 }
 
 /// An instruction: its operands and results are locations.

@@ -19,7 +19,7 @@ use Rattle.moving_laws.specs.Values.{HasFunctions, IsKnown, value_word}
 use Rattle.moving_laws.proofs.Bottom.{bottom_start}
 use Rattle.lin_machine.specs.Contents.{statics_of}
 use Rattle.lin_machine.specs.Moments.{AtEntry}
-use Rattle.lin_machine.specs.Relation.{Below}
+use Rattle.lin_machine.specs.Relation.{Below, nothing_below}
 use Rattle.lin_machine.specs.Statics.{StaticsLie}
 use Rattle.lin_machine.specs.View.{Fixed, View}
 
@@ -47,10 +47,6 @@ argument_at (a ∷ args) rest (suc n) zero x l e = (omega arith, let h : Word a 
 argument_at (a ∷ args) rest (suc n) (suc k) x l e = let r = argument_at args rest n k x (omega (arith, l)) e in let r0 = r.0 in (omega (arith, r0), r.1)
 
 -- ---- the start
-
--- below the entry there is only the stub
-abbrev pub nothing_below : Below
-nothing_below = record { waiting = []; frames = []; top = stack_bottom; back = code_start }
 
 module _ (image : Tables) (functions : HasFunctions image) (bytes : AllByRecursion (λ b. b < 256) image.bytes) (schedule : Schedule) (func : Func)
     (args : List ℕ)

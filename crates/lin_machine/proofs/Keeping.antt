@@ -10,7 +10,7 @@ use Rattle.rv_machine.specs.Places.{stack_bottom, stack_end}
 use Rattle.moving_laws.specs.Words.{IsReadable, held_word}
 use Rattle.moving_laws.specs.Heap.{IsInHeap}
 use Rattle.moving_laws.specs.Values.{start_of, cells_of_block}
-use Rattle.moving_laws.specs.Waiting.{WaitingActivation, slot_offset, Chain, AllWait, TrapsFrom, traps_at}
+use Rattle.moving_laws.specs.Waiting.{WaitingActivation, waiting_slot_offset, Chain, AllWait, TrapsFrom, traps_at}
 use Rattle.moving_laws.proofs.Rewriting.{start_inside}
 use Rattle.lin_machine.specs.View.{Fixed}
 use Rattle.lin_machine.specs.Relation.{Below, waiting_trap_frames, Waits, TrapsStand, HeapStands}
@@ -96,7 +96,7 @@ waits_above image placed ds base m m' first a p (x ∷ xs) (f ∷ fs) same c w =
       record {
         room = w.0.room;
         back = same (f.at + (f.desc.size - 8)) (omega (arith, at)) (omega (arith, at, hi, sl)) ∙ w.0.back;
-        slot = λ k v l h. same (f.at + slot_offset x k) (omega (arith, at)) (omega (arith, at, hi, room, l)) ∙ w.0.slot k v l h;
+        slot = λ k v l h. same (f.at + waiting_slot_offset x k) (omega (arith, at)) (omega (arith, at, hi, room, l)) ∙ w.0.slot k v l h;
         known = w.0.known;
         value = w.0.value;
         named = w.0.named;

@@ -52,6 +52,10 @@ pub record Below : Type 0 where
   pub top : ℕ
   pub back : ℕ
 
+-- below the entry there is only the stub
+abbrev pub nothing_below : Below
+nothing_below = record { waiting = []; frames = []; top = stack_bottom; back = code_start }
+
 -- the trap frames of the activations that wait, the innermost first
 abbrev pub waiting_trap_frames : List WaitingActivation → List Frame → List (ℕ × ℕ)
 waiting_trap_frames [] fs = []

@@ -9,7 +9,7 @@ use Rattle.lin_ir.specs.declared.lin.Line.{Line}
 use Rattle.lin_ir.specs.declared.lin.Lin.{Lin}
 use Rattle.lin_laws.specs.Graph.{line_index, position}
 use Rattle.lin_laws.specs.declared.position.Position.{Position}
-use Rattle.lin_tests.specs.Positions.{Agree, AreAgreed, Fits, ArePositions}
+use Rattle.lin_tests.specs.Positions.{Agree, AreAgreed, FitsDescriptorAt, ArePositions}
 
 in_all : {A : Type 0} (P : A → Type 0) (xs : List A) (k : ℕ) (x : A) → slice_get xs k ≡ Some x → All P xs → P x
 in_all P xs k x e h = subst P (get_or_from_slice_get xs k x x e) (h k x (slice_get_within xs k x e))
@@ -40,21 +40,21 @@ module _ (m : Lin) (all : List Position) (are : ArePositions m all) where
       depth.one (drop y.place m.code) x.tries y.tries (by_walk (subst (λ p. Reached m (drop p m.code) x.tries) same (walk_to j d lt)))
       (by_walk (walk_to k e le))
 
-  fits_walk : All (Fits (frame_bytes m)) all → (code : List Line) (tries : List ℕ) → Reached m code tries →
+  fits_walk : All (FitsDescriptorAt (frame_bytes m)) all → (code : List Line) (tries : List ℕ) → Reached m code tries →
       frame_bytes m + 16 * length tries ≤ 1048576
   fits_walk h code tries r =
       let a = are.reached.complete code tries r in
-      in_all (Fits (frame_bytes m)) all a.0 (position (line_index m code) tries) a.1 h
+      in_all (FitsDescriptorAt (frame_bytes m)) all a.0 (position (line_index m code) tries) a.1 h
 
-  fits_at : All (Fits (frame_bytes m)) all → (code : List Line) (tries : List ℕ) → Traps m code tries →
+  fits_at : All (FitsDescriptorAt (frame_bytes m)) all → (code : List Line) (tries : List ℕ) → Traps m code tries →
       frame_bytes m + 16 * length tries ≤ 1048576
   fits_at h code tries (by_walk r) = fits_walk h code tries r
   fits_at h code tries (unreached none) = fits_walk h m.code [] at_entry
 
-  pub within : All (Fits (frame_bytes m)) all → FitsDescriptors m
+  pub within : All (FitsDescriptorAt (frame_bytes m)) all → FitsDescriptors m
   within h = record { lines = are.lines; frame = fits_at h }
 
-  pub all_fit : FitsDescriptors m → All (Fits (frame_bytes m)) all
+  pub all_fit : FitsDescriptors m → All (FitsDescriptorAt (frame_bytes m)) all
   all_fit w = λ k d lt.
       let x = slice_index_or all k d in
       w.frame (drop x.place m.code) x.tries (by_walk (walk_to k d lt))

@@ -12,8 +12,8 @@ abbrev pub AreAgreed : List Position → Type 0
 AreAgreed all = All (λ x. All (Agree x) all) all
 
 -- a descriptor can say the bytes of the frame with those traps
-abbrev pub Fits : ℕ → Position → Type 0
-Fits frame x = frame + 16 * length x.tries ≤ 1048576
+abbrev pub FitsDescriptorAt : ℕ → Position → Type 0
+FitsDescriptorAt frame x = frame + 16 * length x.tries ≤ 1048576
 
 -- exactly the positions that walks come to, where lines have numbers
 pub record ArePositions (m : Lin) (all : List Position) : Type 0 where

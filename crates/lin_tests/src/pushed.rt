@@ -5,7 +5,7 @@ ghost use Rattle.lin_ir.specs.Formed.{AreLocated};
 ghost use Rattle.lin_ir.specs.Walks.{OneDepth};
 ghost use Rattle.lin_flow.specs.Sizes.{IsCountable};
 ghost use Rattle.lin_laws.specs.Graph.{AreNumbered};
-ghost use Rattle.lin_tests.specs.Positions.{Agree, AreAgreed, Fits, ArePositions};
+ghost use Rattle.lin_tests.specs.Positions.{Agree, AreAgreed, FitsDescriptorAt, ArePositions};
 
 use lin_flow::{LineLabels, Walks, search_walks};
 use lin_ir::Lin;
@@ -44,7 +44,7 @@ fn are_agreed(positions: &[Position]) -> bool
 /// Whether a descriptor can say the bytes of the frame with the traps that are pushed there.
 fn fits(frame: u32, position: &Position) -> bool
     requires { frame < 2147483648 }
-    ensures { IsTrue result ↔ Fits frame position.now }
+    ensures { IsTrue result ↔ FitsDescriptorAt frame position.now }
 {
     let traps = position.tries.len();
     traps <= TRAPS && frame as usize + 16 * traps <= BYTES as usize
@@ -52,7 +52,7 @@ fn fits(frame: u32, position: &Position) -> bool
 
 fn all_fit(frame: u32, positions: &[Position]) -> bool
     requires { frame < 2147483648 }
-    ensures { IsTrue result ↔ All (Fits frame) positions.now }
+    ensures { IsTrue result ↔ All (FitsDescriptorAt frame) positions.now }
 {
     positions.iter().all(|position| fits(frame, position))
 }

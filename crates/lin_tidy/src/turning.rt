@@ -12,7 +12,7 @@ ghost use Rattle.lin_tidy.specs.Loops.{head_view, turn_view, turns_in, is_opened
 
 use lin_flow::LineLabels;
 use lin_ir::{Flow, Lin, LinOp, Line, Spot};
-use lin_unused::forms::{exit_of, goes_away, own_label};
+use lin_unused::forms::{exit_of, goes_away};
 use linearise::{bare, opposite_test};
 use mach_ir::{Label, Seq, Test};
 use std::alloc::{AllocError, Global};
@@ -23,7 +23,7 @@ fn free_above(free: usize, op: &LinOp) -> usize
     ensures { (ls : List ℕ) →
         max result (limit_above ls) ≡ max free (limit_above (label_of op.now ++ ls)) }
 {
-    match own_label(op) {
+    match op.own_label() {
         None => free,
         Some(label) => {
             let label = label.0 as usize;
@@ -142,7 +142,7 @@ fn comes_first(label: Label, code: &[Line], place: u32) -> bool
     if place as usize >= code.len() {
         return false;
     }
-    match own_label(&code[place as usize].op) {
+    match code[place as usize].op.own_label() {
         None => false,
         Some(own) => own == label,
     }

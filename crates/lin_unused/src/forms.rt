@@ -1,10 +1,7 @@
 //! What kind of line a line is.
 ghost use Rattle.std.specs.Prelude.{◌≡◌, ◌↔◌, ℕ, All, Some, IfSome, IsTrue, []};
 ghost use Rattle.bs_words.specs.declared.types.Loc.{Loc};
-ghost use Rattle.std.specs.Option.{option_to_list};
-ghost use Rattle.mach_ir.specs.Labels.{is_that_label};
-ghost use Rattle.lin_ir.specs.Formed.{IsSelfMove, label_of, bare_flow};
-ghost use Rattle.lin_ir.specs.Meaning.{has_label};
+ghost use Rattle.lin_ir.specs.Formed.{IsSelfMove, bare_flow};
 ghost use Rattle.lin_ir.specs.declared.lin.Spot.{Spot};
 ghost use Rattle.lin_tidy_rules.specs.Leaving.{is_landing};
 ghost use Rattle.lin_tidy_rules.specs.Turning.{goes_away};
@@ -160,35 +157,7 @@ pub fn is_label(line: &Line) -> bool
     if !has_no_spots(line) {
         return false;
     }
-    match &line.op {
-        LinOp::Flow(Flow::Label(_)) => true,
-        LinOp::Flow(Flow::Jump(_)) => false,
-        LinOp::Flow(Flow::Exit(_)) => false,
-        LinOp::Flow(Flow::Branch { test: _, label: _ }) => false,
-        LinOp::Flow(Flow::Switch(_)) => false,
-        LinOp::Flow(Flow::PushTrap(_)) => false,
-        LinOp::Flow(Flow::PopTrap) => false,
-        LinOp::Flow(Flow::EnterTrap) => false,
-        LinOp::Op(_) => false,
-    }
-}
-
-/// The label that the line has, if it has one.
-pub fn own_label(op: &LinOp) -> Option<Label>
-    ensures first { (l : ℕ) → has_label l op.now ≡ is_that_label result l }
-    ensures all { option_to_list result ≡ label_of op.now }
-{
-    match op {
-        LinOp::Flow(Flow::Label(label)) => Some(*label),
-        LinOp::Flow(Flow::Jump(_)) => None,
-        LinOp::Flow(Flow::Exit(_)) => None,
-        LinOp::Flow(Flow::Branch { test: _, label: _ }) => None,
-        LinOp::Flow(Flow::Switch(_)) => None,
-        LinOp::Flow(Flow::PushTrap(_)) => None,
-        LinOp::Flow(Flow::PopTrap) => None,
-        LinOp::Flow(Flow::EnterTrap) => None,
-        LinOp::Op(_) => None,
-    }
+    line.op.is_label()
 }
 
 /// Whether it is a jump or an exit: control does not come to what is right after it.

@@ -5,7 +5,7 @@ use Rattle.rv_layout_rules.specs.Laid.{address_of_place}
 use Rattle.rv_layout_rules.specs.Words.{NameAddresses, call_code, distance, upper}
 use Rattle.rv_layout_rules.specs.declared.form.Form.{Form}
 use Rattle.rv_layout_rules.specs.declared.form.Form.TheVariants.{Near, Middle, Far}
-use Rattle.rv_layout_rules.specs.Forms.{call_words}
+use Rattle.rv_layout_rules.specs.Forms.{words_of_call}
 use Rattle.rv_emit_rules.specs.Instructions.{low_12}
 use Rattle.rv_layout_rules.proofs.Offsets.{far_lands, number_lands}
 use Rattle.rv_isa.specs.declared.instr.Instr.TheVariants.{Auipc, Jalr, Lui, OpImm}
@@ -122,7 +122,7 @@ module _ (s : Fixed) (v : View) (are : AreRegisters v.registers) (address to des
             (then_leads s 2 1 v between _ (then_leads s 1 1 v (set_in 1 high v) between (far_first code.0) (far_second code.1.0)) (far_third code.1.1.0));
       }
 
-  by_form : (f : Form) → HasCode s v.place (call_code f 1 1 (address_of_place v.place) address) → to ≡ v.place + call_words f → CalledBy s v to dest
+  by_form : (f : Form) → HasCode s v.place (call_code f 1 1 (address_of_place v.place) address) → to ≡ v.place + words_of_call f → CalledBy s v to dest
   by_form Near code past = by_distance code past
   by_form Middle code past = by_address code past
   by_form Far code past = by_address code past
@@ -131,4 +131,4 @@ pub named_leads : (s : Fixed) (n : NameAddresses) (v : View) → AreRegisters v.
     code_start + 4 * dest < 2 ^ 28 → PartStands s n v.place to (Call name ∷ []) → CalledBy s v to dest
 named_leads s n v are name to dest is low st =
     let b = begins s n v.place to (Call name) [] st in
-    by_form s v are (n.symbol name) to dest is low b.form b.code (nothing_more s n (v.place + call_words b.form) to b.rest)
+    by_form s v are (n.symbol name) to dest is low b.form b.code (nothing_more s n (v.place + words_of_call b.form) to b.rest)

@@ -10,7 +10,7 @@ use Rattle.rv_layout_rules.specs.Laid.{address_of_place}
 use Rattle.rv_layout_rules.specs.Words.{NameAddresses, call_code, distance, upper}
 use Rattle.rv_layout_rules.specs.declared.form.Form.{Form}
 use Rattle.rv_layout_rules.specs.declared.form.Form.TheVariants.{Near, Middle, Far}
-use Rattle.rv_layout_rules.specs.Forms.{call_words}
+use Rattle.rv_layout_rules.specs.Forms.{words_of_call}
 use Rattle.rv_emit_rules.specs.Instructions.{low_12}
 use Rattle.rv_layout_rules.proofs.Offsets.{far_lands, number_lands}
 use Rattle.lin_ir.specs.Meaning.{Locations}
@@ -225,7 +225,7 @@ module _ (s : Fixed) (n : NameAddresses) (laid : Laid) (v : View) (young : List 
           code = subst (λ p. IsInstructionAt s p (Jalr 0 6 0)) e code.1.1.0;
         }
 
-    by_form : (g : Form) → HasCode s middle (call_code g 0 6 (address_of_place middle) address) → to ≡ middle + call_words g → Jumps to
+    by_form : (g : Form) → HasCode s middle (call_code g 0 6 (address_of_place middle) address) → to ≡ middle + words_of_call g → Jumps to
     by_form Near code past = by_distance code past
     by_form Middle code past = by_address code past
     by_form Far code past = by_address code past
@@ -236,7 +236,7 @@ module _ (s : Fixed) (n : NameAddresses) (laid : Laid) (v : View) (young : List 
   named_replaces name to is st =
       let parts = splits s n v.place to (frame_release (frame_in laid)) (TailCall name ∷ []) st in
       let call = begins s n parts.middle to (TailCall name) [] parts.second in
-      let past = nothing_more s n (parts.middle + call_words call.form) to call.rest in
+      let past = nothing_more s n (parts.middle + words_of_call call.form) to call.rest in
       let first = given_back_reaches s n laid v young held a c within left parts.middle parts.first in
       let wide : Reaches s v parts.middle rs v.memory Given =
       reaches_as s v parts.middle (1 ∷ 2 ∷ 7 ∷ []) rs v.memory _ _

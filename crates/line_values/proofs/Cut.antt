@@ -20,7 +20,7 @@ use Rattle.moving_laws.specs.Words.{held_word}
 use Rattle.lin_machine.specs.Contents.{statics_of}
 use Rattle.lin_machine.specs.Moments.{AtEntry}
 use Rattle.lin_machine.specs.Statics.{StaticsLie}
-use Rattle.lin_machine.proofs.Beginning.{at_start, nothing_below, start_fixed, start_view}
+use Rattle.lin_machine.proofs.Beginning.{at_start, start_fixed, start_view}
 use Rattle.bs_words.specs.declared.types.Comp.{Comp}
 use Rattle.bs_words.specs.declared.types.Comp.TheVariants as comp
 use Rattle.bs_words.specs.declared.types.Loc.TheVariants as loc
@@ -46,7 +46,7 @@ use Rattle.rv_isa.specs.declared.instr.Instr.TheVariants.{Store}
 use Rattle.rv_isa.specs.declared.instr.StoreWidth.TheVariants.{Sb}
 use Rattle.rv_machine.specs.Hart.{Placed}
 use Rattle.lin_machine.specs.Follows.{FollowsStep}
-use Rattle.lin_machine.specs.Relation.{Below, Laid, Within}
+use Rattle.lin_machine.specs.Relation.{Below, Laid, Within, nothing_below}
 use Rattle.lin_machine.specs.View.{Fixed, View, IsInstructionAt}
 use Rattle.line_stands.specs.Lines.{LineStands, Nowhere}
 use Rattle.line_stands.specs.Parts.{PartStands}

@@ -28,10 +28,9 @@ use Rattle.rv_machine.specs.Services.{Now}
 use Rattle.rv_machine.specs.Sound.{IsStackBase}
 use Rattle.lin_machine.specs.Arrival.{ArrivesIn}
 use Rattle.lin_machine.specs.Follows.{FollowsAsked, FollowsStep, IsAt, needs_of, used}
-use Rattle.lin_machine.specs.Relation.{Below, Laid}
+use Rattle.lin_machine.specs.Relation.{Below, Laid, nothing_below}
 use Rattle.lin_machine.specs.View.{View}
 use Rattle.lin_machine.proofs.Arriving.{at_least, leads_in}
-use Rattle.lin_machine.proofs.Beginning.{nothing_below}
 use Rattle.lin_machine.proofs.Following.{agrees_on}
 use Rattle.lin_machine.proofs.Steps.{stays}
 use Rattle.linking.specs.Assembled.{Setup, IsPassedOn, Assembled}

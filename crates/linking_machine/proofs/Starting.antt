@@ -21,10 +21,11 @@ use Rattle.rv_machine.specs.Places.{domain_start, limit_at_rest, stack_bottom, f
 use Rattle.rv_machine.specs.Run.{begun}
 use Rattle.rv_machine.specs.Sound.{IsSound, IsStackBase}
 use Rattle.rv_machine.specs.Start.{data_region, domain_region, stack_region, start, start_memory, start_registers, uniform}
+use Rattle.lin_machine.specs.Relation.{nothing_below}
 use Rattle.lin_machine.specs.Follows.{IsEntered}
 use Rattle.lin_machine.specs.Moments.{AtEntry}
 use Rattle.lin_machine.specs.View.{View}
-use Rattle.lin_machine.proofs.Beginning.{nothing_below, at_start}
+use Rattle.lin_machine.proofs.Beginning.{at_start}
 use Rattle.lin_machine.proofs.Likes.{like_refl}
 use Rattle.linking.specs.Assembled.{Setup}
 use Rattle.linking_machine.specs.Emitted.{AreEntries}

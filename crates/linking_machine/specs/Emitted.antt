@@ -33,10 +33,9 @@ use Rattle.lin_machine.specs.Contents.{statics_of}
 use Rattle.line_calls.specs.Calls.{FollowsSo}
 use Rattle.line_calls.specs.Known.{FreeStands, FollowsBranch}
 use Rattle.lin_machine.specs.Follows.{IsAt, IsEntered, used, needs_of}
-use Rattle.lin_machine.specs.Relation.{Below, Laid}
+use Rattle.lin_machine.specs.Relation.{Below, Laid, nothing_below}
 use Rattle.lin_machine.specs.Statics.{StaticsLie}
 use Rattle.lin_machine.specs.View.{Fixed, View}
-use Rattle.lin_machine.proofs.Beginning.{nothing_below}
 use Rattle.linking.specs.Assembled.{Setup, IsStub}
 use Rattle.linking.specs.Pace.{Words, IsReached}
 use Rattle.linking.specs.Program.{activation_in}

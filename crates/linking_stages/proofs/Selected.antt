@@ -19,7 +19,7 @@ use Rattle.meaning_laws.specs.Units.{world_of}
 use Rattle.meaning_laws.proofs.LinksWhole.{bound_error_fits}
 use Rattle.selection_rules.specs.Bounded.{AllBounded, BoundedDoing, BoundedDoings, BoundedAsked, AllAsked, BoundedEvaluation}
 use Rattle.selection_rules.proofs.BoundedRuns.{alone_bounded}
-use Rattle.selection_rules.proofs.Plays.{Meets, returned, threw, running, asking, improper, left_by_exit}
+use Rattle.selection_rules.specs.Selected.{MeetsEvaluation, returned, threw, running, asking, improper, left_by_exit}
 use Rattle.linking.specs.Assembled.{IsKnownAsked, IsKnownEvaluation, IsPassedOn}
 use Rattle.linking.specs.Keeps.{gives, raises, out_of_units, asks, Same, alone_in}
 use Rattle.linking.specs.Program.{activation_in}
@@ -29,7 +29,7 @@ use Rattle.linking_stages.specs.Stages.{mach_program}
 -- ---- what is selected
 
 -- a run that meets an evaluation is the same
-met : (machs : ℕ → Mach) (most n units nodes : ℕ) (e : Evaluation) {r : RunProgress mach.State} → Meets units e r → IsProperEnd e →
+met : (machs : ℕ → Mach) (most n units nodes : ℕ) (e : Evaluation) {r : RunProgress mach.State} → MeetsEvaluation units e r → IsProperEnd e →
     units + (pending_calls e + (world_of e).left) ≤ n → n ≤ (world_of e).left + nodes * suc units → nodes ≤ most →
     ((u : World) (s : mach.State) (t : Tally) → e ≡ Stops OutOfFuel u → r ≡ run.Running s t → heap_need s.around.memory ≤ heap_need u.memory) →
     Same mach.State (mach_program machs) most n e r

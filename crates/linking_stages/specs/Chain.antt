@@ -21,7 +21,7 @@ use Rattle.meaning_laws.specs.Handed.{AreHanded}
 use Rattle.meaning_laws.specs.Units.{world_of}
 use Rattle.selection_rules.specs.Bounded.{AllBounded, BoundedMemory, BoundedCode, BoundedDoings, BoundedSymbols}
 use Rattle.selection_rules.specs.Select.{selected, width}
-use Rattle.selection_rules.proofs.Selection.{SelectedRun}
+use Rattle.selection_rules.specs.Selected.{SelectedRun}
 use Rattle.linking.specs.Keeps.{Runs, alone_in}
 use Rattle.linking.specs.Program.{setting_in, activation_in}
 use Rattle.linking_stages.specs.Stages.{mach_program}

@@ -13,7 +13,7 @@ use Rattle.bs_words.specs.Fits.{data_start}
 use Rattle.moving_laws.specs.Heap.{IsInHeap}
 use Rattle.moving_laws.specs.Values.{start_of, value_word, function_at, IsVal, HasFunctions}
 use Rattle.moving_laws.specs.Stands.{AmongNumbers}
-use Rattle.moving_laws.specs.Waiting.{WaitingActivation, slot_offset, Chain, AllWait}
+use Rattle.moving_laws.specs.Waiting.{WaitingActivation, waiting_slot_offset, Chain, AllWait}
 use Rattle.moving_laws.proofs.Rewriting.{at_start, start_inside}
 use Rattle.moving_laws.proofs.Walk.{among_append, named_entry}
 
@@ -65,10 +65,10 @@ slots_root image bs m ds base first a p (x ∷ xs) (f ∷ fs) has inside c w y i
     (λ t.
     let r = named_entry f.at f.desc.size y f.desc.entries (omega (arith, at, hi)) is.entries t in
     let n = w.0.named r.0 r.2 r.3 in
-    let there : memory_word m (f.at + slot_offset x n.0) ≡ value_word image bs n.1 = w.0.slot n.0 n.1 n.3 n.4 in
+    let there : memory_word m (f.at + waiting_slot_offset x n.0) ≡ value_word image bs n.1 = w.0.slot n.0 n.1 n.3 n.4 in
     let e1 = r.1 in
     let e2 = n.2 in
-    let same : f.at + slot_offset x n.0 ≡ y = omega (arith, e1, e2) in
+    let same : f.at + waiting_slot_offset x n.0 ≡ y = omega (arith, e1, e2) in
     is_root_of image bs n.1 (memory_word m y) has inside n.5 (subst (λ z. memory_word m z ≡ value_word image bs n.1) same there))
     (λ t. slots_root image bs m ds base false (memory_word m (p + (f.desc.size - 8))) (p + f.desc.size) xs fs has inside c.5 w.1 y t)
     (among_append y (slots_named f.at f.desc.entries) (slots_of fs) i)

@@ -12,7 +12,7 @@ use Rattle.moving_laws.specs.Words.{IsReadable, held_word}
 use Rattle.moving_laws.specs.Heap.{IsInHeap, SameSizes}
 use Rattle.moving_laws.specs.Values.{IsVal, IsStill, IsKnown}
 use Rattle.moving_laws.specs.Stands.{Blocks, IsOutside, AmongNumbers, StaticsStand}
-use Rattle.moving_laws.specs.Waiting.{WaitingActivation, slot_offset, Chain, IsWaiting, AllWait, TrapsFrom}
+use Rattle.moving_laws.specs.Waiting.{WaitingActivation, waiting_slot_offset, Chain, IsWaiting, AllWait, TrapsFrom}
 use Rattle.moving_laws.proofs.Words.{same_or_not}
 use Rattle.moving_laws.proofs.Rewriting.{far_no_start, still_word, same_length}
 use Rattle.moving_laws.proofs.Restored.{IsMemoryRestored}
@@ -58,22 +58,22 @@ module _ (image : Tables) (olds news : List Placed) (places : List ℕ) (m m' : 
     back = ret ∙ w.back;
     slot = λ k v l h.
         let room = w.room in
-        let at : ℕ = f.at + slot_offset x k in
+        let at : ℕ = f.at + waiting_slot_offset x k in
         let at_low : base ≤ at = omega (arith, lo) in
         let at_even : at % 8 ≡ 0 = omega (arith, even) in
         let at_high : at + 8 ≤ stack_end = omega (arith, hi, room, l) in
         ⊎_elim
         (λ a.
-        let n = w.named (slot_offset x k) a (omega arith) in
+        let n = w.named (waiting_slot_offset x k) a (omega arith) in
         let e = n.2 in
         let same : n.0 ≡ k = omega (arith, e) in
         let is : n.1 ≡ v = one_value v n.1 (x.slot k) h (subst (λ z. x.slot z ≡ Some n.1) same n.4) in
-        r.named at v (can at at_even at_low at_high) (on_stack at at_low) (sub (slot_offset x k) a (omega arith))
+        r.named at v (can at at_even at_low at_high) (on_stack at at_low) (sub (waiting_slot_offset x k) a (omega arith))
         (subst (λ z. IsVal image (length olds) z) is n.5) (w.slot k v l h))
         (λ none.
         let still : IsStill v = ⊎_elim (λ s. s) (λ a. absurd (none a)) (w.value k v l h) in
-        r.unnamed at (on_stack at at_low) (only (slot_offset x k) (omega (arith, room, l)) none) ∙ w.slot k v l h ∙ still_word image olds news v still)
-        (among_or_not (slot_offset x k) f.desc.entries);
+        r.unnamed at (on_stack at at_low) (only (waiting_slot_offset x k) (omega (arith, room, l)) none) ∙ w.slot k v l h ∙ still_word image olds news v still)
+        (among_or_not (waiting_slot_offset x k) f.desc.entries);
     known = λ k v l h. subst (λ q. IsKnown image q v) (sym count_same) (w.known k v l h);
     value = w.value;
     named = λ e a v. let n = w.named e a v in (n.0, n.1, n.2, n.3, n.4, val_again n.1 n.5);

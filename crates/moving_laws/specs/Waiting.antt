@@ -21,8 +21,8 @@ pub record WaitingActivation : Type 0 where
   pub tries : List ℕ
 
 -- where slot k lies in its frame
-abbrev pub slot_offset : WaitingActivation → ℕ → ℕ
-slot_offset x k = 16 * length x.tries + 8 * k
+abbrev pub waiting_slot_offset : WaitingActivation → ℕ → ℕ
+waiting_slot_offset x k = 16 * length x.tries + 8 * k
 
 -- a frame with this descriptor lies at an address
 pub record IsFrameAt (first : Bool) (base p : ℕ) (d : Desc) : Type 0 where
@@ -47,16 +47,16 @@ Chain ds base m first a p (f ∷ fs) =
 -- descriptor names it, and what is named fits val.
 pub record IsWaiting (image : Tables) (placed : List Placed) (m : List Region) (x : WaitingActivation)
     (f : Frame) : Type 0 where
-  pub room : slot_offset x (x.count) + 8 ≤ f.desc.size
+  pub room : waiting_slot_offset x (x.count) + 8 ≤ f.desc.size
   pub back : memory_word m (f.at + (f.desc.size - 8)) ≡ x.back
   pub slot : (k : ℕ) (v : Value) → k < x.count → x.slot k ≡ Some v →
-      memory_word m (f.at + slot_offset x k) ≡ value_word image placed v
+      memory_word m (f.at + waiting_slot_offset x k) ≡ value_word image placed v
   pub known : (k : ℕ) (v : Value) → k < x.count → x.slot k ≡ Some v →
       IsKnown image (length placed) v
   pub value : (k : ℕ) (v : Value) → k < x.count → x.slot k ≡ Some v → IsStill v
-      ⊎ AmongNumbers (slot_offset x k) f.desc.entries
+      ⊎ AmongNumbers (waiting_slot_offset x k) f.desc.entries
   pub named : (e : ℕ) → AmongNumbers e f.desc.entries → e % 2 ≡ 0 → (k : ℕ) × (v : Value)
-      × (e ≡ slot_offset x k) × (k < x.count) × (x.slot k ≡ Some v)
+      × (e ≡ waiting_slot_offset x k) × (k < x.count) × (x.slot k ≡ Some v)
       × IsVal image (length placed) v
 
 abbrev pub AllWait : Tables → List Placed → List Region → List WaitingActivation → List Frame → Type 0

@@ -1,7 +1,5 @@
 //! Exits that have no words.
 ghost use Rattle.std.specs.Prelude.{◌≡◌};
-ghost use Rattle.lin_ir.specs.Formed.{is_label};
-ghost use Rattle.lin_ir.specs.Meaning.{has_label};
 ghost use Rattle.rv_emit_rules.specs.Units.{is_branch, tests_first, falls_to, is_free_exit};
 
 use lin_ir::{Flow, LinOp, Line};
@@ -16,38 +14,6 @@ fn is_branch(op: &LinOp) -> bool
         LinOp::Flow(Flow::Jump(_)) => false,
         LinOp::Flow(Flow::Exit(_)) => false,
         LinOp::Flow(Flow::Branch { test: _, label: _ }) => true,
-        LinOp::Flow(Flow::Switch(_)) => false,
-        LinOp::Flow(Flow::PushTrap(_)) => false,
-        LinOp::Flow(Flow::PopTrap) => false,
-        LinOp::Flow(Flow::EnterTrap) => false,
-    }
-}
-
-fn is_label(op: &LinOp) -> bool
-    ensures { result ≡ is_label op.now }
-{
-    match op {
-        LinOp::Op(_) => false,
-        LinOp::Flow(Flow::Label(_)) => true,
-        LinOp::Flow(Flow::Jump(_)) => false,
-        LinOp::Flow(Flow::Exit(_)) => false,
-        LinOp::Flow(Flow::Branch { test: _, label: _ }) => false,
-        LinOp::Flow(Flow::Switch(_)) => false,
-        LinOp::Flow(Flow::PushTrap(_)) => false,
-        LinOp::Flow(Flow::PopTrap) => false,
-        LinOp::Flow(Flow::EnterTrap) => false,
-    }
-}
-
-fn has_label(op: &LinOp, wanted: Label) -> bool
-    ensures { result ≡ has_label wanted op.now }
-{
-    match op {
-        LinOp::Op(_) => false,
-        LinOp::Flow(Flow::Label(label)) => *label == wanted,
-        LinOp::Flow(Flow::Jump(_)) => false,
-        LinOp::Flow(Flow::Exit(_)) => false,
-        LinOp::Flow(Flow::Branch { test: _, label: _ }) => false,
         LinOp::Flow(Flow::Switch(_)) => false,
         LinOp::Flow(Flow::PushTrap(_)) => false,
         LinOp::Flow(Flow::PopTrap) => false,
@@ -72,10 +38,10 @@ fn falls_to(label: Label, code: &[Line]) -> bool
     match code {
         [] => false,
         [line, next @ ..] => {
-            if has_label(&line.op, label) {
+            if line.op.has_label(label) {
                 return tests_first(next);
             }
-            is_label(&line.op) && falls_to(label, next)
+            line.op.is_label() && falls_to(label, next)
         }
     }
 }

@@ -23,7 +23,7 @@ use Rattle.rv_emit_rules.specs.Entry.{FrameLayout, frame_of, entry_pieces}
 use Rattle.rv_emit_rules.specs.Emitted.{part_of_line, part_before, parts_of_lines, descriptor, left_after, emitted}
 use Rattle.rv_pieces.specs.Named.{PieceFits, label_named, symbol_named, external_named, labels_of_piece, places_in}
 use Rattle.rv_emit_rules.specs.Named.{IsLabelOf, IsExternalOf}
-use Rattle.rv_emit_rules.specs.Traversal.{EachPiece, each_none, each_more, Names, Allows}
+use Rattle.rv_emit_rules.specs.Traversal.{EachPiece, each_none, each_more, LineNamesSymbol, Allows}
 use Rattle.rv_emit_rules.proofs.Units.{part_by, free_has_no_label}
 use Rattle.rv_emit_rules.proofs.Traverse.{join, entry-in, part-in, before-in}
 
@@ -103,7 +103,7 @@ symbol-is m a b is e = let same : a ≡ b = cc in let Q : List ℕ → Type 0 = 
 -- each symbol that a piece names is one that the function names
 pub symbols_are_named : (m : Lin) (traps : ℕ → ℕ) (ds : List Descr) → EachPiece (SymbolIn m) (emitted m traps ds).code
 symbols_are_named m traps ds = emitted-in (SymbolIn m) m traps ds (λ j h l e. cc) (λ i next s d.
-    let of : (a : List ℕ) → Names a i.op → (b : List ℕ) → Some a ≡ Some b → IsNamedIn (NamesSymbol b) m =
+    let of : (a : List ℕ) → LineNamesSymbol a i.op → (b : List ℕ) → Some a ≡ Some b → IsNamedIn (NamesSymbol b) m =
     λ a n b e. symbol-is m a b (record { line = i; among = stands-contains m.code s; op = n.op; is = n.is; named = n.named }) e in
     record {
       known = λ j h l e. cc;

@@ -23,7 +23,7 @@ pub data EachPiece (P : Piece → Type 0) : List Piece → Type 0 where
   each_more : {p : Piece} {ps : List Piece} → P p → EachPiece P ps → EachPiece P (p ∷ ps)
 
 -- the symbol is named by what a line does
-pub record Names (name : List ℕ) (f : LinOp) : Type 0 where
+pub record LineNamesSymbol (name : List ℕ) (f : LinOp) : Type 0 where
   pub op : Op
   pub is : f ≡ lin.Op op
   pub named : NamesSymbol name (mach.Op op)
@@ -38,9 +38,9 @@ pub record Allows (P : Piece → Type 0) (f : LinOp) (d : Option Descr) : Type 0
   pub jump : (l : ℕ) → NamesLabel l f → P (piece.Jump l)
   pub row : (l : ℕ) → NamesLabel l f → P (piece.Row l)
   pub address : (l : ℕ) → NamesLabel l f → (r : Register) → P (piece.LabelAddress r l)
-  pub call : (name : List ℕ) → Names name f → P (piece.Call name)
-  pub tail_call : (name : List ℕ) → Names name f → P (piece.TailCall name)
-  pub symbol : (name : List ℕ) → Names name f → (r : Register) → P (piece.SymbolAddress r name)
+  pub call : (name : List ℕ) → LineNamesSymbol name f → P (piece.Call name)
+  pub tail_call : (name : List ℕ) → LineNamesSymbol name f → P (piece.TailCall name)
+  pub symbol : (name : List ℕ) → LineNamesSymbol name f → (r : Register) → P (piece.SymbolAddress r name)
   pub external : (row : External) (frame : _) →
       f ≡ lin.Op (op.Calling (calling.External row frame)) → (r : Register) →
       P (piece.ExternalNumber r row)

@@ -5,6 +5,7 @@ ghost use Rattle.rv_isa.specs.Word.{FieldsFit};
 ghost use Rattle.rv_isa.specs.Immediate.{i_raw, s_raw, b_raw, u_raw, j_raw};
 ghost use Rattle.rv_isa.specs.Encoding.{InstrFits, encoded};
 ghost use Rattle.rv_isa.specs.Decoding.{decoded, row_of_fields, opcode_row};
+ghost use Rattle.rv_isa.specs.Rows as opcode;
 ghost use Rattle.rv_isa.specs.Rows.{OP-IMM, OP-IMM-32};
 
 use crate::instr::{
@@ -50,33 +51,9 @@ fn row(f: Fields) -> Option<Instr>
                 imm: i_immediate(f),
             })
         }
-        BRANCH => {
-            let condition = Condition::from_bits(f.funct3)?;
-            Some(Instr::Branch {
-                condition,
-                rs1: f.rs1,
-                rs2: f.rs2,
-                offset: b_immediate(f),
-            })
-        }
-        LOAD => {
-            let width = LoadWidth::from_bits(f.funct3)?;
-            Some(Instr::Load {
-                width,
-                rd: f.rd,
-                rs1: f.rs1,
-                imm: i_immediate(f),
-            })
-        }
-        STORE => {
-            let width = StoreWidth::from_bits(f.funct3)?;
-            Some(Instr::Store {
-                width,
-                rs1: f.rs1,
-                rs2: f.rs2,
-                imm: s_immediate(f),
-            })
-        }
+        BRANCH => branch(f),
+        LOAD => load(f),
+        STORE => store(f),
         OP_IMM => op_imm(f),
         OP => {
             let op = AluOp::from_bits(f.funct7, f.funct3)?;
@@ -102,6 +79,48 @@ fn row(f: Fields) -> Option<Instr>
         }
         _ => None,
     }
+}
+
+/// The rows of BRANCH.
+fn branch(f: Fields) -> Option<Instr>
+    requires { FieldsFit f }
+    ensures { result ≡ opcode_row opcode.BRANCH f }
+{
+    let condition = Condition::from_bits(f.funct3)?;
+    Some(Instr::Branch {
+        condition,
+        rs1: f.rs1,
+        rs2: f.rs2,
+        offset: b_immediate(f),
+    })
+}
+
+/// The rows of LOAD.
+fn load(f: Fields) -> Option<Instr>
+    requires { FieldsFit f }
+    ensures { result ≡ opcode_row opcode.LOAD f }
+{
+    let width = LoadWidth::from_bits(f.funct3)?;
+    Some(Instr::Load {
+        width,
+        rd: f.rd,
+        rs1: f.rs1,
+        imm: i_immediate(f),
+    })
+}
+
+/// The rows of STORE.
+fn store(f: Fields) -> Option<Instr>
+    requires { FieldsFit f }
+    ensures { result ≡ opcode_row opcode.STORE f }
+{
+    let width = StoreWidth::from_bits(f.funct3)?;
+    Some(Instr::Store {
+        width,
+        rs1: f.rs1,
+        rs2: f.rs2,
+        imm: s_immediate(f),
+    })
 }
 
 /// The rows of OP-IMM.

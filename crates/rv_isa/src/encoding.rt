@@ -6,6 +6,7 @@ ghost use Rattle.rv_isa.specs.Encoding.{
   InstrFits,
   encoded,
   fields_of,
+  r_type,
   i_type,
   s_type,
   b_type,
@@ -67,64 +68,33 @@ fn fields(instr: Instr) -> Fields
         } => {
             let (funct6, funct3) = op.bits();
             let funct7 = amount / 32 + 2 * funct6;
-            Fields {
-                opcode: OP_IMM,
-                rd,
-                funct3,
-                rs1,
-                rs2: amount % 32,
-                funct7,
-            }
+            register(OP_IMM, (funct7, funct3), rd, rs1, amount % 32)
         }
-        Instr::Op { op, rd, rs1, rs2 } => {
-            let (funct7, funct3) = op.bits();
-            Fields {
-                opcode: OP,
-                rd,
-                funct3,
-                rs1,
-                rs2,
-                funct7,
-            }
-        }
+        Instr::Op { op, rd, rs1, rs2 } => register(OP, op.bits(), rd, rs1, rs2),
         Instr::Addiw { rd, rs1, imm } => immediate(OP_IMM_32, 0b000, rd, rs1, imm),
         Instr::ShiftWord {
             op,
             rd,
             rs1,
             amount,
-        } => {
-            let (funct7, funct3) = op.bits();
-            Fields {
-                opcode: OP_IMM_32,
-                rd,
-                funct3,
-                rs1,
-                rs2: amount,
-                funct7,
-            }
-        }
-        Instr::OpWord { op, rd, rs1, rs2 } => {
-            let (funct7, funct3) = op.bits();
-            Fields {
-                opcode: OP_32,
-                rd,
-                funct3,
-                rs1,
-                rs2,
-                funct7,
-            }
-        }
-        Instr::Ecall => {
-            Fields {
-                opcode: SYSTEM,
-                rd: 0,
-                funct3: 0,
-                rs1: 0,
-                rs2: 0,
-                funct7: 0,
-            }
-        }
+        } => register(OP_IMM_32, op.bits(), rd, rs1, amount),
+        Instr::OpWord { op, rd, rs1, rs2 } => register(OP_32, op.bits(), rd, rs1, rs2),
+        Instr::Ecall => register(SYSTEM, (0, 0), 0, 0, 0),
+    }
+}
+
+/// The manual's R-type; `funct` is funct7 and funct3.
+fn register(opcode: u8, funct: (u8, u8), rd: u8, rs1: u8, rs2: u8) -> Fields
+    ensures { result ≡ r_type opcode funct.0 funct.1 rd rs1 rs2 }
+{
+    let (funct7, funct3) = funct;
+    Fields {
+        opcode,
+        rd,
+        funct3,
+        rs1,
+        rs2,
+        funct7,
     }
 }
 

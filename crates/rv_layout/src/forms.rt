@@ -1,6 +1,6 @@
 //! The forms in which the pieces of a function are laid.
 ghost use Rattle.std.specs.Prelude.{◌≡◌, ◌*◌, ◌<◌, ◌≤◌, ◌^◌, length, IfOk};
-ghost use Rattle.rv_layout_rules.specs.Forms.{branch_words, jump_words, call_words, piece_words, branch_reaches, jal_reaches};
+ghost use Rattle.rv_layout_rules.specs.Forms.{branch_words, jump_words, words_of_call, piece_words, branch_reaches, jal_reaches};
 ghost use Rattle.rv_layout_rules.specs.Forms.{branch_form, jump_form, none_far, needed_form, form_rank, ranks, longer, grown_from};
 ghost use Rattle.rv_layout_rules.specs.Forms.{AreForms};
 ghost use Rattle.rv_layout.specs.Tables.{words_of_labels};
@@ -33,7 +33,7 @@ fn jump_words(form: Form) -> u64
 }
 
 fn call_words(form: Form) -> u64
-    ensures exact { result ≡ call_words form }
+    ensures exact { result ≡ words_of_call form }
     ensures most { result ≤ 3 }
 {
     match form {

@@ -5,7 +5,7 @@ use Rattle.std.proofs.lemmas.Option.{same_Some}
 use Rattle.std.proofs.lemmas.Bool.{and_parts, and_from}
 use Rattle.rv_layout_rules.specs.declared.form.Form.{Form}
 use Rattle.rv_layout_rules.specs.declared.form.Form.TheVariants.{Near, Middle, Far}
-use Rattle.rv_layout_rules.specs.Forms.{branch_words, jump_words, call_words, piece_words, is_label_piece, label_from, place_or_entry, label_word_offset, branch_reaches, jal_reaches, branch_form, jump_form, none_far, needed_form, form_rank, SufficeFrom, Suffice, ReachFrom, Reach, NoLonger, AreForms, AllNear, longer, grown_from, ranks}
+use Rattle.rv_layout_rules.specs.Forms.{branch_words, jump_words, words_of_call, piece_words, is_label_piece, label_from, place_or_entry, label_word_offset, branch_reaches, jal_reaches, branch_form, jump_form, none_far, needed_form, form_rank, SufficeFrom, Suffice, ReachFrom, Reach, NoLonger, AreForms, AllNear, longer, grown_from, ranks}
 use Rattle.rv_pieces.specs.declared.piece.Piece.{Piece}
 use Rattle.rv_pieces.specs.declared.piece.Piece.TheVariants.{Known, Label, Branch, Jump, Row, LabelAddress, Call, TailCall, SymbolAddress, ExternalNumber, Descriptor}
 
@@ -33,7 +33,7 @@ jump_less Far Near h = absurd (omega (arith, h))
 jump_less Far Middle h = absurd (omega (arith, h))
 jump_less Far Far h = omega arith
 
-call_less : (f g : Form) → form_rank f ≤ form_rank g → call_words f ≤ call_words g
+call_less : (f g : Form) → form_rank f ≤ form_rank g → words_of_call f ≤ words_of_call g
 call_less Near Near h = omega arith
 call_less Near Middle h = omega arith
 call_less Near Far h = omega arith

@@ -8,7 +8,7 @@ use Rattle.image_form.specs.Tables.{Desc}
 use Rattle.rv_layout_rules.specs.declared.form.Form.{Form}
 use Rattle.rv_layout_rules.specs.declared.form.Form.TheVariants.{Near, Middle, Far}
 use Rattle.rv_layout_rules.specs.Conditions.{AreDescriptors, IsDescriptor, IsFunctionLaid, IsRowLaid}
-use Rattle.rv_layout_rules.specs.Forms.{branch_words, jump_words, call_words, piece_words, total_words}
+use Rattle.rv_layout_rules.specs.Forms.{branch_words, jump_words, words_of_call, piece_words, total_words, all_words}
 use Rattle.rv_layout_rules.specs.Laid.{rows_from, descs_in, descs_from}
 use Rattle.rv_pieces.specs.declared.piece.Piece.{Piece}
 use Rattle.rv_pieces.specs.declared.piece.Piece.TheVariants.{Known, Label, Branch, Jump, Row, LabelAddress, Call, TailCall, SymbolAddress, ExternalNumber, Descriptor}
@@ -24,7 +24,7 @@ jump_some Near = omega arith
 jump_some Middle = omega arith
 jump_some Far = omega arith
 
-call_some : (f : Form) → 1 ≤ call_words f
+call_some : (f : Form) → 1 ≤ words_of_call f
 call_some Near = omega arith
 call_some Middle = omega arith
 call_some Far = omega arith
@@ -147,12 +147,6 @@ descs_keep len prev at behind (ExternalNumber r row ∷ ps) (f ∷ fs) m h k are
 pub all_append : {A : Type 0} (P : A → Type 0) (xs ys : List A) → AllByRecursion P xs → AllByRecursion P ys → AllByRecursion P (xs ++ ys)
 all_append P [] ys a b = b
 all_append P (x ∷ xs) ys a b = (a.0, all_append P xs ys a.1 b)
-
--- the words of all functions
-abbrev pub all_words : List Pieces → List (List Form) → ℕ
-all_words [] forms = 0
-all_words (p ∷ ps) [] = 0
-all_words (p ∷ ps) (f ∷ forms) = total_words p.code f + all_words ps forms
 
 all_rise : (file : FileTree) (at : ℕ) (ps : List Pieces) (forms : List (List Form)) → AllByRecursion (IsFunctionLaid file) ps → RisesFrom (4 * at) (descs_from at ps forms)
 unfolding RisesFrom

@@ -9,6 +9,7 @@ use Rattle.rv_layout_rules.specs.declared.form.Form.{Form}
 use Rattle.rv_layout_rules.specs.declared.form.Form.TheVariants.{Near, Middle, Far}
 use Rattle.rv_pieces.specs.declared.piece.Piece.{Piece}
 use Rattle.rv_pieces.specs.declared.piece.Piece.TheVariants.{Known, Label, Branch, Jump, Row, LabelAddress, Call, TailCall, SymbolAddress, ExternalNumber, Descriptor}
+use Rattle.rv_pieces.specs.declared.piece.Pieces.{Pieces}
 
 -- ---- words
 
@@ -26,10 +27,10 @@ jump_words Far = 2
 
 -- auipc and jalr, however far the callee is from here; or its address by lui and addi, and jalr,
 -- where no distance is known before the code is linked
-abbrev pub call_words : Form → ℕ
-call_words Near = 2
-call_words Middle = 3
-call_words Far = 3
+abbrev pub words_of_call : Form → ℕ
+words_of_call Near = 2
+words_of_call Middle = 3
+words_of_call Far = 3
 
 abbrev pub piece_words : Piece → Form → ℕ
 piece_words (Known i) form = 1
@@ -38,8 +39,8 @@ piece_words (Branch c a b l) form = branch_words form
 piece_words (Jump l) form = jump_words form
 piece_words (Row l) form = 2
 piece_words (LabelAddress r l) form = 2
-piece_words (Call name) form = call_words form
-piece_words (TailCall name) form = call_words form
+piece_words (Call name) form = words_of_call form
+piece_words (TailCall name) form = words_of_call form
 piece_words (SymbolAddress r name) form = 2
 piece_words (ExternalNumber r row) form = 2
 piece_words (Descriptor d) form = 0
@@ -49,6 +50,12 @@ abbrev pub total_words : List Piece → List Form → ℕ
 total_words [] forms = 0
 total_words (p ∷ ps) [] = 0
 total_words (p ∷ ps) (f ∷ forms) = piece_words p f + total_words ps forms
+
+-- the words of all functions
+abbrev pub all_words : List Pieces → List (List Form) → ℕ
+all_words [] forms = 0
+all_words (p ∷ ps) [] = 0
+all_words (p ∷ ps) (f ∷ forms) = total_words p.code f + all_words ps forms
 
 -- ---- places
 

@@ -6,7 +6,7 @@ use Rattle.cmm_tree.specs.declared.expr.Binding.{Binding}
 use Rattle.cmm_tree.specs.declared.expr.Case.{Case}
 use Rattle.cmm_tree.specs.declared.expr.Expr.{Expr}
 use Rattle.cmm_tree.specs.declared.expr.Handler.{Handler}
-use Rattle.selection_rules.specs.Select.{Label, width, width_row, width_bound, width_cases, width_handlers, labels_from, in_handlers, unless_bare, labels_within_try, switch_labels, count_cases, params_from}
+use Rattle.selection_rules.specs.Select.{Label, width, width_row, width_bound, width_cases, width_handlers, labels_from, in_handlers, unless_bare_mark, labels_within_try, switch_labels, count_cases, params_from}
 use Rattle.cmm_tree.specs.Tree.{Cases, Handlers, NoHandler, Handle, Parameter, is_bare}
 use Rattle.selection_scope.proofs.Counts.{count-cases}
 use Rattle.selection_control.proofs.Ends.{width-last, cases-width-last, handlers-width-last}
@@ -90,6 +90,6 @@ tries-handlers b NoHandler ls = refl
 tries-handlers b (Handle at label params body rest) ls = by (is_bare label) (tries-handlers (suc b + length params) rest ls)
   where
     by : (bare : Bool) → most_tries (in_handlers (labels_from (suc b + length params) rest) ++ ls) ≡ most_tries ls
-        → most_tries (unless_bare bare (record { label = label; params = params_from (suc b) params; number = b; tries = 0 }) (in_handlers (labels_from (suc b + length params) rest)) ++ ls) ≡ most_tries ls
+        → most_tries (unless_bare_mark bare (record { label = label; params = params_from (suc b) params; number = b; tries = 0 }) (in_handlers (labels_from (suc b + length params) rest)) ++ ls) ≡ most_tries ls
     by true more = more
     by false more = omega (arith, more)

@@ -14,8 +14,8 @@ use Rattle.mach_ir.specs.Walks.{NoAddrLive}
 use Rattle.mach_ir.specs.declared.mach.Instr.{Instr}
 use Rattle.mach_ir.specs.declared.mach.Mach.{Mach}
 use Rattle.selection_rules.specs.Select.{selected, width}
-use Rattle.selection_rules.proofs.Plays.{Meets, returned, threw, running, asking, improper, left_by_exit}
-use Rattle.selection_rules.proofs.Selection.{SelectedRun, selection_keeps}
+use Rattle.selection_rules.specs.Selected.{MeetsEvaluation, returned, threw, running, asking, improper, left_by_exit, SelectedRun}
+use Rattle.selection_rules.proofs.Selection.{selection_keeps}
 use Rattle.selection_rules.specs.Bounded.{AllBounded, BoundedMemory, BoundedDoings, BoundedSymbols}
 use Rattle.selection_laws.specs.Fits.{FunctionFits}
 use Rattle.selection_laws.proofs.Proper.{selected_bounded}
@@ -53,7 +53,7 @@ pub selected_steady : (c : ActivationSetting) (f : FunctionTree) → NoAddrLive 
 selected_steady c f live = record { no_addr = live; bare = λ i next s z. bare_results (made_of (selected_made f) s) z }
 
 -- the run that loses no addr, and then the run itself
-pub meets_twin : {c : ActivationSetting} {m : Mach} {u : ℕ} {e : Evaluation} {r q : RunProgress State} → Twin c m r q → Meets u e r → Meets u e q
+pub meets_twin : {c : ActivationSetting} {m : Mach} {u : ℕ} {e : Evaluation} {r q : RunProgress State} → Twin c m r q → MeetsEvaluation u e r → MeetsEvaluation u e q
 meets_twin both_ended (returned a b) = returned a b
 meets_twin both_ended (threw a b) = threw a b
 meets_twin (both_running g) (running a b same) = running a b (ap (λ (a : Around). a.memory) (sym g) ∙ same)

@@ -29,7 +29,7 @@ use Rattle.bs_words.specs.declared.operators.IntOp.TheVariants as operator
 use Rattle.mach_ir.specs.declared.reg.Reg.{Reg}
 use Rattle.selection_rules.specs.Instructions.{bare_mark}
 use Rattle.selection_rules.specs.Instructions as emit
-use Rattle.selection_rules.specs.Select.{Code, OperandShape, InRegisters, ConstantRight, ConstantLeft, PowerRight, rounded, power_code, operator_code, operation_shape, shape_op, shape_right, shape_args, NamedRegister, Label, scopes, reg_of, visible_label, move_from, move_to, moves_all, exit_to_handler, from_seat, called_symbol, bound_test_operand, bound_test, comparison, fused_test, select_test, is_based, select_base, call_of, callee_regs, bound_name, width, width_labels, inner_dest, inner_valued, regs_of, select, select_waiting, select_filled, select_bound, select_seq, select_cases, select_handlers, labels_within_try, unless_bare, in_handlers, labels_from, count_cases, label_of_last_case, switch_labels, cell_stores, to_seat, selected, first_after_colours, params_from, with_params, is_no_value, fresh_register, seats, result_seat}
+use Rattle.selection_rules.specs.Select.{Code, OperandShape, InRegisters, ConstantRight, ConstantLeft, PowerRight, rounded, power_code, operator_code, operation_shape, shape_op, shape_right, shape_args, NamedRegister, Label, scopes, reg_of, visible_label, move_from, move_to, moves_all, exit_to_handler, from_seat, called_symbol, bound_test_operand, bound_test, comparison, fused_test, select_test, is_based, select_base, call_of, callee_regs, bound_name, width, width_labels, inner_dest, inner_valued, regs_of, select, select_waiting, select_filled, select_bound, select_seq, select_cases, select_handlers, labels_within_try, unless_bare_mark, in_handlers, labels_from, count_cases, label_of_last_case, switch_labels, cell_stores, to_seat, selected, first_after_colours, params_from, with_params, is_no_value, fresh_register, seats, result_seat}
 use Rattle.selection_rules.proofs.Exits.{scopes_params, scopes_after}
 use Rattle.mach_laws.specs.Expand.{Ending, all, more}
 use Rattle.mach_laws.proofs.Places.{ending_next, ending_of}
@@ -260,7 +260,7 @@ module _ (whole : List Instr) where
   found_inside nil = nil
   found_inside {ts} (cons {t = t} {labels = labels} x le xs) = by (is_bare t.label) (found_inside xs)
     where
-      by : (b : Bool) → AllFound ts (in_handlers labels) → AllFound ts (unless_bare b t (in_handlers labels))
+      by : (b : Bool) → AllFound ts (in_handlers labels) → AllFound ts (unless_bare_mark b t (in_handlers labels))
       by true others = others
       by false others = cons x le others
 

@@ -19,7 +19,7 @@ use Rattle.mach_ir.specs.declared.op.Right.{Right}
 use Rattle.mach_ir.specs.declared.op.Right.TheVariants as right
 use Rattle.mach_ir.specs.declared.reg.Reg.{Reg}
 use Rattle.selection_rules.specs.Instructions.{right_regs}
-use Rattle.selection_rules.specs.Select.{Code, OperandShape, InRegisters, ConstantRight, ConstantLeft, PowerRight, operation_shape, shape_op, shape_right, shape_args, unless_left, unless_right, power_code, operator_code, NamedRegister, Label, scopes, reg_of, visible_label, move_from, move_to, moves_all, exit_to_handler, ordered, only_when, seat, result_seat, from_seat, called_symbol, unless_symbol, bound_test_operand, unless_constant, bound_test, comparison, fused_test, select_test, is_based, base_of, select_base, call_of, callee_regs, inner_dest, inner_valued, regs_of, count_cases, width, width_bound, width_labels, bound_name, env_after, raised_name, select, select_waiting, select_filled, select_bound, select_seq, select_cases, select_handlers, labels_within_try, unless_bare, in_handlers, labels_from, cell_stores, params_from, with_params, fresh_register, seats, return_code}
+use Rattle.selection_rules.specs.Select.{Code, OperandShape, InRegisters, ConstantRight, ConstantLeft, PowerRight, operation_shape, shape_op, shape_right, shape_args, unless_left, unless_right, power_code, operator_code, NamedRegister, Label, scopes, reg_of, visible_label, move_from, move_to, moves_all, exit_to_handler, ordered, only_when, seat, result_seat, from_seat, called_symbol, unless_symbol, bound_test_operand, unless_constant, bound_test, comparison, fused_test, select_test, is_based, base_of, select_base, call_of, callee_regs, inner_dest, inner_valued, regs_of, count_cases, width, width_bound, width_labels, bound_name, env_after, raised_name, select, select_waiting, select_filled, select_bound, select_seq, select_cases, select_handlers, labels_within_try, unless_bare_mark, in_handlers, labels_from, cell_stores, params_from, with_params, fresh_register, seats, return_code}
 use Rattle.cmm_tree.specs.Measures.{count_of}
 use Rattle.selection_rules.proofs.Choices.{kept_when, kept_unless, kept_constant, kept_left, kept_right, kept_ordered}
 use Rattle.selection_places.proofs.Sets.{Role, Plain, New, Seated, left, right as in_right, it, Listed}
@@ -125,7 +125,7 @@ module _ (Q : Role → Reg → Type 0) where
   labels_inside no_labels = no_labels
   labels_inside (labelled {t = t} {labels = labels} x xs) = by (is_bare t.label) (labels_inside xs)
     where
-      by : (b : Bool) → LabelsFine (in_handlers labels) → LabelsFine (unless_bare b t (in_handlers labels))
+      by : (b : Bool) → LabelsFine (in_handlers labels) → LabelsFine (unless_bare_mark b t (in_handlers labels))
       by true others = others
       by false others = labelled x others
 

@@ -21,13 +21,13 @@ use Rattle.mach_ir.specs.declared.mach.Mach.{Mach}
 use Rattle.mach_ir.specs.Meaning.{State}
 use Rattle.mach_ir.specs.Runs.{Tally, RunProgress, Wrong}
 use Rattle.selection_rules.specs.Select.{selected, width}
-use Rattle.selection_rules.proofs.Plays.{Alike, Meets, returned, threw, running, asking, improper, left_by_exit}
+use Rattle.selection_rules.specs.Selected.{IsTallyOf, MeetsEvaluation, returned, threw, running, asking, improper, left_by_exit}
 use Rattle.selection_walks.specs.Known.{FunctionFits}
 use Rattle.selection_walks.proofs.Keeps.{accepted_keeps, accepted_proper}
 use Rattle.selection_promise.specs.Runs.{Beside, EndsAs, PlaysAs, evaluated}
 use Rattle.selection_promise.specs.Runs as spec
 
-beside : (f : FunctionTree) (n u : ℕ) (e : Evaluation) (t : Tally) → Alike t (world_of e) → t.units ≡ u → u + (pending_calls e + (world_of e).left) ≤ n →
+beside : (f : FunctionTree) (n u : ℕ) (e : Evaluation) (t : Tally) → IsTallyOf t (world_of e) → t.units ≡ u → u + (pending_calls e + (world_of e).left) ≤ n →
     n ≤ (world_of e).left + nodes_in f.body * suc u → Beside f n e t
 beside f n u e t a same no_more enough =
     record {
@@ -39,7 +39,7 @@ beside f n u e t a same no_more enough =
     }
 
 ends_as : (f : FunctionTree) (n u : ℕ) (e : Evaluation) (r : RunProgress State) → IsProperEnd e → u + (pending_calls e + (world_of e).left) ≤ n →
-    n ≤ (world_of e).left + nodes_in f.body * suc u → Meets u e r → EndsAs f n e r
+    n ≤ (world_of e).left + nodes_in f.body * suc u → MeetsEvaluation u e r → EndsAs f n e r
 ends_as f n u _ _ is no_more enough (returned a same) = spec.returned (beside f n u _ _ a same no_more enough)
 ends_as f n u _ _ is no_more enough (threw a same) = spec.threw (beside f n u _ _ a same no_more enough)
 ends_as f n u _ _ is no_more enough (running {w = w} {s = s} a same kept) =

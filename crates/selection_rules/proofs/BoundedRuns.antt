@@ -17,7 +17,8 @@ use Rattle.selection_rules.specs.Kept.{run_of_selected}
 use Rattle.selection_rules.specs.Kept as kept
 use Rattle.selection_rules.specs.Select.{selected, width}
 use Rattle.selection_rules.proofs.Bounds.{PutBounded, no_file, a_file, nothing_held, put_all_bounded, stays_bounded}
-use Rattle.selection_rules.proofs.Plays.{StaysBounded, kept_bounded, Meets, returned, threw, running, asking, improper, left_by_exit}
+use Rattle.selection_rules.proofs.Plays.{StaysBounded, kept_bounded}
+use Rattle.selection_rules.specs.Selected.{MeetsEvaluation, returned, threw, running, asking, improper, left_by_exit}
 use Rattle.selection_rules.proofs.Selection.{selection_keeps}
 
 record BoundedTally (t : Tally) : Type 0 where
@@ -60,7 +61,7 @@ run_bounded : (c : ActivationSetting) (m : Mach) → StaysBounded c m → (n : �
 run_bounded c m stays zero s t p b = b
 run_bounded c m stays (suc n) s t p b = onward_bounded (run_of_selected c m n) (λ s t p b. run_bounded c m stays n s t p b) (kept.lossless_step c m s) t (stays.step s p) b
 
-meets_bounded : {u : ℕ} {e : Evaluation} {r : RunProgress State} → Meets u e r → BoundedRun r → BoundedEvaluation e
+meets_bounded : {u : ℕ} {e : Evaluation} {r : RunProgress State} → MeetsEvaluation u e r → BoundedRun r → BoundedEvaluation e
 meets_bounded (returned a q) b = (b.0.0, (b.0.1, subst AllAsked a.asked b.1.asked))
 meets_bounded (threw a q) b = (b.0.0, (b.0.1, subst AllAsked a.asked b.1.asked))
 meets_bounded (running a q same) b = subst AllAsked a.asked b.asked

@@ -20,7 +20,7 @@ use Rattle.mach_ir.specs.declared.mach.Mach.{Mach}
 use Rattle.mach_ir.specs.Acts.{drop_tries}
 use Rattle.mach_ir.specs.Runs.{ActivationSetting, Continues}
 use Rattle.mach_ir.specs.Meaning.{assign_register, put_if, File, put_all, wrote, after_label}
-use Rattle.selection_rules.specs.Select.{Label, scopes, fresh_register, inner_valued, inner_dest, width, visible_label, params_from, with_params, labels_from, unless_bare, in_handlers, width_labels, select, select_handlers, width_handlers}
+use Rattle.selection_rules.specs.Select.{Label, scopes, fresh_register, inner_valued, inner_dest, width, visible_label, params_from, with_params, labels_from, unless_bare_mark, in_handlers, width_labels, select, select_handlers, width_handlers}
 use Rattle.selection_rules.specs.Follow.{FollowsText, walks, fails, spent}
 use Rattle.selection_rules.proofs.Files.{Under, under_more, IsNamed, here, there, Stands, stands_length}
 use Rattle.selection_rules.proofs.Parts.{Placed, placed_in, placed_next, WellLabelled, AllUnder, Lower, no_label, a_label, lower_more, Stable, stable_same, May, new, dest, name, calm, calm_in, at, arrive, Level, Based, Reaching, reaching_now, reaching_out, any, After, after_typed, node_follows, Ready}
@@ -153,7 +153,7 @@ module _ (c : ActivationSetting) (m : Mach) (turns : ℕ) (ts : List ℕ) where
         (sym (visible_body l r.label ∙ ap (same_label l) e)) (found_if (same_label l t.label) r t ok (found_body l all))
 
     found_among : {o : Option (Handler Operand)} (l : LabelTree) (r : Handler Operand) (t : Label) (ts : List Label) → HandlerOk r t → Found l o (visible_label (ts ++ labels) l) → (q : Bool) → is_bare t.label ≡ q →
-        Found l (cond (same_label l t.label && not (is_bare l && true)) (Some r) o) (visible_label (unless_bare q t ts ++ labels) l)
+        Found l (cond (same_label l t.label && not (is_bare l && true)) (Some r) o) (visible_label (unless_bare_mark q t ts ++ labels) l)
     found_among {o} l r t ts ok f true e = subst (λ z. Found l (cond z (Some r) o) (visible_label (ts ++ labels) l)) (sym (hidden_handler l t.label e)) f
     found_among {o} l r t ts ok f false e =
         subst (λ z. Found l (cond z (Some r) o) (cond (same_label l t.label) (Some t) (visible_label (ts ++ labels) l))) (sym (visible_handler l t.label e)) (found_if (same_label l t.label) r t ok f)
@@ -324,7 +324,7 @@ module _ (c : ActivationSetting) (m : Mach) (turns : ℕ) (ts : List ℕ) where
   lower_own n i NoHandler le = no_label
   lower_own n i (Handle place label params body rest) le = a_label (under_params (suc n) i params (omega (arith, le))) (lower_own (suc n + length params) i rest (omega (arith, le)))
 
-  lower_unless : {b : ℕ} (q : Bool) (t : Label) {labels : List Label} → AllUnder b t.params → Lower b labels → Lower b (unless_bare q t labels)
+  lower_unless : {b : ℕ} (q : Bool) (t : Label) {labels : List Label} → AllUnder b t.params → Lower b labels → Lower b (unless_bare_mark q t labels)
   lower_unless true t u l = l
   lower_unless false t u l = a_label u l
 

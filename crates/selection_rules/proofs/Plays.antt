@@ -19,29 +19,14 @@ use Rattle.mach_ir.specs.Meaning.{State}
 use Rattle.selection_rules.specs.Bounded.{BoundedDoing, BoundedDoings, BoundedState, BoundedStep}
 use Rattle.selection_rules.specs.Kept.{run_of_selected}
 use Rattle.selection_rules.specs.Kept as kept
+use Rattle.selection_rules.specs.Selected.{IsTallyOf, MeetsEvaluation, returned, threw, running, asking, improper, left_by_exit}
 use Rattle.selection_rules.specs.Follow.{RaisesVal, FollowsText, walks, pays, gives, raises, jumps, raises_out, jumps_wrong, deepens, calls, replaces, calls_out, exits, fails, spent, no_words}
 use Rattle.bs_words.specs.declared.types.Ret.{Ret}
 use Rattle.bs_words.specs.declared.types.Ret.TheVariants as ret
 use Rattle.bs_words.specs.declared.types.Ty.TheVariants as ty
 use Rattle.cmm_meaning.specs.Evaluation as eval
 
--- the calls, what is left of what is handed in, and the need are the same
-pub record Alike (t : Tally) (w : World) : Type 0 where
-  pub asked : t.asked ≡ w.asked
-  pub doings : t.doings ≡ w.doings
-  pub need : t.need ≡ w.stack_need
-
--- The run of a machine ends as an evaluation of a function alone, and has spent so many units in all; nothing is said
--- where that is improper. Where the evaluation has no units left the run has its memory.
-pub data Meets (u : ℕ) : Evaluation → RunProgress State → Type 0 where
-  returned : {v : Option Value} {h : Here} {w : World} {t : Tally} → Alike t w → t.units ≡ u → Meets u (Gives v h w) (Ended (Gave v w.memory) t)
-  threw : {v : Value} {h : Here} {w : World} {t : Tally} → Alike t w → t.units ≡ u → Meets u (Raises v h w) (Ended (Threw v w.memory) t)
-  running : {w : World} {s : State} {t : Tally} → Alike t w → t.units ≡ u → s.around.memory ≡ w.memory → Meets u (Stops OutOfFuel w) (Running s t)
-  asking : {call : Asked} {w : World} {t : Tally} → Alike t w → t.units ≡ u → Meets u (Stops (eval.Asking call) w) (Asking call t)
-  improper : {kind : Kind} {w : World} {r : RunProgress State} → Meets u (Stops (NotProper kind) w) r
-  left_by_exit : {label : LabelTree} {values : List Value} {h : Here} {w : World} {r : RunProgress State} → Meets u (Exits label values h w) r
-
-pub same_units : {u n : ℕ} {e : Evaluation} {r : RunProgress State} → u ≡ n → Meets u e r → Meets n e r
+pub same_units : {u n : ℕ} {e : Evaluation} {r : RunProgress State} → u ≡ n → MeetsEvaluation u e r → MeetsEvaluation n e r
 same_units e (returned a b) = returned a (b ∙ e)
 same_units e (threw a b) = threw a (b ∙ e)
 same_units e (running a b same) = running a (b ∙ e) same
@@ -65,17 +50,17 @@ module _ (c : ActivationSetting) (m : Mach) (stays : StaysBounded c m) where
   -- some run from this step meets what is played
   pub record Played (d : Does) (w : World) (x : Step State) (t : Tally) : Type 0 where
     pub steps : ℕ
-    pub meets : Meets (t.units + beats s d w) (played s d w) (run_onward (run_of_selected c m steps) x t)
+    pub meets : MeetsEvaluation (t.units + beats s d w) (played s d w) (run_onward (run_of_selected c m steps) x t)
 
   abbrev Plays : Does → Step State → Type 0
-  Plays d x = BoundedStep x → (w : World) (t : Tally) → Alike t w → BoundedDoings t.doings → Played d w x t
+  Plays d x = BoundedStep x → (w : World) (t : Tally) → IsTallyOf t w → BoundedDoings t.doings → Played d w x t
 
   abbrev IsHalts : Step State → Type 0
   IsHalts IsStuck = Unit {0}
   IsHalts _ = ⊥
 
   -- what a halted machine follows is improper
-  wrong : {d : Does} {x : Step State} → FollowsText c m d x → IsHalts x → (w : World) (u : ℕ) (r : RunProgress State) → Meets u (played s d w) r
+  wrong : {d : Does} {x : Step State} → FollowsText c m d x → IsHalts x → (w : World) (u : ℕ) (r : RunProgress State) → MeetsEvaluation u (played s d w) r
   wrong (walks f) h w u r = absurd h
   wrong (pays same f) h w u r = absurd h
   wrong gives h w u r = absurd h
@@ -92,16 +77,16 @@ module _ (c : ActivationSetting) (m : Mach) (stays : StaysBounded c m) where
   wrong (spent same) h w u r = absurd h
   wrong (no_words f) h w u r = absurd h
 
-  pays_on : (n : ℕ) (rest : Does) (w : World) (x : State) (t : Tally) → x.around.memory ≡ w.memory → Alike t w → ((v : World) → Alike t v → Played rest v (Continues x) t) →
-      (k : ℕ) × Meets (t.units + beats_behind_unit n w (λ v. beats s rest v)) (spend n w (λ v. played s rest v)) (run_onward (run_of_selected c m k) (Continues x) t)
+  pays_on : (n : ℕ) (rest : Does) (w : World) (x : State) (t : Tally) → x.around.memory ≡ w.memory → IsTallyOf t w → ((v : World) → IsTallyOf t v → Played rest v (Continues x) t) →
+      (k : ℕ) × MeetsEvaluation (t.units + beats_behind_unit n w (λ v. beats s rest v)) (spend n w (λ v. played s rest v)) (run_onward (run_of_selected c m k) (Continues x) t)
   pays_on zero rest w x t same a on = (0, running a (omega arith) same)
   pays_on (suc n) rest w x t same a on =
       let p = on (record w { left = n }) (record { asked = a.asked; doings = a.doings; need = a.need }) in (p.steps, p.meets)
 
   -- after a call of a function
-  called : (ds : List Doing) (call : Asked) (go : Doing → Does) (next : Doing → Step State) → BoundedDoings ds → ((d : Doing) → BoundedDoing d → BoundedStep (next d)) → (w : World) (t : Tally) → Alike t w → (f : ℕ) → call.callee ≡ Inside f →
+  called : (ds : List Doing) (call : Asked) (go : Doing → Does) (next : Doing → Step State) → BoundedDoings ds → ((d : Doing) → BoundedDoing d → BoundedStep (next d)) → (w : World) (t : Tally) → IsTallyOf t w → (f : ℕ) → call.callee ≡ Inside f →
       ((d : Doing) → RaisesVal c d → Plays (go d) (next d)) →
-      (k : ℕ) × Meets (t.units + beats_behind_call (λ d v. beats s (go d) v) (done_inside c.setting.end call ds w))
+      (k : ℕ) × MeetsEvaluation (t.units + beats_behind_call (λ d v. beats s (go d) v) (done_inside c.setting.end call ds w))
       (after_call (λ d v. played s (go d) v) (done_inside c.setting.end call ds w))
       (handed (λ d y. run_onward (run_of_selected c m k) (next d) y) call ds t)
   called [] call go next z b w t a f is on = (0, asking a (omega arith))
@@ -120,19 +105,19 @@ module _ (c : ActivationSetting) (m : Mach) (stays : StaysBounded c m) where
       after : World
       after = record w { memory = memory; asked = w.asked ++ call ∷ []; doings = ds }
 
-      by : (y : Tally) → Alike y after → BoundedDoings y.doings → y.units ≡ suc t.units → (b : Bool) → fits c.setting.end ty.Val v ≡ b →
-          (k : ℕ) × Meets (t.units + beats_behind_call (λ d v. beats s (go d) v) (cond b (Raises v nobody after) (Stops (NotProper (misfit ty.Val)) after)))
+      by : (y : Tally) → IsTallyOf y after → BoundedDoings y.doings → y.units ≡ suc t.units → (b : Bool) → fits c.setting.end ty.Val v ≡ b →
+          (k : ℕ) × MeetsEvaluation (t.units + beats_behind_call (λ d v. beats s (go d) v) (cond b (Raises v nobody after) (Stops (NotProper (misfit ty.Val)) after)))
           (after_call (λ d v. played s (go d) v) (cond b (Raises v nobody after) (Stops (NotProper (misfit ty.Val)) after)))
           (run_onward (run_of_selected c m k) (next (Threw v memory)) y)
       by y alike ds' one false e = (0, improper)
       by y alike ds' one true e = let p = on (Threw v memory) e (b (Threw v memory) z.0) after y alike ds' in (p.steps, same_units (omega (arith, one)) p.meets)
 
   -- after an external call
-  called_out : (ds : List Doing) (call : Asked) (go : Doing → Does) (next : Doing → Step State) → BoundedDoings ds → ((d : Doing) → BoundedDoing d → BoundedStep (next d)) → (w : World) (t : Tally) → Alike t w →
+  called_out : (ds : List Doing) (call : Asked) (go : Doing → Does) (next : Doing → Step State) → BoundedDoings ds → ((d : Doing) → BoundedDoing d → BoundedStep (next d)) → (w : World) (t : Tally) → IsTallyOf t w →
       (row : External) (frame : Bool) → call.callee ≡ Outside row frame →
       ((v : Option Value) (after : Memory) → Plays (go (Gave v w.memory)) (next (Gave v after))) →
       (frame ≡ true → (v : Value) (after : Memory) → fits c.setting.end ty.Val v ≡ true → Plays (Jumps (go (Threw v w.memory))) (next (Threw v after))) →
-      (k : ℕ) × Meets (t.units + beats_behind_external (λ d v. beats s (go d) v) (done_outside c.setting.end frame call ds w))
+      (k : ℕ) × MeetsEvaluation (t.units + beats_behind_external (λ d v. beats s (go d) v) (done_outside c.setting.end frame call ds w))
       (after_call (λ d v. played s (go d) v) (done_outside c.setting.end frame call ds w))
       (handed (λ d y. run_onward (run_of_selected c m k) (next d) y) call ds t)
   called_out [] call go next z b w t a row frame is on thrown = (0, asking a (omega arith))
@@ -151,8 +136,8 @@ module _ (c : ActivationSetting) (m : Mach) (stays : StaysBounded c m) where
       after : World
       after = record w { asked = w.asked ++ call ∷ []; doings = ds }
 
-      by : (y : Tally) → Alike y after → BoundedDoings y.doings → y.units ≡ t.units → (b : Bool) → fits c.setting.end ty.Val v ≡ b →
-          (k : ℕ) × Meets (t.units + beats_behind_external (λ d v. beats s (go d) v) (cond b (Raises v nobody after) (Stops (NotProper (misfit ty.Val)) after)))
+      by : (y : Tally) → IsTallyOf y after → BoundedDoings y.doings → y.units ≡ t.units → (b : Bool) → fits c.setting.end ty.Val v ≡ b →
+          (k : ℕ) × MeetsEvaluation (t.units + beats_behind_external (λ d v. beats s (go d) v) (cond b (Raises v nobody after) (Stops (NotProper (misfit ty.Val)) after)))
           (after_call (λ d v. played s (go d) v) (cond b (Raises v nobody after) (Stops (NotProper (misfit ty.Val)) after)))
           (run_onward (run_of_selected c m k) (next (Threw v memory)) y)
       by y alike ds' one false e = (0, improper)
@@ -186,7 +171,7 @@ module _ (c : ActivationSetting) (m : Mach) (stays : StaysBounded c m) where
       let p = called t.doings asks go next ds b.1 (record w { memory = memory }) t (record { asked = a.asked; doings = a.doings; need = a.need }) call.function refl (λ d z. plays (on d z)) in
       record {
         steps = p.0;
-        meets = subst (λ ds. Meets (t.units + beats_behind_call (λ d v. beats s (go d) v) (done_inside c.setting.end asks ds (record w { memory = memory })))
+        meets = subst (λ ds. MeetsEvaluation (t.units + beats_behind_call (λ d v. beats s (go d) v) (done_inside c.setting.end asks ds (record w { memory = memory })))
             (after_call (λ d v. played s (go d) v) (done_inside c.setting.end asks ds (record w { memory = memory })))
             (handed (λ d y. run_onward (run_of_selected c m p.0) (next d) y) asks t.doings t)) a.doings p.1;
       }
@@ -196,7 +181,7 @@ module _ (c : ActivationSetting) (m : Mach) (stays : StaysBounded c m) where
       let p = called t.doings asks go next ds (λ d q. kept_bounded kept d q) (record w { memory = memory }) t (record { asked = a.asked; doings = a.doings; need = a.need }) call.function refl (λ d z. plays (on d z)) in
       record {
         steps = p.0;
-        meets = subst (λ ds. Meets (t.units + beats_behind_call (λ d v. beats s (go d) v) (done_inside c.setting.end asks ds (record w { memory = memory })))
+        meets = subst (λ ds. MeetsEvaluation (t.units + beats_behind_call (λ d v. beats s (go d) v) (done_inside c.setting.end asks ds (record w { memory = memory })))
             (after_call (λ d v. played s (go d) v) (done_inside c.setting.end asks ds (record w { memory = memory })))
             (handed (λ d y. run_onward (run_of_selected c m p.0) (next d) y) asks t.doings t)) a.doings p.1;
       }
@@ -206,7 +191,7 @@ module _ (c : ActivationSetting) (m : Mach) (stays : StaysBounded c m) where
       (λ v after. plays (on v after)) (λ e v after z. plays (thrown e v after z)) in
       record {
         steps = p.0;
-        meets = subst (λ ds. Meets (t.units + beats_behind_external (λ d v. beats s (go d) v) (done_outside c.setting.end frame asks ds (record w { memory = memory })))
+        meets = subst (λ ds. MeetsEvaluation (t.units + beats_behind_external (λ d v. beats s (go d) v) (done_outside c.setting.end frame asks ds (record w { memory = memory })))
             (after_call (λ d v. played s (go d) v) (done_outside c.setting.end frame asks ds (record w { memory = memory })))
             (handed (λ d y. run_onward (run_of_selected c m p.0) (next d) y) asks t.doings t)) a.doings p.1;
       }

@@ -22,26 +22,13 @@ use Rattle.mach_ir.specs.Meaning as meaning
 use Rattle.mach_ir.specs.declared.mach.Mach.{Mach}
 use Rattle.selection_rules.specs.Kept.{run_of_selected}
 use Rattle.selection_rules.specs.Select.{first_after_colours, selected, width}
+use Rattle.selection_rules.specs.Selected.{MeetsEvaluation, SelectedRun}
 use Rattle.selection_rules.specs.Follow.{text_setting}
 use Rattle.selection_rules.proofs.Parts.{at}
 use Rattle.selection_rules.specs.Bounded.{AllBounded, BoundedMemory, BoundedCode, BoundedDoings, BoundedSymbols}
 use Rattle.selection_rules.proofs.Bounds.{stays_bounded, bounded_begun}
-use Rattle.selection_rules.proofs.Plays.{Meets, same_units, plays}
+use Rattle.selection_rules.proofs.Plays.{same_units, plays}
 use Rattle.selection_rules.proofs.Selects.{all_fit, entry, put_arguments, function_follows}
-
--- one run of the code of a function, by a machine that runs so, beside its evaluation alone
-pub record SelectedRun (runs : ActivationSetting → Mach → ℕ → State → Tally → RunProgress State) (c : ActivationSetting) (m : Mach) (f : FunctionTree) (arguments : List Value) (memory : Memory) (doings : List Doing) (n : ℕ) : Type 0 where
-  pub begun : State
-  pub begins : mach_start c m arguments memory ≡ Some begun
-  pub steps : ℕ
-  pub units : ℕ
-  pub meets : Meets units (alone c.setting.end c.setting.symbol c.setting.parameters c.frame f arguments c.below memory doings n) (runs c m steps begun (first_tally c doings))
-  pub no_more :
-      let e : Evaluation = alone c.setting.end c.setting.symbol c.setting.parameters c.frame f arguments c.below memory doings n in
-      units + (pending_calls e + (world_of e).left) ≤ n
-  pub enough :
-      let e : Evaluation = alone c.setting.end c.setting.symbol c.setting.parameters c.frame f arguments c.below memory doings n in
-      n ≤ (world_of e).left + nodes_in f.body * suc units
 
 -- For every list that is handed in, every memory and arguments that fit, all of words, and every number of units: some
 -- run of the selected code has the same calls, need and end, and as many units as the function has beats; these are
@@ -65,7 +52,7 @@ selection_keeps c f still fine symbols constants arguments memory doings n words
       begins = ap (meaning.begin_mach m memory) put.1;
       steps = run'.steps;
       units = u;
-      meets = subst (λ (e : Evaluation). Meets u e (run_of_selected c m run'.steps (at c m n [] m.code g memory) (first_tally c doings))) is (same_units (omega arith) run'.meets);
+      meets = subst (λ (e : Evaluation). MeetsEvaluation u e (run_of_selected c m run'.steps (at c m n [] m.code g memory) (first_tally c doings))) is (same_units (omega arith) run'.meets);
       no_more = alone_paid c.setting.end c.setting.symbol c.setting.parameters n c.frame f arguments c.below memory doings n (le_refl n);
       enough = alone_beats (nodes_in f.body) c.setting.end c.setting.symbol c.setting.parameters n c.frame f arguments c.below memory doings n (le_refl (nodes_in f.body)) (le_refl n);
     }

@@ -3,3 +3,4 @@ pub mod Select
 pub mod Kept
 pub mod Bounded
 pub mod Follow
+pub mod Selected

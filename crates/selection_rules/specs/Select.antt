@@ -367,12 +367,12 @@ labels_from b (Handle at label params body rest) =
     record { label = label; params = params_from (suc b) params; number = b; tries = 0 }
     ∷ labels_from (suc b + length params) rest
 
-abbrev pub unless_bare : Bool → Label → List Label → List Label
-unless_bare bare_mark t labels = cond bare_mark labels (t ∷ labels)
+abbrev pub unless_bare_mark : Bool → Label → List Label → List Label
+unless_bare_mark bare_mark t labels = cond bare_mark labels (t ∷ labels)
 
 abbrev pub in_handlers : List Label → List Label
 in_handlers [] = []
-in_handlers (t ∷ labels) = unless_bare (is_bare t.label) t (in_handlers labels)
+in_handlers (t ∷ labels) = unless_bare_mark (is_bare t.label) t (in_handlers labels)
 
 abbrev pub width_labels : Handlers → ℕ
 width_labels NoHandler = 0

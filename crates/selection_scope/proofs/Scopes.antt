@@ -4,7 +4,7 @@ use Rattle.std.proofs.lemmas.List.{length-append, reverse-append}
 use Rattle.cmm_tree.specs.Tree.{is_bare}
 use Rattle.cmm_types.proofs.Leaving.{drop_front}
 use Rattle.cmm_types.proofs.Stacks.{lowest}
-use Rattle.selection_rules.specs.Select.{Label, unless_bare, in_handlers, labels_within_try}
+use Rattle.selection_rules.specs.Select.{Label, unless_bare_mark, in_handlers, labels_within_try}
 use Rattle.selection_scope.specs.Scoping.{labels_outside_try}
 
 -- what is left below is what was there before
@@ -22,14 +22,14 @@ handlers-append : (xs ys : List Label) → in_handlers (xs ++ ys) ≡ in_handler
 handlers-append [] ys = refl
 handlers-append (t ∷ xs) ys = by-bare (is_bare t.label) t (in_handlers (xs ++ ys)) (in_handlers xs) (in_handlers ys) (handlers-append xs ys)
   where
-    by-bare : (b : Bool) (t : Label) (all left more : List Label) → all ≡ left ++ more → unless_bare b t all ≡ unless_bare b t left ++ more
+    by-bare : (b : Bool) (t : Label) (all left more : List Label) → all ≡ left ++ more → unless_bare_mark b t all ≡ unless_bare_mark b t left ++ more
     by-bare true t all left more e = e
     by-bare false t all left more e = ap (λ l. t ∷ l) e
 
 -- the last handler is below the others
 pub below-bare : (xs : List Label) (t : Label) (rest : List Label) → is_bare t.label ≡ true → in_handlers (xs ++ t ∷ []) ++ rest ≡ in_handlers xs ++ rest
 below-bare xs t rest bare =
-    ap (λ l. l ++ rest) (handlers-append xs (t ∷ []) ∙ ap (λ b. in_handlers xs ++ unless_bare b t []) bare ∙ append-none (in_handlers xs))
+    ap (λ l. l ++ rest) (handlers-append xs (t ∷ []) ∙ ap (λ b. in_handlers xs ++ unless_bare_mark b t []) bare ∙ append-none (in_handlers xs))
   where
     append-none : {A : Type 0} (xs : List A) → xs ++ [] ≡ xs
     append-none [] = refl
@@ -37,7 +37,7 @@ below-bare xs t rest bare =
 
 pub below-named : (xs : List Label) (t : Label) (rest : List Label) → is_bare t.label ≡ false → in_handlers (xs ++ t ∷ []) ++ rest ≡ in_handlers xs ++ (t ∷ rest)
 below-named xs t rest bare =
-    ap (λ l. l ++ rest) (handlers-append xs (t ∷ []) ∙ ap (λ b. in_handlers xs ++ unless_bare b t []) bare)
+    ap (λ l. l ++ rest) (handlers-append xs (t ∷ []) ∙ ap (λ b. in_handlers xs ++ unless_bare_mark b t []) bare)
     ∙ append_assoc (in_handlers xs) (t ∷ []) rest
 
 pub higher-deeper : (ls : List Label) → labels_outside_try (labels_within_try ls) ≡ ls

@@ -14,7 +14,7 @@ use Rattle.mach_ir.specs.Sizes.{operand_count}
 use Rattle.mach_ir.specs.declared.mach.Test.TheVariants as test
 use Rattle.mach_ir.specs.declared.reg.Reg.{Reg}
 use Rattle.selection_rules.specs.Instructions as emit
-use Rattle.selection_rules.specs.Select.{Code, operation_shape, shape_op, shape_right, NamedRegister, Label, scopes, reg_of, visible_label, moves_all, exit_to_handler, called_symbol, bound_test_operand, bound_test, comparison, is_based, seat, select_base, select_test, regs_of, select, select_waiting, select_filled, select_bound, select_seq, select_cases, select_handlers, labels_within_try, labels_from, in_handlers, unless_bare, switch_labels, return_code, selected, first_after_colours, is_no_value, fresh_register, seats}
+use Rattle.selection_rules.specs.Select.{Code, operation_shape, shape_op, shape_right, NamedRegister, Label, scopes, reg_of, visible_label, moves_all, exit_to_handler, called_symbol, bound_test_operand, bound_test, comparison, is_based, seat, select_base, select_test, regs_of, select, select_waiting, select_filled, select_bound, select_seq, select_cases, select_handlers, labels_within_try, labels_from, in_handlers, unless_bare_mark, switch_labels, return_code, selected, first_after_colours, is_no_value, fresh_register, seats}
 use Rattle.selection_rules.proofs.Rows.{regs_length, seats_length}
 use Rattle.selection_rules.proofs.Exits.{params_length}
 use Rattle.selection_places.proofs.Whole.{moved_at, value_at, params_of, env_of}
@@ -46,7 +46,7 @@ inside_shallow : (k : ℕ) (labels : List Label) → Shallow k labels → Shallo
 inside_shallow k [] s = tt
 inside_shallow k (t ∷ labels) s = by (is_bare t.label) (in_handlers labels) (inside_shallow k labels s.1)
   where
-    by : (b : Bool) (others : List Label) → Shallow k others → Shallow k (unless_bare b t others)
+    by : (b : Bool) (others : List Label) → Shallow k others → Shallow k (unless_bare_mark b t others)
     by true others r = r
     by false others r = (s.0, r)
 

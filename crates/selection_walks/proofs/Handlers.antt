@@ -20,7 +20,7 @@ use Rattle.mach_ir.specs.declared.mach.Mark.TheVariants as mark
 use Rattle.mach_ir.specs.declared.reg.Reg.{Reg}
 use Rattle.selection_rules.specs.Instructions as emit
 use Rattle.selection_rules.specs.Instructions.{bare_mark}
-use Rattle.selection_rules.specs.Select.{NamedRegister, Label, scopes, visible_label, labels_from, in_handlers, unless_bare, labels_within_try, width, width_labels, params_from, with_params, raised_name, inner_dest, inner_valued, seat, select, select_handlers}
+use Rattle.selection_rules.specs.Select.{NamedRegister, Label, scopes, visible_label, labels_from, in_handlers, unless_bare_mark, labels_within_try, width, width_labels, params_from, with_params, raised_name, inner_dest, inner_valued, seat, select, select_handlers}
 use Rattle.mach_laws.proofs.Places.{ending_next}
 use Rattle.selection_rules.proofs.Parts.{Within, ending_in, Placed, placed_in, placed_next, WellLabelled, inside_in}
 use Rattle.selection_rules.proofs.Endings.{ending_select, ending_handlers}
@@ -170,20 +170,20 @@ module _ (m : Mach) (n : ℕ) where
       by true true s true b e ih =
           subst (Landing m n k w t) (flagged true false
           (and_never (same_label label own) (is_bare label && true) (λ h. right_true (is_bare label) ∙ same_bare label own h ∙ b)))
-          (ih (ap (λ x. visible_label (unless_bare x first_label (in_handlers (labels_from (suc l + length params) rest)) ++ labels) label) (sym b) ∙ e))
+          (ih (ap (λ x. visible_label (unless_bare_mark x first_label (in_handlers (labels_from (suc l + length params) rest)) ++ labels) label) (sym b) ∙ e))
       by true false s true b e ih =
           subst (Landing m n k w t) (flagged true false (and_no (same_label label own) (not (is_bare label && true)) s))
-          (ih (ap (λ x. visible_label (unless_bare x first_label (in_handlers (labels_from (suc l + length params) rest)) ++ labels) label) (sym b) ∙ e))
+          (ih (ap (λ x. visible_label (unless_bare_mark x first_label (in_handlers (labels_from (suc l + length params) rest)) ++ labels) label) (sym b) ∙ e))
       by true true s false b e ih =
           found_here _ (sym
           (flagged true true (and_true (same_label label own) s (is_bare label && true) (right_true (is_bare label) ∙ same_bare label own s ∙ b))))
           (some_label first_label t
           (ap (λ x. cond x (Some first_label) (visible_label (others true) label)) (sym s) ∙ ap
-          (λ x. visible_label (unless_bare x first_label (in_handlers (labels_from (suc l + length params) rest)) ++ labels) label) (sym b) ∙ e))
+          (λ x. visible_label (unless_bare_mark x first_label (in_handlers (labels_from (suc l + length params) rest)) ++ labels) label) (sym b) ∙ e))
       by true false s false b e ih =
           subst (Landing m n k w t) (flagged true false (and_no (same_label label own) (not (is_bare label && true)) s))
           (ih (ap (λ x. cond x (Some first_label) (visible_label (others true) label)) (sym s) ∙ ap
-          (λ x. visible_label (unless_bare x first_label (in_handlers (labels_from (suc l + length params) rest)) ++ labels) label) (sym b) ∙ e))
+          (λ x. visible_label (unless_bare_mark x first_label (in_handlers (labels_from (suc l + length params) rest)) ++ labels) label) (sym b) ∙ e))
 
   -- what is known inside a catch
   pub catch_outs : {k : ℕ} {ts : List ℕ} {labels : List Label} {w : Option ℕ} (tasks : List Task) (within : Bool) (scope : List Slotted) (slot l : ℕ)

@@ -18,7 +18,7 @@ use Rattle.mach_ir.specs.Meaning.{State, mach_start, run_of_mach}
 use Rattle.mach_ir.specs.Walks.{NoAddrLive}
 use Rattle.selection_rules.specs.Select.{selected, width}
 use Rattle.selection_rules.specs.Bounded.{AllBounded, BoundedMemory, BoundedDoings, BoundedSymbols}
-use Rattle.selection_rules.proofs.Selection.{SelectedRun}
+use Rattle.selection_rules.specs.Selected.{SelectedRun}
 use Rattle.selection_laws.specs.Fits.{FunctionFits}
 use Rattle.selection_laws.proofs.Keeps.{selected_steady, selection_keeps_losing}
 use Rattle.selection_laws.proofs.Written.{runs_proper}

@@ -1,7 +1,7 @@
 use Rattle.std.proofs.Common.{◌↔◌, All, IsTrue, subst, arith}
 use Rattle.lin_ir.specs.Descriptors.{frame_bytes}
 use Rattle.lin_flow.proofs.Begun.{are_numbered}
-use Rattle.lin_tests.specs.Positions.{Fits}
+use Rattle.lin_tests.specs.Positions.{FitsDescriptorAt}
 use Rattle.lin_tests.proofs.Depths.{within, all_fit, few_slots}
 use Rattle.lin_tests.proofs.pushed.is_within.Goals as goal
 
@@ -14,9 +14,9 @@ returns-then-lin-gt-SLOTS c = (
 pub returns : goal.returns
 returns c =
     let all = c.in_ok-positions.positions.items in
-    let test : IsTrue c.all_fit.result ↔ All (Fits (frame_bytes c.args.lin.now)) all =
-    subst (λ n. IsTrue c.all_fit.result ↔ All (Fits n) all) c.frame_bytes.ensures
-    (subst (λ xs. IsTrue c.all_fit.result ↔ All (Fits c.frame_bytes.result) xs) c.as_slice.ensures.value c.all_fit.ensures) in (
+    let test : IsTrue c.all_fit.result ↔ All (FitsDescriptorAt (frame_bytes c.args.lin.now)) all =
+    subst (λ n. IsTrue c.all_fit.result ↔ All (FitsDescriptorAt n) all) c.frame_bytes.ensures
+    (subst (λ xs. IsTrue c.all_fit.result ↔ All (FitsDescriptorAt c.frame_bytes.result) xs) c.as_slice.ensures.value c.all_fit.ensures) in (
       λ e. within c.args.lin.now all c.in_ok-positions.ensures (test.0 e),
       λ w. test.1 (all_fit c.args.lin.now all c.in_ok-positions.ensures w),
     )

@@ -1,15 +1,14 @@
 use Rattle.std.proofs.Common.{◌≡◌, ◌+◌, ◌<◌, ◌++◌, ◌∷◌, [], length, map, drop, refl, sym, ap, ap₂, ◌∙◌, subst, arith}
 use Rattle.std.proofs.lemmas.List.{map-append}
-use Rattle.function_places.specs.Places.{forms_in, IsLaid}
+use Rattle.function_places.specs.Places.{forms_in, IsLaidFunction}
 use Rattle.assemble.specs.Source.{laid_of}
 use Rattle.assemble.proofs.Bounds.{end_most}
 use Rattle.assemble.proofs.Walks.{forms_long, function_at, rows_more, function_here, data_here, typed_next}
 use Rattle.cmm_tree.specs.Tree.{functions_among}
 use Rattle.cmm_tree.specs.View.{function_view, item_view}
 use Rattle.image_form.specs.Tables.{func}
-use Rattle.rv_layout_rules.specs.Forms.{total_words}
+use Rattle.rv_layout_rules.specs.Forms.{total_words, all_words}
 use Rattle.rv_layout_rules.specs.Laid.{rows_from}
-use Rattle.rv_layout_rules.proofs.Rules.{all_words}
 use Rattle.rv_pieces.specs.declared.piece.Pieces.{Pieces}
 use Rattle.assemble.proofs.source.Source.rows.Goals as goal
 use Rattle.assemble.proofs.source.Source.rows.Goals.{in-Function+in_ok-row-in-Function+in_ok-push-in-Function, in-Data}
@@ -33,7 +32,7 @@ row-requires-clause-laid c =
     let within : c.loop-item.next < length c.args.self.now.pieces.now = omega (arith, c.loop-item.invariant.same, ap length fs) in
     let at = function_at c.args.self.now c.requires.source c.requires.fits c.loop-item.next c.index-self-next.result c.index-laid.result.now c.loop-item.entry within c.index-self-next.is
     c.index-laid.ensures c.loop-item.invariant.place in
-    subst (λ q. IsLaid q c.index-laid.result.now) c.index-self-next.is at.is
+    subst (λ q. IsLaidFunction q c.index-laid.result.now) c.index-self-next.is at.is
 
 pub row-requires-clause-inside : goal.row-requires-clause-inside
 row-requires-clause-inside c =

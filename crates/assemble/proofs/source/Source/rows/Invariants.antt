@@ -6,8 +6,8 @@ use Rattle.cmm_tree.specs.Tree.{functions_among}
 use Rattle.cmm_tree.specs.View.{item_view}
 use Rattle.cmm_types.specs.Typing.{AreItemsAnnotated}
 use Rattle.image_form.specs.Tables.{func}
+use Rattle.rv_layout_rules.specs.Forms.{all_words}
 use Rattle.rv_layout_rules.specs.Laid.{rows_from}
-use Rattle.rv_layout_rules.proofs.Rules.{all_words}
 use Rattle.assemble.proofs.source.Source.rows.Given as goal
 
 abbrev pub invariant-loop-item : goal.invariant-loop-item
