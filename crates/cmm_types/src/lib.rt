@@ -2,6 +2,7 @@
 #![tactic(auto)]
 
 mod bound;
+mod branches;
 mod checker;
 mod gathering;
 mod group;
@@ -9,7 +10,9 @@ mod labels;
 mod light;
 mod names;
 mod node;
+mod operations;
 mod role;
+mod scopes;
 mod seen;
 mod symbols;
 mod typed;
