@@ -7,7 +7,7 @@ use Rattle.dataflow.specs.Rows.{HasSizes}
 use Rattle.std.proofs.lemmas.Bool.{cases_eq, cases_lt, both_ways}
 use Rattle.dataflow.proofs.Sweeps.{table_past}
 use Rattle.cse_deadcode.proofs.Steps.{used_member}
-use Rattle.dataflow.specs.Sweep.{missing}
+use Rattle.dataflow.specs.Progress.{missing}
 use Rattle.cse_deadcode.specs.Flows.{is_used_before, is_wanted, AreUsed, AreRowsUsed, IsClosedForUse, VisitedForUse}
 
 -- the places from p on were visited

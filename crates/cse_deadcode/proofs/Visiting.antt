@@ -12,7 +12,7 @@ use Rattle.dataflow.specs.declared.flow.Place as place
 use Rattle.dataflow.specs.declared.flow.Flow as flow
 use Rattle.dataflow.specs.Flow.{graph}
 use Rattle.dataflow.specs.Rows.{set_in_row, HasSizes}
-use Rattle.dataflow.specs.Sweep.{absent, missing}
+use Rattle.dataflow.specs.Progress.{absent, missing}
 use Rattle.cse_deadcode.specs.Flows.{UsedBefore, is_used_before, is_used_before_place, AreRowsUsed, IsClosedForUse, VisitedForUse}
 use Rattle.dataflow.proofs.Steps.{or_right}
 use Rattle.dataflow.proofs.Visits.{table_at, absent_less}

@@ -7,7 +7,7 @@ use Rattle.dataflow.specs.declared.flow.Place as place
 use Rattle.dataflow.specs.declared.flow.Flow as flow
 use Rattle.dataflow.specs.Flow.{Graph, graph}
 use Rattle.dataflow.specs.Rows.{set_in_row, HasSizes}
-use Rattle.dataflow.specs.Sweep.{missing}
+use Rattle.dataflow.specs.Progress.{missing}
 
 -- Some walk from a place uses a number before it writes it. A place that only computes uses what it
 -- reads where a number that it writes is used after it.

@@ -1,5 +1,5 @@
 use Rattle.std.proofs.Common.{◌+◌, cond}
-use Rattle.dataflow.specs.Sweep.{missing}
+use Rattle.dataflow.specs.Progress.{missing}
 use Rattle.cse_deadcode.proofs.Sweeps.{Solving}
 use Rattle.cse_deadcode.specs.Uses.{goes_at}
 use Rattle.cse_deadcode.proofs.uses.used_in_flow.Given as goal
