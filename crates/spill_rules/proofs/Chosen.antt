@@ -32,7 +32,7 @@ use Rattle.split_rules.specs.Writes.{WriteReaches, from_entry, from_write, past,
 use Rattle.spill_rules.specs.Chosen.{LivesOver, Lost, over, still, IsReloaded, IsSpillChoice, IsSpilled, ParamsPlaced, IsNeededSlot, IsChosenKept}
 use Rattle.spill_rules.specs.Spilled.{SpillPlan, copy_instruction, reload, spill, reloads_of, spills_of, has_operands, has_results, operand_registers, written_results, spilled_instr, spilled, IsSpillPlan, IsSpillKept}
 use Rattle.spill_rules.proofs.Formed.{spilled_formed}
-use Rattle.spill_rules.proofs.Kept.{Which, own, slotted, WasRegister, IsCopiedAt, by_reload, by_spill, was_register}
+use Rattle.spill_rules.proofs.Registers.{Which, own, slotted, WasRegister, IsCopiedAt, by_reload, by_spill, was_register}
 use Rattle.spill_rules.proofs.Placed.{spilled_placed, spilled_seated}
 use Rattle.spill_rules.proofs.Whole.{spilled_keeps, within_bounds, few_reloads, few_spills, cond_few}
 
