@@ -27,7 +27,8 @@ here-is : (scope : LexicalScope) (reg base : ℕ) (e : Expr) (r : Reg) (needed n
 here-is scope reg base e r needed now next made w t f m =
     m ∙ ap (λ x. here scope base e next x r) w ∙ ap (here scope base e next now) (f ∙ ap (fresh_register reg) t.type)
 
-pub row-more : (timing : Timing) (scope : LexicalScope) (n b reg base : ℕ) (r : Reg) (light needed : Bool) (e : Expr) (rest : List Expr) (next made : List Instr)
+pub row-more : (timing : Timing) (scope : LexicalScope) (n b reg base : ℕ) (r : Reg) (light needed : Bool)
+    (e : Expr) (rest : List Expr) (next made : List Instr)
     → n ≡ suc reg
     → b ≡ base + width (expr_view e)
     → light ≡ is_light_address (scoped_names scope) (expr_view e)
@@ -39,12 +40,14 @@ pub row-more : (timing : Timing) (scope : LexicalScope) (n b reg base : ℕ) (r 
 row-more timing scope n b reg base r light needed e rest next made p q l w t f m =
     ap (λ k. row_code timing scope k b (expressions_of rest) made) p
     ∙ ap (λ k. row_code timing scope (suc reg) k (expressions_of rest) made) q
-    ∙ ap (row_code timing scope (suc reg) (base + width (expr_view e)) (expressions_of rest)) (here-is scope reg base e r needed _ next made (w ∙ ap (is_due timing) l) t f m)
+    ∙ ap (row_code timing scope (suc reg) (base + width (expr_view e)) (expressions_of rest))
+    (here-is scope reg base e r needed _ next made (w ∙ ap (is_due timing) l) t f m)
     ∙ by timing
   where
     by : (x : Timing) →
         row_code x scope (suc reg) (base + width (expr_view e)) (expressions_of rest)
-        (here scope base e next (is_due x (is_light_address (scoped_names scope) (expr_view e))) (fresh_register reg (type_of (scoped_names scope) (expr_view e))))
+        (here scope base e next (is_due x (is_light_address (scoped_names scope) (expr_view e)))
+        (fresh_register reg (type_of (scoped_names scope) (expr_view e))))
         ≡ row_code x scope reg base (expressions_of (e ∷ rest)) next
     by timings.Eager = refl
     by timings.Deferred = refl
