@@ -173,7 +173,9 @@ def stands(token, crate):
     """A path in backticks is there: from the top, in the crate that is named behind it, or as a kind of folder."""
     if resolve(token, f"crates/{crate}" if crate in CRATES else None) is not None:
         return True
-    return token.endswith("/") and "/" not in token[:-1] and token[:-1] in FOLDERS
+    if token.split("/")[0] in ("src", "specs", "proofs", "must-fail"):
+        return token.rstrip("/") in FOLDERS or any(p.endswith("/" + token) for p in ALL_PATHS)
+    return token.endswith("/") and token[:-1] in FOLDERS
 
 
 def sources_under(path):
