@@ -426,6 +426,9 @@ def check_tables():
             if name in described:
                 find(document, start, f"crate `{name}` is described twice")
             described[name] = start
+            late = [u for u in CRATES.get(name, ()) if u not in described]
+            if late:
+                find(document, start, f"crate `{name}` is described before what it uses: {' '.join(late)}")
         rests = re.search(r"Rests on (.*?)\.(?:\s|$)", joined)
         if rests:
             groups = rests.group(1).split(";")
