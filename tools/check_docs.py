@@ -15,7 +15,7 @@ Of each Markdown file that git knows, or that is new and not ignored:
   that file; and each other name in backticks that has an underscore or is in CamelCase stands somewhere in the crates;
 - tables: the lists of crates in architecture.md have the crates of crates.txt, each once, in an order in which each
   comes after what it uses; and what a crate rests on is there and below it;
-- the README, or a page that it leads to, links each page;
+- the README, or a page that it leads to, links each page; commands.md has each text of examples/;
 - outputs: each fenced block of the kind `console` is what its commands print. A line `$ COMMAND` is run by bash at the
   top folder, with `cmmc` on the path (one that ends in a backslash goes on), one shell for a document; the lines up to
   the next one are what it prints, both outputs together. A remark may stand behind two spaces and `# `; blanks at the
@@ -310,6 +310,21 @@ def check_names(document, text, outside):
                 find(document, start, f"`{name}` is not in `{match.group(2)}`")
 
 
+def check_diagrams(document, fenced):
+    """`LAW (CRATE)` and `CRATE: NAME` in the labels of a Mermaid diagram."""
+    for kind, start, lines in fenced:
+        if kind != "mermaid":
+            continue
+        for number, line in enumerate(lines, start + 1):
+            pairs = [(n, c) for n, c in re.findall(r"([A-Za-z_]+) \(([a-z_0-9]+)\)", line)]
+            pairs += [(n, c) for c, n in re.findall(r"\b([a-z_0-9]+): ([a-z_]+)\b", line)]
+            for name, crate in pairs:
+                if crate in CRATES and "_" in name:
+                    count("names of a crate")
+                    if name not in WORDS_OF_CRATE[crate]:
+                        find(document, number, f"`{name}` is not in crate `{crate}`")
+
+
 def check_places(document, outside):
     """Rows of a document: a line `- `NAME`, ..` and below it `  - place: `PATH`, ..`."""
     header, header_line = None, 0
@@ -378,6 +393,15 @@ def check_fault_rows(document, outside):
 
 # ---- the tables of crates
 
+def check_order(document, verb, lines):
+    """Each crate comes after what it uses, of those that are there; `lines` are in the order of the list."""
+    places = {name: place for place, name in enumerate(lines)}
+    for name, place in places.items():
+        late = [u for u in CRATES.get(name, ()) if places.get(u, -1) > place]
+        if late:
+            find(document, lines[name], f"crate `{name}` {verb} before what it uses: {' '.join(late)}")
+
+
 def check_tables():
     document = "docs/architecture.md"
     outside, _, _ = blocks(read(document))
@@ -403,13 +427,11 @@ def check_tables():
             find(document, number, f"crate `{name}` stands twice")
         else:
             seen[name] = number
-            late = [u for u in CRATES[name] if u not in seen]
-            if late:
-                find(document, number, f"crate `{name}` stands before what it uses: {' '.join(late)}")
     for name in CRATES:
         count("crates")
         if name not in seen:
             find(document, begin + 1, f"crate `{name}` is not in the list")
+    check_order(document, "stands", seen)
     # what each takes and gives
     described = {}
     for start, lines in paragraphs(outside):
@@ -426,9 +448,6 @@ def check_tables():
             if name in described:
                 find(document, start, f"crate `{name}` is described twice")
             described[name] = start
-            late = [u for u in CRATES.get(name, ()) if u not in described]
-            if late:
-                find(document, start, f"crate `{name}` is described before what it uses: {' '.join(late)}")
         rests = re.search(r"Rests on (.*?)\.(?:\s|$)", joined)
         if rests:
             groups = rests.group(1).split(";")
@@ -444,6 +463,7 @@ def check_tables():
     for name in CRATES:
         if name not in described:
             find(document, begin + 1, f"crate `{name}` is not described")
+    check_order(document, "is described", described)
     for name in CRATES:
         if f"crates/{name}" not in ALL_PATHS:
             find("crates.txt", 1, f"crate `{name}` has no folder")
@@ -546,9 +566,14 @@ def main(arguments):
             check_names(document, text, outside)
             check_places(document, outside)
             check_fault_rows(document, outside)
+            check_diagrams(document, fenced)
             if arguments:
                 check_outputs(document, fenced, folder)
     check_tables()
+    listed = read("docs/commands.md")
+    for path in git_files("examples/*.cmm"):
+        if path.count("/") == 1 and f"`{os.path.basename(path)}`" not in listed:
+            find("docs/commands.md", 1, f"{path} is not in the table of examples")
     reached, left = set(), ["README.md"]
     while left:
         document = left.pop()
