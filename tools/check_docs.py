@@ -11,8 +11,9 @@ Of each Markdown file that git knows, or that is new and not ignored:
 - links: the file, and the heading behind `#`, are there;
 - paths: each file or folder in backticks (`crates/X/specs/Y.antt`, or short `X/specs/Y`) is there;
 - places: each name of a row of definitions.md and of the glossary is declared in the files of its `place`;
-- names: `NAME` of `CRATE` (and `A`, `B` and `C` of `CRATE`) stands in that crate; NAME (`PATH`) and `NAME` in `PATH` in
-  that file; and each other name in backticks that has an underscore or is in CamelCase stands somewhere in the crates;
+- names: `NAME` of `CRATE` (and `A`, `B` and `C` of `CRATE`) stands in that crate, and so do the clauses and laws of a
+  crate in proved.md; NAME (`PATH`) and `NAME` in `PATH` in that file; and each other name in backticks that has an
+  underscore or is in CamelCase stands somewhere in the crates;
 - tables: the lists of crates in architecture.md have the crates of crates.txt, each once, in an order in which each
   comes after what it uses; and what a crate rests on is there and below it;
 - the README, or a page that it leads to, links each page; commands.md has each text of examples/;
@@ -391,6 +392,30 @@ def check_fault_rows(document, outside):
                         find(document, start, f"`{token}` is not in crate `{crate}`")
 
 
+def check_proved():
+    """In proved.md the clauses of a crate, and the laws in brackets behind a crate, stand in that crate."""
+    document = "docs/proved.md"
+    outside, _, _ = blocks(read(document))
+    crates = []
+    for start, lines in paragraphs(outside):
+        joined = " ".join(l.strip() for l in lines)
+        head = re.match(r"^- ((?:`[a-z0-9_]+`(?:, )?)+)(: |$)", joined)
+        texts = []
+        if head:
+            crates = [c for c in TICKED.findall(head.group(1)) if c in CRATES]
+            texts = re.findall(r"\(([^()]*)\)", joined) if head.group(2) else []
+        elif joined.startswith("- clause:"):
+            texts = [joined]
+        for text in texts:
+            text = re.sub(r"(?:`[^`]+`(?:, | and )?)+ of `[^`]+`", "", text)
+            for token in TICKED.findall(text):
+                for name in re.split(r"[.:]+", token):
+                    if crates and IDENT.match(name) and name not in CRATES:
+                        count("names of a crate")
+                        if not any(name in WORDS_OF_CRATE[c] for c in crates):
+                            find(document, start, f"`{token}` is not in crate {' or '.join(crates)}")
+
+
 # ---- the tables of crates
 
 def check_order(document, verb, lines):
@@ -570,6 +595,7 @@ def main(arguments):
             if arguments:
                 check_outputs(document, fenced, folder)
     check_tables()
+    check_proved()
     listed = read("docs/commands.md")
     for path in git_files("examples/*.cmm"):
         if path.count("/") == 1 and f"`{os.path.basename(path)}`" not in listed:
