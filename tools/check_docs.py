@@ -14,8 +14,8 @@ Of each Markdown file that git knows, or that is new and not ignored:
 - names: `NAME` of `CRATE` (and `A`, `B` and `C` of `CRATE`) stands in that crate, and so do the clauses and laws of a
   crate in proved.md; NAME (`PATH`) and `NAME` in `PATH` in that file; and each other name in backticks that has an
   underscore or is in CamelCase stands somewhere in the crates;
-- tables: the lists of crates in architecture.md have the crates of crates.txt, each once, in an order in which each
-  comes after what it uses; and what a crate rests on is there and below it;
+- tables: columns of crates name crates; a table of all crates has them in the order of crates.txt; the lists of
+  architecture.md have each once, after what it uses, and what a crate rests on is there and below it;
 - the README, or a page that it leads to, links each page; commands.md has each text of examples/;
 - outputs: each fenced block of the kind `console` is what its commands print. A line `$ COMMAND` is run by bash at the
   top folder, with `cmmc` on the path (one that ends in a backslash goes on), one shell for a document; the lines up to
@@ -418,6 +418,47 @@ def check_proved():
 
 # ---- the tables of crates
 
+def check_long_tables(document, outside):
+    """A table of more than 100 crates has all of them in the order of crates.txt, but those that the page says, in a
+    paragraph `Not in this table: ..` before it, are not in it."""
+    order = {name: place for place, name in enumerate(CRATES)}
+    left_out, rows = set(), []
+    for start, lines in paragraphs(outside) + [(0, [""])]:
+        row = re.match(r"^\| `([a-z0-9_]+)` \|", lines[0])
+        if row and row.group(1) in order:
+            rows.append((row.group(1), start))
+        elif not lines[0].startswith("|"):
+            if len(rows) > 100:
+                count("rows of long tables", len(rows))
+                for (before, _), (name, at) in zip(rows, rows[1:]):
+                    if order[name] < order[before]:
+                        find(document, at, f"crate `{name}` stands after `{before}`")
+                for name in set(order) - {name for name, _ in rows} - left_out:
+                    find(document, rows[0][1], f"crate `{name}` is not in the table")
+            if rows:
+                left_out, rows = set(), []
+            if lines[0].startswith("Not in this table:"):
+                left_out = set(TICKED.findall(" ".join(lines)))
+
+
+def check_columns(document, outside):
+    """In a table the columns `crate`, `crate here`, `code` and `rules` name crates; what else they name is in brackets."""
+    columns = []
+    for number, line in enumerate(outside, 1):
+        if not line.startswith("|"):
+            columns = []
+            continue
+        cells = [cell.strip() for cell in line.strip().strip("|").split("|")]
+        if number == 1 or not outside[number - 2].startswith("|"):
+            columns = [i for i, cell in enumerate(cells) if cell in ("crate", "crate here", "code", "rules")]
+            continue
+        for i in columns:
+            for token in TICKED.findall(re.sub(r"\([^()]*\)", "", cells[i])) if i < len(cells) else []:
+                count("crates in tables")
+                if token not in CRATES:
+                    find(document, number, f"`{token}` is no crate of crates.txt")
+
+
 def check_order(document, verb, lines):
     """Each crate comes after what it uses, of those that are there; `lines` are in the order of the list."""
     places = {name: place for place, name in enumerate(lines)}
@@ -592,6 +633,8 @@ def main(arguments):
             check_places(document, outside)
             check_fault_rows(document, outside)
             check_diagrams(document, fenced)
+            check_columns(document, outside)
+            check_long_tables(document, outside)
             if arguments:
                 check_outputs(document, fenced, folder)
     check_tables()
