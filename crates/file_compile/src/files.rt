@@ -114,7 +114,7 @@ fn all_pieces<R: Threads + Sync, G: Gate + Sync>(
 ///
 /// Functions are lent in halves of their tokens to both sides of a join, each half with its part of the jobs, down to
 /// single functions or one job, and the gate hears of each. By one choice a file is made into one image only
-/// (`made_for_once`), so the image is the same for every number of jobs and every gate.
+/// (`files_are_made_once`), so the image is the same for every number of jobs and every gate.
 ///
 /// # Errors
 ///
