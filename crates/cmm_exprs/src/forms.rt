@@ -93,7 +93,7 @@ fn form<'t, F: Fn(&'t [Token], u32, u32) -> Result<(Expr, &'t [Token]), Stop>>(
 }
 
 /// A form after its parenthesis, and all forms inside it.
-#[cycle(open_form)]
+#[cycle(form)]
 fn form_at<'t>(
     alloc: Global,
     source: &[u8],

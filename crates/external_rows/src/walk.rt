@@ -1,5 +1,5 @@
 //! The walk of a file that finds its external calls.
-ghost use Rattle.std.specs.Prelude.{◌≡◌, [], ◌∷◌, ◌++◌, IfOk, OnOk};
+ghost use Rattle.std.specs.Prelude.{◌≡◌, [], ◌∷◌, IfOk, OnOk};
 ghost use Rattle.bs_words.specs.Contents.{contents};
 ghost use Rattle.cmm_tree.specs.View.{file_view};
 ghost use Rattle.cmm_types.specs.Typing.{AreItemsAnnotated};
@@ -47,9 +47,15 @@ impl ExternalRows {
                 self.walk(alloc, body)
             }
             Form::Assign { value, .. } => self.walk(alloc, value),
-            Form::Operator(_, left, right) => self.walk_both(alloc, left, right),
+            Form::Operator(_, left, right) => {
+                self.walk(alloc, left)?;
+                self.walk(alloc, right)
+            }
             Form::Load(_, address) => self.walk(alloc, address),
-            Form::Store(_, address, value) => self.walk_both(alloc, address, value),
+            Form::Store(_, address, value) => {
+                self.walk(alloc, address)?;
+                self.walk(alloc, value)
+            }
             Form::Alloc { operands, .. } => self.walk_row(alloc, operands.as_slice()),
             Form::App {
                 callee,
@@ -69,12 +75,16 @@ impl ExternalRows {
                 self.note(alloc, name, comps, *answer)?;
                 self.walk_row(alloc, arguments.as_slice())
             }
-            Form::Checkbound(bound, index) => self.walk_both(alloc, bound, index),
+            Form::Checkbound(bound, index) => {
+                self.walk(alloc, bound)?;
+                self.walk(alloc, index)
+            }
             Form::Raise(value) => self.walk(alloc, value),
             Form::Seq(elements) => self.walk_row(alloc, elements.as_slice()),
             Form::If(condition, on_true, on_false) => {
                 self.walk(alloc, condition)?;
-                self.walk_both(alloc, on_true, on_false)
+                self.walk(alloc, on_true)?;
+                self.walk(alloc, on_false)
             }
             Form::Switch {
                 selector,
@@ -89,17 +99,11 @@ impl ExternalRows {
                 self.walk_handlers(alloc, handlers.as_slice())
             }
             Form::Exit { arguments, .. } => self.walk_row(alloc, arguments.as_slice()),
-            Form::Try { body, handler, .. } => self.walk_both(alloc, body, handler),
+            Form::Try { body, handler, .. } => {
+                self.walk(alloc, body)?;
+                self.walk(alloc, handler)
+            }
         }
-    }
-
-    #[cycle(walk)]
-    fn walk_both(&mut self, alloc: Global, first: &Expr, second: &Expr) -> Result<(), AllocError>
-        ensures { OnOk result (self.new
-            ≡ firsts_behind self.old (calls_held first.now.form ++ calls_held second.now.form)) }
-    {
-        self.walk(alloc, first)?;
-        self.walk(alloc, second)
     }
 
     #[cycle(walk)]

@@ -157,7 +157,17 @@ pub fn is_label(line: &Line) -> bool
     if !has_no_spots(line) {
         return false;
     }
-    line.op.is_label()
+    match &line.op {
+        LinOp::Flow(Flow::Label(_)) => true,
+        LinOp::Flow(Flow::Jump(_)) => false,
+        LinOp::Flow(Flow::Exit(_)) => false,
+        LinOp::Flow(Flow::Branch { test: _, label: _ }) => false,
+        LinOp::Flow(Flow::Switch(_)) => false,
+        LinOp::Flow(Flow::PushTrap(_)) => false,
+        LinOp::Flow(Flow::PopTrap) => false,
+        LinOp::Flow(Flow::EnterTrap) => false,
+        LinOp::Op(_) => false,
+    }
 }
 
 /// Whether it is a jump or an exit: control does not come to what is right after it.

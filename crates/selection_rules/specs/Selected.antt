@@ -47,13 +47,13 @@ pub record SelectedRun (runs : ActivationSetting → Mach → ℕ → State → 
   pub units : ℕ
   pub meets :
       MeetsEvaluation units
-        (alone c.setting.end c.setting.symbol c.setting.parameters c.frame f arguments c.below memory doings n)
-        (runs c m steps begun (first_tally c doings))
+      (alone c.setting.end c.setting.symbol c.setting.parameters c.frame f arguments c.below memory doings n)
+      (runs c m steps begun (first_tally c doings))
   pub no_more :
       let e : Evaluation =
-        alone c.setting.end c.setting.symbol c.setting.parameters c.frame f arguments c.below memory doings n in
+      alone c.setting.end c.setting.symbol c.setting.parameters c.frame f arguments c.below memory doings n in
       units + (pending_calls e + (world_of e).left) ≤ n
   pub enough :
       let e : Evaluation =
-        alone c.setting.end c.setting.symbol c.setting.parameters c.frame f arguments c.below memory doings n in
+      alone c.setting.end c.setting.symbol c.setting.parameters c.frame f arguments c.below memory doings n in
       n ≤ (world_of e).left + nodes_in f.body * suc units

@@ -1,6 +1,6 @@
 use Rattle.std.proofs.Common.{◌≡◌, ◌≢◌, ◌∙◌, ◌-◌, true, false, ap}
 use denote.Enum.Bare.{sameb}
-use Rattle.eval_frames.specs.contracts.group.Group.{the_type}
+use Rattle.eval_frames.specs.contracts.group.EvaluationGroup.{the_type}
 use Rattle.eval_frames.specs.Groups.{evaluation_group}
 use Rattle.eval_frames.specs.Held.{inside}
 use Rattle.eval_frames.specs.Filled.{evaluated_expression, resume}

@@ -29,25 +29,25 @@ walk-returns-in-Exit t c =
     let is = ap calls_held c.in-Exit.is ∙ (calls_of_exit c.in-Exit.label_at c.in-Exit.label c.in-Exit.arguments ∙ ap calls_among (sym c.as_slice-in-Exit.ensures.value)) in
     one _ c.args.self.now _ _ _ is c.walk_row-in-Exit.ensures
 
-pub walk-returns-in-Operator : goal.walk-returns-in-Operator
-walk-returns-in-Operator t c =
+pub walk-returns-in_ok-walk-in-Operator : goal.walk-returns-in_ok-walk-in-Operator
+walk-returns-in_ok-walk-in-Operator t c =
     let is = ap calls_held c.in-Operator.is ∙ both (calls c.in-Operator.left.value) _ (calls c.in-Operator.right.value) _ (ap calls c.deref-in-Operator.ensures) (ap calls c.deref-in-Operator-2.ensures) in
-    one _ c.args.self.now _ _ _ is c.walk_both.ensures
+    two _ c.args.self.now _ _ (calls c.deref-in-Operator.result.now) (calls c.deref-in-Operator-2.result.now) _ is c.in_ok-walk-in-Operator.ensures c.walk-in-Operator-2.ensures
 
-pub walk-returns-in-Store : goal.walk-returns-in-Store
-walk-returns-in-Store t c =
+pub walk-returns-in_ok-walk-in-Store : goal.walk-returns-in_ok-walk-in-Store
+walk-returns-in_ok-walk-in-Store t c =
     let is = ap calls_held c.in-Store.is ∙ both (calls c.in-Store.address.value) _ (calls c.in-Store.value.value) _ (ap calls c.deref-in-Store.ensures) (ap calls c.deref-in-Store-2.ensures) in
-    one _ c.args.self.now _ _ _ is c.walk_both-in-Store.ensures
+    two _ c.args.self.now _ _ (calls c.deref-in-Store.result.now) (calls c.deref-in-Store-2.result.now) _ is c.in_ok-walk-in-Store.ensures c.walk-in-Store-2.ensures
 
-pub walk-returns-in-Checkbound : goal.walk-returns-in-Checkbound
-walk-returns-in-Checkbound t c =
+pub walk-returns-in_ok-walk-in-Checkbound : goal.walk-returns-in_ok-walk-in-Checkbound
+walk-returns-in_ok-walk-in-Checkbound t c =
     let is = ap calls_held c.in-Checkbound.is ∙ both (calls c.in-Checkbound.bound.value) _ (calls c.in-Checkbound.index.value) _ (ap calls c.deref-in-Checkbound.ensures) (ap calls c.deref-in-Checkbound-2.ensures) in
-    one _ c.args.self.now _ _ _ is c.walk_both-in-Checkbound.ensures
+    two _ c.args.self.now _ _ (calls c.deref-in-Checkbound.result.now) (calls c.deref-in-Checkbound-2.result.now) _ is c.in_ok-walk-in-Checkbound.ensures c.walk-in-Checkbound-2.ensures
 
-pub walk-returns-in-Try : goal.walk-returns-in-Try
-walk-returns-in-Try t c =
+pub walk-returns-in_ok-walk-in-Try : goal.walk-returns-in_ok-walk-in-Try
+walk-returns-in_ok-walk-in-Try t c =
     let is = ap calls_held c.in-Try.is ∙ both (calls c.in-Try.body.value) _ (calls c.in-Try.handler.value) _ (ap calls c.deref-in-Try.ensures) (ap calls c.deref-in-Try-2.ensures) in
-    one _ c.args.self.now _ _ _ is c.walk_both-in-Try.ensures
+    two _ c.args.self.now _ _ (calls c.deref-in-Try.result.now) (calls c.deref-in-Try-2.result.now) _ is c.in_ok-walk-in-Try.ensures c.walk-in-Try-2.ensures
 
 pub walk-returns-in_ok-walk-in-App : goal.walk-returns-in_ok-walk-in-App
 walk-returns-in_ok-walk-in-App t c =
@@ -73,11 +73,14 @@ walk-returns-in_ok-walk_bindings-in-Let t c =
     let is = ap calls_held c.in-Let.is ∙ (calls_of_let c.in-Let.bindings c.in-Let.body ∙ parts) in
     two _ c.args.self.now _ _ (calls_among_bindings c.as_slice-in-Let.result.now) (calls c.deref.result.now) _ is c.in_ok-walk_bindings-in-Let.ensures c.walk.ensures
 
-pub walk-returns-in_ok-walk-in-If : goal.walk-returns-in_ok-walk-in-If
-walk-returns-in_ok-walk-in-If t c =
+pub walk-returns-in_ok-walk-in-If-2 : goal.walk-returns-in_ok-walk-in-If-2
+walk-returns-in_ok-walk-in-If-2 t c =
     let branches = both (calls c.in-If.on_true.value) _ (calls c.in-If.on_false.value) _ (ap calls c.deref-in-If-2.ensures) (ap calls c.deref-in-If-3.ensures) in
     let is = ap calls_held c.in-If.is ∙ both (calls c.in-If.condition.value) _ _ _ (ap calls c.deref-in-If.ensures) (sym branches) in
-    two _ c.args.self.now _ _ (calls c.deref-in-If.result.now) _ _ is c.in_ok-walk-in-If.ensures c.walk_both-in-If.ensures
+    let first = calls c.deref-in-If.result.now in
+    let second = calls c.deref-in-If-2.result.now in
+    let third = calls c.deref-in-If-3.result.now in
+    two _ c.args.self.now _ _ first (second ++ third) _ is c.in_ok-walk-in-If.ensures (two _ _ _ _ second third (second ++ third) refl c.in_ok-walk-in-If-2.ensures c.walk-in-If-3.ensures)
 
 pub walk-returns-in_ok-note-in-Extcall : goal.walk-returns-in_ok-note-in-Extcall
 walk-returns-in_ok-note-in-Extcall t c =
@@ -87,10 +90,6 @@ walk-returns-in_ok-note-in-Extcall t c =
     let parts = ap₂ (λ cs es. row e.name cs e.answer ∷ es) (sym comps) (ap calls_among (sym c.as_slice-in-Extcall-2.ensures.value)) in
     let is = ap calls_held e.is ∙ (calls_of_extcall e.frame e.name e.arguments e.answer e.result_at ∙ parts) in
     two _ c.args.self.now _ _ (row e.name c.in_ok-comps-in-Extcall.comps.items e.answer ∷ []) (calls_among args) _ is c.in_ok-note-in-Extcall.ensures c.walk_row-in-Extcall.ensures
-
-pub walk_both-returns-in_ok-walk : goal.walk_both-returns-in_ok-walk
-walk_both-returns-in_ok-walk t c =
-    two _ c.args.self.now _ _ (calls c.args.first.now) (calls c.args.second.now) _ refl c.in_ok-walk.ensures c.walk-2.ensures
 
 pub walk_row-loop-expr-preserved : goal.walk_row-loop-expr-preserved
 walk_row-loop-expr-preserved t c =
