@@ -15,7 +15,7 @@ use Rattle.mach_ir.specs.declared.mach.MachOp.TheVariants as mach
 use Rattle.mach_ir.specs.declared.reg.Reg.{Reg}
 use Rattle.mach_ir.specs.declared.mach.Instr.{Instr}
 use Rattle.mach_ir.specs.declared.mach.Mach.{Mach}
-use Rattle.linscan_rules.specs.Intervals.{IsAtPlace, reads, writes}
+use Rattle.linscan_rules.specs.Ranges.{IsAtPlace, reads, writes}
 use Rattle.linscan_rules.proofs.Scan.{IsIn, is_first, is_later}
 use Rattle.linscan_rules.proofs.Rows.{in_of}
 
