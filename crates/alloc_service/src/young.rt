@@ -87,7 +87,7 @@ fn read_young(memory: &Memory, from: u64, young: &mut Vec<BlockPlace>) -> bool
 }
 
 /// The bytes of the blocks, with their headers.
-fn bytes_used(blocks: &[BlockPlace]) -> u64
+pub fn bytes_used(blocks: &[BlockPlace]) -> u64
     requires { bytes_used blocks.now ≤ most_room }
     ensures { result ≡ bytes_used blocks.now }
 {

@@ -111,15 +111,23 @@ first_is_bound s end bindings b rest v h here w kind is-bindings is-end bind =
 -- ---- switches
 
 -- a number below the size chooses a case
-pub switch_chooses : (s : Surroundings) (size_at size : ℕ) (selector : Box Expr Global) (cases : Vec Case Global) (tail : Bool) (v : Value) (h : Here) (w : World) (k : ℕ) →
-    word_in v ≡ Ok k → nat_lt k size ≡ true →
-    taken_by s (form.Switch size_at size selector cases) tail v h w ≡ chosen (case_for (cases_ready s tail cases.items) k) h w
-switch_chooses s size_at size selector cases tail v h w k e lt =
+pub case_begins : (r : Result ℕ Kind) (k size : ℕ) (o : Option (Chosen Body)) (cases : List (Chosen Body)) (h : Here) (w : World) →
+    r ≡ Ok k → nat_lt k size ≡ true → o ≡ case_for cases k →
+    chosen o h w ≡ proper r w (λ k. cond (nat_lt k size) (chosen (case_for cases k) h w) (Stops (NotProper SwitchRange) w))
+case_begins r k size o cases h w e lt is =
+    let choose : ℕ → Evaluation = λ n. cond (nat_lt n size) (chosen (case_for cases n) h w) (Stops (NotProper SwitchRange) w) in
+    ap (λ (x : Option (Chosen Body)). chosen x h w) is
+    ∙ sym (ap (λ (b : Bool). cond b (chosen (case_for cases k) h w) (Stops (NotProper SwitchRange) w)) lt)
+    ∙ sym (ap (λ (x : Result ℕ Kind). proper x w choose) e)
+
+-- a switch takes a number to the cases of the code
+pub switch_takes : (s : Surroundings) (size_at size : ℕ) (selector : Box Expr Global) (cases : Vec Case Global) (tail : Bool) (v : Value) (h : Here) (w : World) →
+    taken_by s (form.Switch size_at size selector cases) tail v h w
+    ≡ proper (word_in v) w (λ k. cond (nat_lt k size) (chosen (case_for (cases_ready s tail cases.items) k) h w) (Stops (NotProper SwitchRange) w))
+switch_takes s size_at size selector cases tail v h w =
     let f : Form = form.Switch size_at size selector cases in
     let choose : List (Chosen Body) → ℕ → Evaluation = λ l n. cond (nat_lt n size) (chosen (case_for l n) h w) (Stops (NotProper SwitchRange) w) in
-    ap (λ (r : Result ℕ Kind). proper r w (choose (choices_held s (cases_in f).1 tail))) e
-    ∙ ap (λ (b : Bool). cond b (chosen (case_for (choices_held s (cases_in f).1 tail) k) h w) (Stops (NotProper SwitchRange) w)) lt
-    ∙ ap (λ (l : List (Chosen Body)). chosen (case_for l k) h w)
+    ap (λ (l : List (Chosen Body)). proper (word_in v) w (choose l))
     (choices_is s (cases_in f).0 (cases_in f).1 tail ∙ ap (cases_ready s tail) (form.items_hidden-the_row-Case-2 cases))
 
 -- ---- calls

@@ -52,16 +52,7 @@ impl<'a> Machine<'a> {
                 if let Some(kind) = first_misfit(around.end, params, values.as_slice()) {
                     return Ok(not_proper(kind));
                 }
-                self.push(
-                    form,
-                    tail,
-                    Step::Catch {
-                        within: true,
-                        turns: turns - 1,
-                        level,
-                        tries,
-                    },
-                )?;
+                self.push_catch(form, tail, true, turns - 1, level, tries)?;
                 self.push(form, tail, Step::Scope { level, tries })?;
                 self.here.back_in(level, tries);
                 bind_params(&mut self.here, params, values.as_slice())?;

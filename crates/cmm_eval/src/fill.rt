@@ -1,16 +1,20 @@
 //! What a frame makes of a value, or of none.
-ghost use Rattle.std.specs.Prelude.{◌≡◌, IfOk, None, Some};
+ghost use Rattle.std.specs.Prelude.{◌≡◌, IfOk, None, Some, cond, nat_lt};
+ghost use Rattle.bs_words.specs.Operators.{word_in};
+ghost use Rattle.bs_words.specs.declared.values.Kind.TheVariants.{SwitchRange};
+ghost use Rattle.cmm_meaning.specs.State as state;
+ghost use Rattle.cmm_meaning.specs.Choices.{case_for};
 ghost use Rattle.cmm_meaning.specs.Evaluation as evaluation;
-ghost use Rattle.cmm_meaning.specs.Evaluation.{Gives};
+ghost use Rattle.cmm_meaning.specs.Evaluation.{Gives, Stops, NotProper, proper, chosen};
 ghost use Rattle.eval_frames.specs.declared.frame.Step.{Step};
-ghost use Rattle.eval_frames.specs.Filled.{WantsValue, does, fills_frame, taken_by, joined_by, body_of, first_bound};
+ghost use Rattle.eval_frames.specs.Filled.{standing, cases_ready, WantsValue, does, fills_frame, taken_by, joined_by, body_of, first_bound};
 ghost use Rattle.eval_frames.specs.Around.{IsAround, around_view};
 ghost use Rattle.cmm_eval.specs.Stands.{stands, goes_on, stands_in, goes_on_in};
 ghost use Rattle.cmm_eval.specs.Turns.{TurnsFall};
 
 use crate::machine::Machine;
 use bs_words::{Kind, Value};
-use cmm_tree::{Binding, Form};
+use cmm_tree::{Binding, Case, Form};
 use cmm_values::{apply, condition_of, fits, misfit, word_in};
 use eval_frames::around::Surroundings;
 use eval_frames::bind::bind_value;
@@ -20,6 +24,30 @@ use eval_frames::given::{checked, given, not_proper, of_type, raised};
 use eval_frames::group::{EvaluationGroup, group_of};
 use eval_frames::operands::{both_operands, earlier, operands_of};
 use std::alloc::AllocError;
+
+// The case of a switch that a number below its size chooses.
+fn begin_case<'a>(size: u64, cases: &'a [Case], tail: bool, value: Value) -> Now<'a>
+    ensures { (s : evaluation.Surroundings) → (h : state.Here) → (w : state.World) →
+        standing s result h w ≡ proper (word_in value) w (λ k.
+        cond (nat_lt k size) (chosen (case_for (cases_ready s tail cases.entry.now) k) h w)
+        (Stops (NotProper SwitchRange) w)) }
+{
+    match word_in(value) {
+        Err(kind) => not_proper(kind),
+        Ok(number) => {
+            if number >= size {
+                return not_proper(Kind::SwitchRange);
+            }
+            match case_for(cases, number) {
+                Some(case) => Now::Begins {
+                    expr: &case.body,
+                    tail,
+                },
+                None => not_proper(Kind::SwitchRange),
+            }
+        }
+    }
+}
 
 impl<'a> Machine<'a> {
     /// What a frame makes of a value, or of none.
@@ -151,21 +179,9 @@ impl<'a> Machine<'a> {
                     Err(kind) => Ok(not_proper(kind)),
                 }
             }
-            Form::Switch { size, cases, .. } => match word_in(value) {
-                Err(kind) => Ok(not_proper(kind)),
-                Ok(number) => {
-                    if number >= *size {
-                        return Ok(not_proper(Kind::SwitchRange));
-                    }
-                    match case_for(cases.as_slice(), number) {
-                        Some(case) => Ok(Now::Begins {
-                            expr: &case.body,
-                            tail,
-                        }),
-                        None => Ok(not_proper(Kind::SwitchRange)),
-                    }
-                }
-            },
+            Form::Switch { size, cases, .. } => {
+                Ok(begin_case(*size, cases.as_slice(), tail, value))
+            }
             Form::Integer(_)
             | Form::Pointer(_)
             | Form::Symbol(_)

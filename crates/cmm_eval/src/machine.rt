@@ -3,6 +3,7 @@ ghost use Rattle.std.specs.Prelude.{◌≡◌, ◌^◌, ◌<◌, ◌+◌, ◌++�
 ghost use Rattle.eval_frames.specs.Views.{here_view, world_view};
 ghost use Rattle.eval_frames.specs.Groups.{evaluation_group};
 ghost use Rattle.eval_frames.specs.Held.{inside};
+ghost use Rattle.eval_frames.specs.declared.frame.Step.{Step};
 ghost use Rattle.eval_frames.specs.Filled.{HasEnded, evaluated_expression, standing, fills_frame};
 ghost use Rattle.eval_frames.specs.Around.{IsAround, around_view};
 ghost use Rattle.cmm_eval.specs.Stands.{stands, goes_on};
@@ -103,6 +104,35 @@ impl<'a> Machine<'a> {
     {
         self.frames.push(Frame { form, tail, step })?;
         Ok(())
+    }
+
+    /// Adds a catch that takes so many further exits, whose body or handler comes next.
+    pub(crate) fn push_catch(
+        &mut self,
+        form: &'a Form,
+        tail: bool,
+        within: bool,
+        exits: u64,
+        level: usize,
+        tries: u64,
+    ) -> Result<(), AllocError>
+        ensures here { IfOk result (λ _. self.new.here ≡ self.old.here) }
+        ensures world { IfOk result (λ _. self.new.world ≡ self.old.world) }
+        ensures frames { IfOk result (λ _. self.new.frames.items ≡ self.old.frames.items ++ record {
+          form =
+              form.entry;
+          tail = tail;
+          step = Step.Catch within exits level tries;
+        } ∷ []) }
+        ensures adds { IfOk result (λ _. turns self.new ≡ turns self.old + 1) }
+    {
+        let step = Step::Catch {
+            within,
+            turns: exits,
+            level,
+            tries,
+        };
+        self.push(form, tail, step)
     }
 
     /// What a node does once it has taken its unit.

@@ -96,17 +96,7 @@ impl<'a> Machine<'a> {
             }
             Form::Catch(body, _) => {
                 let turns = self.world.left + 1;
-                let within = false;
-                self.push(
-                    form,
-                    tail,
-                    Step::Catch {
-                        within,
-                        turns,
-                        level,
-                        tries,
-                    },
-                )?;
+                self.push_catch(form, tail, false, turns, level, tries)?;
                 Ok(Now::Begins { expr: body, tail })
             }
             Form::Try { body, .. } => {

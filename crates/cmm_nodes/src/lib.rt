@@ -10,4 +10,4 @@ pub use build::{
     extcall_node, float_node, let_node, loaded, raise_node, stored, switch_node, try_node,
 };
 pub use node::{exit_to, float_leaf, paired, sequence, sequence_at, tripled, while_loop};
-pub use stop::Stop;
+pub use stop::{Stop, UnexpectedToken};

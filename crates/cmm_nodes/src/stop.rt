@@ -1,6 +1,6 @@
 //! Where reading stops.
 ghost use Rattle.std.specs.Prelude.{◌≡◌};
-ghost use Rattle.cmm_nodes.specs.declared.stop.Stop.TheVariants.{OutOfMemory};
+ghost use Rattle.cmm_nodes.specs.declared.stop.Stop.TheVariants.{OutOfMemory, Unexpected};
 
 use std::alloc::{AllocError, AllocFailed};
 use thiserror::Error;
@@ -24,6 +24,22 @@ pub enum Stop {
     /// Memory was wanted and not there.
     #[error("out of memory")]
     OutOfMemory,
+}
+
+/// A token that no text goes on with, or the end of the text: the one fault of a part whose reading takes no
+/// memory.
+#[derive(Clone, Copy, Debug, Drop)]
+pub struct UnexpectedToken {
+    /// The tokens that are left, this one counted; 0 where the text ends.
+    pub left: usize,
+}
+
+impl From<UnexpectedToken> for Stop {
+    ghost from_gives = { λ token e. e ≡ Unexpected token.left };
+
+    fn from(token: UnexpectedToken) -> Stop {
+        Stop::Unexpected { left: token.left }
+    }
 }
 
 impl From<AllocError> for Stop {

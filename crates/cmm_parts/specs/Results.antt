@@ -10,6 +10,7 @@ use Rattle.cmm_grammar.specs.Words.{is_alloc, is_close, is_colon, is_name, is_in
 use Rattle.cmm_grammar.specs.Rule.{Sort, Value, Rule}
 use Rattle.cmm_grammar.specs.Reading.{ReadOutcome, Read, Stops, Stuck, Deep, Reader, many, reading, forms_below, reads}
 use Rattle.cmm_nodes.specs.declared.stop.Stop.{Stop}
+use Rattle.cmm_nodes.specs.declared.stop.UnexpectedToken.{UnexpectedToken}
 use Rattle.cmm_nodes.specs.declared.stop.Stop.TheVariants.{Unexpected, TooDeep, OutOfMemory}
 use Rattle.cmm_parts.specs.declared.front.Test.{Test}
 use Rattle.cmm_parts.specs.declared.front.Test.TheVariants as test
@@ -29,6 +30,12 @@ abbrev pub GivesReading : {X A : Type 0}
     → (X → A) → (X → List TokenTree) → Result X Stop → ReadOutcome A → Type 0
 GivesReading view rest (Ok x) read = read ≡ Read (view x) (rest x)
 GivesReading view rest (Err stop) read = Fails stop read
+
+-- the same of a function that takes no memory
+abbrev pub ReadsTokens : {X A : Type 0}
+    → (X → A) → (X → List TokenTree) → Result X UnexpectedToken → ReadOutcome A → Type 0
+ReadsTokens view rest (Ok x) read = read ≡ Read (view x) (rest x)
+ReadsTokens view rest (Err token) read = read ≡ Stops Stuck token.left
 
 -- a value, seen by view, and the tokens that follow it
 abbrev pub ReadPart : Type 0 → Type 0

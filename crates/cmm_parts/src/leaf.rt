@@ -4,7 +4,7 @@ ghost use Rattle.cmm_lex.specs.Token.{token_view};
 ghost use Rattle.cmm_grammar.specs.Words.{leaf_of};
 ghost use Rattle.cmm_grammar.specs.Reading.{bracket_at};
 ghost use Rattle.cmm_tree.specs.View.{expr_view};
-ghost use Rattle.cmm_parts.specs.Results.{trees, GivesReading};
+ghost use Rattle.cmm_parts.specs.Results.{trees, GivesReading, ReadsTokens};
 ghost use Rattle.cmm_parts.specs.Parts.{symbol_leaf, simple_at};
 ghost use Rattle.cmm_nodes.specs.declared.stop.Stop.TheVariants.{OutOfMemory};
 
@@ -12,7 +12,7 @@ use crate::front::{name_of, word};
 use bs_words::{Name, is_symbol};
 use cmm_lex::{Keyword, Sign, Token, TokenKind, string_of};
 use cmm_nodes::node::node;
-use cmm_nodes::{Stop, exit_to, float_leaf};
+use cmm_nodes::{Stop, UnexpectedToken, exit_to, float_leaf};
 use cmm_tree::{Expr, Form, Label};
 use std::alloc::Global;
 
@@ -52,15 +52,19 @@ fn leaf_of(alloc: Global, source: &[u8], token: &Token) -> Result<Option<Expr>, 
 }
 
 /// The second of two brackets.
-fn bracket<'t>(source: &[u8], tokens: &'t [Token], at: u32) -> Result<(Expr, &'t [Token]), Stop>
-    ensures { GivesReading (λ x. expr_view x.0) (λ x. trees source.now x.1.now) result
+fn bracket<'t>(
+    source: &[u8],
+    tokens: &'t [Token],
+    at: u32,
+) -> Result<(Expr, &'t [Token]), UnexpectedToken>
+    ensures { ReadsTokens (λ x. expr_view x.0) (λ x. trees source.now x.1.now) result
         (bracket_at at (trees source.now tokens.now)) }
 {
     match tokens.split_first() {
         Some((first, rest)) if matches!(first.kind, TokenKind::Sign(Sign::CloseBracket)) => {
             Ok((node(at, Form::Nothing), rest))
         }
-        _ => Err(Stop::Unexpected { left: tokens.len() }),
+        _ => Err(UnexpectedToken { left: tokens.len() }),
     }
 }
 
@@ -79,7 +83,7 @@ pub fn simple<'t>(
         (simple_at (token_view source.now first.now) (trees source.now rest.now)) }
 {
     if matches!(first.kind, TokenKind::Sign(Sign::OpenBracket)) {
-        return bracket(source, rest, first.at);
+        return Ok(bracket(source, rest, first.at)?);
     }
     match leaf_of(alloc, source, first)? {
         Some(leaf) => Ok((leaf, rest)),

@@ -7,7 +7,7 @@ ghost use Rattle.cmm_grammar.specs.Words.{is_open_kind, is_name_kind, is_symbol_
 ghost use Rattle.cmm_grammar.specs.Grammar.{case_number, another_number, a_parameter, parameters, label_rest, a_label};
 ghost use Rattle.cmm_grammar.specs.Reading.{one_by};
 ghost use Rattle.cmm_tree.specs.View.{index_view, param_view};
-ghost use Rattle.cmm_parts.specs.Results.{trees, GivesReading, ReadsBy, many_of};
+ghost use Rattle.cmm_parts.specs.Results.{trees, GivesReading, ReadsTokens, ReadsBy, many_of};
 ghost use Rattle.cmm_parts.specs.Parts.{label_part, opened_label, chunk_part, chunk_at};
 
 use crate::front::{Test, component, name_of, passes, symbol_of, token, word};
@@ -15,7 +15,7 @@ use crate::words;
 use bs_words::{Chunk, Name};
 use cmm_grammar::{ChunkWord, Width};
 use cmm_lex::{Token, TokenKind};
-use cmm_nodes::{PlacedChunk, Stop};
+use cmm_nodes::{PlacedChunk, Stop, UnexpectedToken};
 use cmm_tree::{CaseIndex, Param};
 use std::alloc::Global;
 
@@ -43,16 +43,16 @@ pub fn symbol<'t>(
 }
 
 /// The width at the front.
-fn width<'t>(source: &[u8], tokens: &'t [Token]) -> Result<(Width, &'t [Token]), Stop>
-    ensures { GivesReading (λ x. x.0) (λ x. trees source.now x.1.now) result
+fn width<'t>(source: &[u8], tokens: &'t [Token]) -> Result<(Width, &'t [Token]), UnexpectedToken>
+    ensures { ReadsTokens (λ x. x.0) (λ x. trees source.now x.1.now) result
         (one_by (λ t. width_of t.kind) (trees source.now tokens.now)) }
 {
     let Some((first, rest)) = tokens.split_first() else {
-        return Err(Stop::Unexpected { left: 0 });
+        return Err(UnexpectedToken { left: 0 });
     };
     match words::width_of(first.kind) {
         Some(width) => Ok((width, rest)),
-        None => Err(Stop::Unexpected { left: tokens.len() }),
+        None => Err(UnexpectedToken { left: tokens.len() }),
     }
 }
 
@@ -67,13 +67,16 @@ fn placed(chunk: Option<Chunk>, at: u32) -> PlacedChunk
 ///
 /// # Errors
 ///
-/// `Stop::Unexpected` where the text ends, or where no width follows `signed` or `unsigned`.
-pub fn chunk<'t>(source: &[u8], tokens: &'t [Token]) -> Result<(PlacedChunk, &'t [Token]), Stop>
-    ensures { GivesReading (λ x. chunk_part x.0) (λ x. trees source.now x.1.now) result
+/// `UnexpectedToken` where the text ends, or where no width follows `signed` or `unsigned`.
+pub fn chunk<'t>(
+    source: &[u8],
+    tokens: &'t [Token],
+) -> Result<(PlacedChunk, &'t [Token]), UnexpectedToken>
+    ensures { ReadsTokens (λ x. chunk_part x.0) (λ x. trees source.now x.1.now) result
         (chunk_at (trees source.now tokens.now)) }
 {
     let Some((first, rest)) = tokens.split_first() else {
-        return Err(Stop::Unexpected { left: 0 });
+        return Err(UnexpectedToken { left: 0 });
     };
     match words::chunk_word_of(first.kind) {
         Some(ChunkWord::Whole(chunk)) => Ok((placed(Some(chunk), first.at), rest)),

@@ -12,3 +12,4 @@ pub mod Definitions
 pub mod Groups
 pub mod Typing
 pub mod Light
+pub mod Checked

@@ -7,13 +7,12 @@ use Rattle.mach_ir.specs.Keeps.{Keeps}
 use Rattle.mach_ir.specs.Placed.{Colouring, IsProperColouring, WellPlaced, FullyPlaced}
 use Rattle.mach_ir.specs.Seats.{Seated}
 use Rattle.mach_ir.specs.Sizes.{Size, HasSize, OpenAtMost}
-use Rattle.mach_ir.specs.Walks.{IsRegister, NoAddrLive, Joined}
+use Rattle.mach_ir.specs.Walks.{IsRegister, Joined}
 use Rattle.mach_ir.specs.declared.reg.Reg.{Reg}
 use Rattle.mach_ir.specs.declared.mach.Mach.{Mach}
 use Rattle.colouring_rules.specs.Places.{LocationAssignment, IsProperAssignment, ColoursLow, with_colouring, SlotsGrow}
 use Rattle.colouring_rules.specs.Rest.{IsRestKept}
 use Rattle.colouring_rules.proofs.Text.{placed_formed}
-use Rattle.colouring_rules.proofs.Walked.{no_addr_before}
 use Rattle.colouring_rules.proofs.Whole.{placed_keeps, placed_fully, placed_seated, placed_size, placed_slots}
 
 module _ (m : Mach) (place : Colouring) (formed : WellFormed m) (well : WellPlaced m)
@@ -53,9 +52,6 @@ module _ (m : Mach) (place : Colouring) (formed : WellFormed m) (well : WellPlac
   pub coloured_seated : Seated m → Seated (with_colouring place m)
   coloured_seated seated = placed_seated m by_number formed well colouring_placing seated
 
-  pub coloured_no_addr : NoAddrLive m → NoAddrLive (with_colouring place m)
-  coloured_no_addr none = no_addr_before m by_number well colouring_placing none
-
   pub coloured_size : (s : Size) → HasSize m s → HasSize (with_colouring place m) s
   coloured_size s h = placed_size m by_number s h
 
@@ -65,12 +61,15 @@ module _ (m : Mach) (place : Colouring) (formed : WellFormed m) (well : WellPlac
   -- What is kept of it, where the registers of the colours are low.
   pub coloured_kept : ColoursLow m → IsRestKept m (with_colouring place m)
   coloured_kept low =
+      let placed = coloured_placed_after (λ r k c i o. let l = low r k c i o in omega (arith, l)) in
       record {
-        keeps = coloured_keeps;
-        formed = coloured_formed;
-        placed = coloured_placed_after (λ r k c i o. let l = low r k c i o in omega (arith, l));
-        seated = coloured_seated;
-        no_addr = coloured_no_addr;
+        pass = record {
+          keeps = coloured_keeps;
+          formed = coloured_formed;
+          placed = λ _. placed.well;
+          seated = coloured_seated;
+        };
+        placed = placed;
         size = coloured_size;
         slots = coloured_slots;
       }

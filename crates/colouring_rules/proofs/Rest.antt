@@ -3,19 +3,18 @@ use Rattle.std.proofs.Common.{◌≡◌, ℕ, ◌⊎◌, inl, inr, ⊎_elim, ref
 use Rattle.bs_words.specs.declared.types.Loc.{Loc}
 use Rattle.bs_words.specs.declared.types.Loc.TheVariants as loc
 use Rattle.mach_ir.specs.Formed.{WellFormed}
-use Rattle.mach_ir.specs.Keeps.{Keeps}
 use Rattle.mach_ir.specs.Placed.{HasColourOrSlot, in_colour, in_slot, MayShare, WellPlaced, FullyPlaced}
-use Rattle.mach_ir.specs.Seats.{Seated}
 use Rattle.mach_ir.specs.Sizes.{Size, HasSize, OpenAtMost}
-use Rattle.mach_ir.specs.Walks.{IsRegister, NoAddrLive, Joined}
+use Rattle.mach_ir.specs.Walks.{IsRegister, Joined}
 use Rattle.mach_ir.specs.declared.reg.Reg.{Reg}
 use Rattle.mach_ir.specs.declared.mach.Mach.{Mach}
 use Rattle.colouring_rules.specs.Places.{IsProperAssignment, located_register, or_slot, last_resort, rest_in_slots, SlotsGrow}
 use Rattle.colouring_rules.proofs.Text.{placed_formed}
 use Rattle.colouring_rules.proofs.Open.{machine_open, slot_open, machine_slot}
-use Rattle.colouring_rules.proofs.Walked.{colour_place, no_addr_before}
+use Rattle.colouring_rules.proofs.Walked.{colour_place}
 use Rattle.colouring_rules.proofs.Whole.{placed_keeps, placed_fully, placed_seated, placed_size, placed_slots}
 use Rattle.bs_words.proofs.Places.{same_slot}
+use Rattle.mach_laws.specs.Passes.{IsPassKept}
 
 -- ---- one register
 
@@ -82,9 +81,6 @@ module _ (m : Mach) (well : WellPlaced m) where
 
 module _ (m : Mach) (formed : WellFormed m) (well : WellPlaced m) where
   -- With the open ones in slots the function does what it did.
-  pub rest_keeps : Keeps m (rest_in_slots m)
-  rest_keeps = placed_keeps m last_resort formed well (rest_placing m well)
-
   -- Each register has a place, and joined ones are apart.
   pub rest_placed : FullyPlaced (rest_in_slots m)
   rest_placed =
@@ -93,14 +89,14 @@ module _ (m : Mach) (formed : WellFormed m) (well : WellPlaced m) where
       let at = colour_place well r c in
       (well.colours).least r k c i (same_colour_place m well k at.0 (e ∙ at.1) ∙ sym at.1))
 
-  pub rest_formed : WellFormed (rest_in_slots m)
-  rest_formed = placed_formed last_resort m formed
-
-  pub rest_seated : Seated m → Seated (rest_in_slots m)
-  rest_seated seated = placed_seated m last_resort formed well (rest_placing m well) seated
-
-  pub rest_no_addr : NoAddrLive m → NoAddrLive (rest_in_slots m)
-  rest_no_addr none = no_addr_before m last_resort well (rest_placing m well) none
+  pub rest_pass : IsPassKept m (rest_in_slots m)
+  rest_pass =
+      record {
+        keeps = placed_keeps m last_resort formed well (rest_placing m well);
+        formed = placed_formed last_resort m formed;
+        placed = λ _. rest_placed.well;
+        seated = λ seated. placed_seated m last_resort formed well (rest_placing m well) seated;
+      }
 
   pub rest_size : (s : Size) → HasSize m s → HasSize (rest_in_slots m) s
   rest_size s h = placed_size m last_resort s h

@@ -6,7 +6,7 @@ use Rattle.std.proofs.lemmas.List.Elements.{Contains-append_cases}
 use Rattle.bs_words.proofs.Lists.{none_in}
 use Rattle.comballoc_rules.specs.Combined.{joins, bytes_past, open_past, Scanned, allocation_scanned, scanned_at, scan_for_combining, combined}
 use Rattle.comballoc_rules.proofs.Registers.{Came, stays, opens, came, awaited, awaits_in}
-use Rattle.mach_ir.specs.Sizes.{operand_count, Size, HasSize, OpenAtMost}
+use Rattle.mach_ir.specs.Sizes.{operand_count, Size, HasSize}
 use Rattle.mach_ir.specs.Walks.{StandsAsInstr, here, below, InCode, in_args, in_results, further, IsRegister, is_param, is_colour, is_in_code}
 use Rattle.mach_ir.specs.declared.blocks.NewBlock.{NewBlock}
 use Rattle.mach_ir.specs.declared.op.Access.TheVariants as access
@@ -109,7 +109,3 @@ size m s h =
       origins = λ r i. h.origins r (register_before m r i);
       labels = h.labels;
     }
-
-pub open_registers : (m : Mach) (k : ℕ) → OpenAtMost m k → OpenAtMost (combined m) k
-open_registers m k h =
-    record { numbers = h.numbers; few = h.few; all = λ r i e. h.all r (register_before m r i) e }

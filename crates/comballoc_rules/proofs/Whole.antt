@@ -5,12 +5,14 @@ use Rattle.bs_words.specs.External.{External}
 use Rattle.bs_words.specs.declared.types.Comp.TheVariants as comp
 use Rattle.bs_words.proofs.Lists.{head_same, tail_same}
 use Rattle.comballoc_rules.specs.Combined.{Scanned, allocation, combined}
-use Rattle.comballoc_rules.specs.Kept.{IsCombinable}
+use Rattle.comballoc_rules.specs.Kept.{IsCombinable, IsCombineKept}
 use Rattle.comballoc_rules.proofs.Doing.{across_ends, across_opened, no_less}
 use Rattle.comballoc_rules.proofs.Live.{View, runs, ends, joined, opened, not_long, view, label_is, handler_is, tries_here, alloc_goes}
 use Rattle.comballoc_rules.proofs.Places.{scanned, merged, is_code}
 use Rattle.comballoc_rules.proofs.Registers.{Came, stays, opens, came}
-use Rattle.comballoc_rules.proofs.Sizes.{register_before}
+use Rattle.comballoc_rules.proofs.Formed.{combined_formed, combined_seated}
+use Rattle.comballoc_rules.proofs.Placed.{combined_placed}
+use Rattle.comballoc_rules.proofs.Sizes.{register_before, size}
 use Rattle.comballoc_rules.proofs.Trailing.{no_more}
 use Rattle.mach_ir.specs.Acts.{On, At}
 use Rattle.mach_ir.specs.Keeps.{IsNamedIn, NamesSymbol, NamesExternal, Keeps, MachSimulation}
@@ -25,6 +27,7 @@ use Rattle.mach_ir.specs.declared.mach.MachOp.TheVariants as mach
 use Rattle.mach_ir.specs.declared.mach.Instr.{Instr}
 use Rattle.mach_ir.specs.declared.mach.Mach.{Mach}
 use Rattle.mach_laws.specs.Expand.{expand, Ending, all}
+use Rattle.mach_laws.specs.Passes.{IsNoLarger}
 use Rattle.mach_laws.proofs.Level as level
 use Rattle.mach_laws.proofs.Places.{ending_next, ending_label, ending_from_handler, contains_of, stands_in}
 
@@ -189,3 +192,14 @@ module _ (m : Mach) where
           externals = λ row n. named_before (NamesExternal row) (no_external row) n;
           addrs = no_addr;
         }
+
+pub combined_smaller : (m : Mach) → IsNoLarger m (combined m)
+combined_smaller m = record { params = refl; registers = register_before m; size = size m }
+
+-- What a function keeps whose allocations are combined.
+pub combined_kept : (m : Mach) → IsCombinable m → IsCombineKept m (combined m)
+combined_kept m is =
+    record {
+      pass = record { keeps = keeps m is; formed = combined_formed m is; placed = combined_placed m is; seated = combined_seated m };
+      no_larger = combined_smaller m;
+    }

@@ -1,18 +1,16 @@
 -- What is kept of a function whose allocations are combined.
-use Rattle.std.specs.Prelude.{◌≡◌, ℕ, Bool, true, false, List, Contains}
+use Rattle.std.specs.Prelude.{◌≡◌, Bool, true, false, List, Contains}
 use Rattle.bs_words.specs.declared.types.Comp.{Comp}
 use Rattle.bs_words.specs.declared.types.Comp.TheVariants as comp
 use Rattle.comballoc_rules.specs.Neighbours.{Allocates}
 use Rattle.mach_ir.specs.Formed.{WellFormed}
-use Rattle.mach_ir.specs.Keeps.{Keeps}
-use Rattle.mach_ir.specs.Placed.{WellPlaced, AllocatesFresh}
-use Rattle.mach_ir.specs.Seats.{Seated}
-use Rattle.mach_ir.specs.Sizes.{Size, HasSize, OpenAtMost}
+use Rattle.mach_ir.specs.Placed.{AllocatesFresh}
 use Rattle.mach_ir.specs.Walks.{IsRegister}
 use Rattle.mach_ir.specs.declared.blocks.NewBlock.{NewBlock}
 use Rattle.mach_ir.specs.declared.reg.Reg.{Reg}
 use Rattle.mach_ir.specs.declared.mach.Instr.{Instr}
 use Rattle.mach_ir.specs.declared.mach.Mach.{Mach}
+use Rattle.mach_laws.specs.Passes.{IsPassKept, IsNoLarger}
 
 -- what the start of a block fits
 abbrev pub holds_block : Comp → Bool
@@ -31,18 +29,7 @@ pub record IsCombinable (m : Mach) : Type 0 where
   -- no register is made from another
   pub origins : (r : Reg) → IsRegister m r → r.origin ≡ r.number
 
--- The second is no larger, and none of its registers is new: so none gets a place.
-pub record IsNoLarger (m q : Mach) : Type 0 where
-  pub registers : (r : Reg) → IsRegister q r → IsRegister m r
-  pub size : (s : Size) → HasSize m s → HasSize q s
-  pub open_registers : (k : ℕ) → OpenAtMost m k → OpenAtMost q k
-
 -- what a function keeps whose allocations are combined
 pub record IsCombineKept (m q : Mach) : Type 0 where
-  -- it does the same, and no addr is live after a frame point where none was
-  pub keeps : Keeps m q
-  pub formed : WellFormed q
-  -- no two registers are joined at fixed places that were not before
-  pub placed : WellPlaced m → WellPlaced q
-  pub seated : Seated m → Seated q
+  pub pass : IsPassKept m q
   pub no_larger : IsNoLarger m q

@@ -12,7 +12,8 @@
 ghost use Rattle.std.specs.Prelude.{◌<◌, ◌≤◌, ◌+◌, ◌⊎◌, List, Contains};
 ghost use Rattle.comballoc_rules.specs.Combined.{combined};
 ghost use Rattle.comballoc_rules.specs.Neighbours.{Allocates, AreNeighbours};
-ghost use Rattle.comballoc_rules.specs.Kept.{IsCombinable, IsNoLarger, IsCombineKept};
+ghost use Rattle.comballoc_rules.specs.Kept.{IsCombinable, IsCombineKept};
+ghost use Rattle.mach_laws.specs.Passes.{IsNoLarger};
 ghost use Rattle.mach_ir.specs.Blocks.{total_block_bytes};
 ghost use Rattle.mach_ir.specs.Forms.{reservation_most};
 ghost use Rattle.mach_ir.specs.declared.blocks.NewBlock.{NewBlock};

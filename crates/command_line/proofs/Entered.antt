@@ -14,7 +14,7 @@ use Rattle.command_line.specs.declared.form.CommandWord.{CommandWord}
 use Rattle.command_line.specs.declared.form.Slot.{Slot}
 use Rattle.command_line.specs.Program.{HasText, id_of, program}
 use Rattle.command_line.specs.Words.{command_text, slots_of_command, IsForm}
-use Rattle.command_line.proofs.Walked.{are_taken}
+use Rattle.command_line.proofs.Matched.{are_taken}
 
 none_is : {X : Type 0} (x : X) → None ≡ Some x → ⊥
 none_is x e = cc

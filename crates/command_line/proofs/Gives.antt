@@ -1,5 +1,6 @@
 -- Which words give a slot a value.
 use Rattle.std.proofs.Common.{◌≡◌, ℕ, ◌+◌, ◌<◌, ◌≤◌, suc, zero, Bool, true, false, cond, List, [], ◌∷◌, ◌++◌, Contains, count_by, length, take, drop, get_or, nat_eq, refl, sym, ap, ◌∙◌, subst, arith, ◌⊎◌, inl, inr, Option, Some, None, Result, Ok, Err, MatchOption, IfOk}
+use Rattle.std.specs.Prelude.{OnErr}
 use Rattle.std.specs.Borrow.{Bor}
 use Rattle.std.specs.List.{starts_with}
 use Rattle.std.specs.Cmp.Lexicographic.{pointwise}
@@ -11,8 +12,6 @@ use Rattle.std.proofs.lemmas.List.Sums.{sum_by-cons, get_or-le-sum_by}
 use Rattle.command_line.specs.declared.form.Slot.{Slot}
 use Rattle.command_line.specs.declared.form.Slot.TheVariants.{Plain}
 use Rattle.std.specs.Option.{ok_or}
-use Rattle.command_line.specs.declared.command.WordsError.{WordsError}
-use Rattle.command_line.specs.declared.command.WordsError.TheVariants.{ValueText}
 use Rattle.command_line.specs.Command.{Sets, given, left_out, TellsSlot}
 use Rattle.command_line.specs.Program.{IsSlotText, word_gives, word_lacks, Defaults, default_texts}
 use Rattle.bs_words.specs.Symbol.{IsSymbol}
@@ -137,21 +136,22 @@ stands_nothing others slot Reads default v few d (word_lacks none is) refuses =
     let same : d.text ≡ v = first_same d.text v (sym d.is ∙ is) in
     absurd (refuses default (subst (λ t. Reads t default) same d.reads))
 
-pub sets_value : {X : Type 0} (others : List (List ℕ)) (slot : Slot) (Reads : List ℕ → X → Type 0) (default : X) (v : List ℕ)
-    → Defaults slot Reads default → IsSlotText others slot v → (o : Option X) (r : Result X WordsError) → r ≡ ok_or o ValueText
+pub sets_value : {X E : Type 0} (others : List (List ℕ)) (slot : Slot) (Reads : List ℕ → X → Type 0) (default : X) (v : List ℕ)
+    → Defaults slot Reads default → IsSlotText others slot v → (o : Option X) (r : Result X E) (b : E) → r ≡ ok_or o b
     → MatchOption o (Nothing (Reads v)) (λ x. Reads v x) → IfOk r (λ x. Sets others slot Reads default x)
-sets_value {X} others slot Reads default v d g (Some x) r e reads =
-    let P : Result X WordsError → Type 0 = λ t. IfOk t (λ y. Sets others slot Reads default y) in
+sets_value {X} {E} others slot Reads default v d g (Some x) r b e reads =
+    let P : Result X E → Type 0 = λ t. IfOk t (λ y. Sets others slot Reads default y) in
     subst P (sym e) (stands_sets others slot Reads default v d g x reads)
-sets_value {X} others slot Reads default v d g None r e reads =
-    let P : Result X WordsError → Type 0 = λ t. IfOk t (λ y. Sets others slot Reads default y) in subst P (sym e) tt
+sets_value {X} {E} others slot Reads default v d g None r b e reads =
+    let P : Result X E → Type 0 = λ t. IfOk t (λ y. Sets others slot Reads default y) in subst P (sym e) tt
 
-pub sets_bad : {X : Type 0} (others : List (List ℕ)) (slot : Slot) (Reads : List ℕ → X → Type 0) (default : X) (v : List ℕ)
-    → count_by (fills_slot slot) others ≤ 1 → Defaults slot Reads default → IsSlotText others slot v → (o : Option X) (r : Result X WordsError) → r ≡ ok_or o ValueText
-    → MatchOption o (Nothing (Reads v)) (λ x. Reads v x) → r ≡ Err ValueText → Nothing (Sets others slot Reads default)
-sets_bad {X} others slot Reads default v few d g (Some x) r e reads bad =
-    let clash : Ok x ≡ Err ValueText = sym e ∙ bad in cc
-sets_bad others slot Reads default v few d g None r e reads bad = stands_nothing others slot Reads default v few d g reads
+pub sets_bad : {X E : Type 0} (others : List (List ℕ)) (slot : Slot) (Reads : List ℕ → X → Type 0) (default : X) (v : List ℕ)
+    → count_by (fills_slot slot) others ≤ 1 → Defaults slot Reads default → IsSlotText others slot v → (o : Option X) (r : Result X E) (b : E) → r ≡ ok_or o b
+    → MatchOption o (Nothing (Reads v)) (λ x. Reads v x) → OnErr r (Nothing (Sets others slot Reads default))
+sets_bad {X} {E} others slot Reads default v few d g (Some x) r b e reads =
+    let P : Result X E → Type 0 = λ t. OnErr t (Nothing (Sets others slot Reads default)) in subst P (sym e) tt
+sets_bad {X} {E} others slot Reads default v few d g None r b e reads =
+    let P : Result X E → Type 0 = λ t. OnErr t (Nothing (Sets others slot Reads default)) in subst P (sym e) (stands_nothing others slot Reads default v few d g reads)
 
 pub sets_each : {X Y E : Type 0} (others : List (List ℕ)) (slot : Slot) (Reads : List ℕ → X → Type 0) (default : X) (v : List ℕ) (f : Y → X)
     → Defaults slot Reads default → IsSlotText others slot v → (r : Result Y E) → IfOk r (λ y. Reads v (f y)) → IfOk r (λ y. Sets others slot Reads default (f y))
@@ -184,18 +184,19 @@ tells_nothing others slot Reads v few g refuses x tells =
     let P : List ℕ → Type 0 = λ u. Reads u x in
     refuses x (subst P (gives-unique slot others tells.value v few tells.gives g) tells.reads)
 
-pub tells_value : {X : Type 0} (others : List (List ℕ)) (slot : Slot) (Reads : List ℕ → X → Type 0) (v : List ℕ)
-    → GivesSlot others slot v → (o : Option X) (r : Result X WordsError) → r ≡ ok_or o ValueText
+pub tells_value : {X E : Type 0} (others : List (List ℕ)) (slot : Slot) (Reads : List ℕ → X → Type 0) (v : List ℕ)
+    → GivesSlot others slot v → (o : Option X) (r : Result X E) (b : E) → r ≡ ok_or o b
     → MatchOption o (Nothing (Reads v)) (λ x. Reads v x) → IfOk r (λ x. TellsSlot others slot Reads x)
-tells_value {X} others slot Reads v g (Some x) r e reads =
-    let P : Result X WordsError → Type 0 = λ t. IfOk t (λ y. TellsSlot others slot Reads y) in
+tells_value {X} {E} others slot Reads v g (Some x) r b e reads =
+    let P : Result X E → Type 0 = λ t. IfOk t (λ y. TellsSlot others slot Reads y) in
     subst P (sym e) (record { value = v; gives = g; reads = reads })
-tells_value {X} others slot Reads v g None r e reads =
-    let P : Result X WordsError → Type 0 = λ t. IfOk t (λ y. TellsSlot others slot Reads y) in subst P (sym e) tt
+tells_value {X} {E} others slot Reads v g None r b e reads =
+    let P : Result X E → Type 0 = λ t. IfOk t (λ y. TellsSlot others slot Reads y) in subst P (sym e) tt
 
-pub tells_bad : {X : Type 0} (others : List (List ℕ)) (slot : Slot) (Reads : List ℕ → X → Type 0) (v : List ℕ)
-    → count_by (fills_slot slot) others ≤ 1 → GivesSlot others slot v → (o : Option X) (r : Result X WordsError) → r ≡ ok_or o ValueText
-    → MatchOption o (Nothing (Reads v)) (λ x. Reads v x) → r ≡ Err ValueText → Nothing (TellsSlot others slot Reads)
-tells_bad {X} others slot Reads v few g (Some x) r e reads bad =
-    let clash : Ok x ≡ Err ValueText = sym e ∙ bad in cc
-tells_bad others slot Reads v few g None r e reads bad = tells_nothing others slot Reads v few g reads
+pub tells_bad : {X E : Type 0} (others : List (List ℕ)) (slot : Slot) (Reads : List ℕ → X → Type 0) (v : List ℕ)
+    → count_by (fills_slot slot) others ≤ 1 → GivesSlot others slot v → (o : Option X) (r : Result X E) (b : E) → r ≡ ok_or o b
+    → MatchOption o (Nothing (Reads v)) (λ x. Reads v x) → OnErr r (Nothing (TellsSlot others slot Reads))
+tells_bad {X} {E} others slot Reads v few g (Some x) r b e reads =
+    let P : Result X E → Type 0 = λ t. OnErr t (Nothing (TellsSlot others slot Reads)) in subst P (sym e) tt
+tells_bad {X} {E} others slot Reads v few g None r b e reads =
+    let P : Result X E → Type 0 = λ t. OnErr t (Nothing (TellsSlot others slot Reads)) in subst P (sym e) (tells_nothing others slot Reads v few g reads)

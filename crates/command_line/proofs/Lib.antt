@@ -3,6 +3,7 @@ mod Cuts
 mod Defaults
 mod Entered
 mod Gives
+mod Matched
 mod Numbers
 pub mod Order
 mod Tested

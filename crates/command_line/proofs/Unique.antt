@@ -11,7 +11,7 @@ use Rattle.stages.specs.declared.stage.Stage.{Stage}
 use Rattle.stages.specs.declared.stage.Stage.TheVariants as stage
 use Rattle.command_line.specs.declared.command.Moves.{Moves}
 use Rattle.command_line.specs.declared.command.Moves.TheVariants.{Seed}
-use Rattle.command_line.specs.Command.{CommandTree, CompileCommand, RunCommand, CheckCommand, ListCommand, RunTree, CheckTree, IsRun, IsCheck, Means, IsCommand, compile, run, check, list, soak, default_jobs, default_steps, default_size, default_moves, Sets, given, left_out, TellsSlot, WithinLimits, WithinFuel, KeepsLimits}
+use Rattle.command_line.specs.Command.{CommandTree, CompileCommand, RunCommand, CheckCommand, ListCommand, RunTree, CheckTree, IsRun, IsCheck, Means, IsCommand, compile, run, check, list, soak, default_jobs, default_steps, default_size, default_moves, Sets, given, left_out, TellsSlot, MayWantMemory, WithinLimits, WithinFuel, KeepsLimits}
 use Rattle.rv_machine.specs.Places.{most_room}
 use Rattle.command_line.specs.Values.{Nothing, IsSteps, IsSize, IsMoves, never, every, seeded, SeedsMoves, seed, IsItems, IsCounted, IsSeed, IsStage, stage_word, decimal_number, most_steps, most_jobs, most_functions}
 use Rattle.command_line.specs.View.{view}
@@ -203,6 +203,9 @@ means_at others command w tree e means = let P : CommandWord → Type 0 = λ c. 
 
 pub nothing_at : (others : List (List ℕ)) (command w : CommandWord) → command ≡ w → Nothing (Means others w) → Nothing (Means others command)
 nothing_at others command w e none = let P : CommandWord → Type 0 = λ c. Nothing (Means others c) in subst P (sym e) none
+
+pub memory_at : (others : List (List ℕ)) (command w : CommandWord) → command ≡ w → MayWantMemory others w → MayWantMemory others command
+memory_at others command w e wants = let P : CommandWord → Type 0 = MayWantMemory others in subst P (sym e) wants
 
 pub form_at : (others : List (List ℕ)) (command w : CommandWord) → command ≡ w → IsForm command others → IsForm w others
 form_at others command w e form = let P : CommandWord → Type 0 = λ c. IsForm c others in subst P e form

@@ -1,6 +1,6 @@
 -- What the parser makes of words of the form.
-use Rattle.std.proofs.Common.{lit<, option_and_then, slice_get, All, Contains, count_by, IsTrue, ◌≡◌, ◌∙◌, ◌<◌, ◌≤◌, ◌+◌, ◌*◌, ◌==◌, ◌&&◌, ◌||◌, if◌then◌else◌, ℕ, Bool, true, false, not, cond, zero, suc, refl, sym, ap, ap₂, subst, arith, List, [], ◌∷◌, ◌++◌, map, length, get_or, codes, fold, Option, Some, None, is_some, unwrap_or, bytes_eq, nat_eq, ◌⊎◌, inl, inr, append-nil, append_assoc, eqb-true}
-use Rattle.std.specs.List.{find, list_all, list_any}
+use Rattle.std.proofs.Common.{option_and_then, slice_get, All, Contains, count_by, IsTrue, ◌≡◌, ◌∙◌, ◌<◌, ◌≤◌, ◌+◌, ◌*◌, ◌==◌, ◌&&◌, ◌||◌, if◌then◌else◌, ℕ, Bool, true, false, not, cond, zero, suc, refl, sym, ap, ap₂, subst, arith, List, [], ◌∷◌, ◌++◌, map, length, get_or, codes, fold, Option, Some, None, is_some, unwrap_or, bytes_eq, nat_eq, ◌⊎◌, inl, inr, append-nil, append_assoc, eqb-true}
+use Rattle.std.specs.List.{find, list_any}
 use Rattle.std.specs.Option.{option_map_or}
 use Rattle.std.proofs.lemmas.Bool.{both_ways, cases_Bool}
 use Rattle.std.proofs.lemmas.Slice.Eq.{bytes_eq-Decides}
@@ -8,22 +8,21 @@ use Rattle.std.proofs.lemmas.List.{map-append}
 use Rattle.std.proofs.lemmas.List.Elements.{All-head, All-tail}
 use Rattle.std.proofs.lemmas.List.Sums.{sum_by-cons}
 use Rattle.clap.specs.Lexer.{long_of, short_of}
-use Rattle.clap.specs.Walk.{Row, Rule, Text, Walk, Held, idle, walked, walk, walk_from, nothing_held, settled_rows, used, used_by_id, with_values, without, at_row, has_row, more_values, arg_by_id, arg_by_index, arg_by_long, after_step, after_flag, long_met, long_or_other, trailing, short_or_plain, to_positional, pushed, settled, is_pending, with_default, default_rows, reading_by, finished, rows_after, first_of, Step, Outcome}
+use Rattle.clap.specs.Walk.{Row, Rule, Text, Walk, Held, idle, walked, walk, walk_from, nothing_held, settled_rows, used, used_by_id, with_values, without, at_row, has_row, more_values, arg_by_id, arg_by_index, arg_by_long, after_step, after_flag, long_met, long_or_other, trailing, short_or_plain, to_positional, pushed, settled, is_pending, finished, rows_after, first_of, Step, Outcome}
 use Rattle.clap.specs.Simple.{App, Shape, new_shape, built, names_of, entered, is_simple, subcommand_of}
-use Rattle.clap.specs.Takes.{takes, walk_passes, turn_passes, settle_passes, use_passes, flag_word_passes, bundle_passes, positional_passes, long_passes, step_passes, level_passes, entered_passes, default_passes, is_valid}
+use Rattle.clap.specs.Takes.{takes, walk_passes, turn_passes, settle_passes, use_passes, flag_word_passes, bundle_passes, positional_passes, long_passes, step_passes, level_passes, entered_passes, is_valid}
 use Rattle.clap.proofs.WalkLemmas.{walk_stopped}
 use Rattle.clap.specs.declared.builder.action.ArgAction.TheVariants as action
 use Rattle.clap.specs.declared.builder.value_parser.ValueParser.TheVariants as parser
-use Rattle.clap.specs.declared.builder.value_parser.Reading.{Reading}
 use Rattle.clap.specs.declared.builder.value_parser.Reading.TheVariants.{AsWritten}
-use Rattle.clap.specs.declared.parser.matches.ValueSource.TheVariants.{CommandLine, DefaultValue}
+use Rattle.clap.specs.declared.parser.matches.ValueSource.TheVariants.{CommandLine}
 use Rattle.command_line.specs.declared.form.CommandWord.{CommandWord}
 use Rattle.command_line.specs.declared.form.CommandWord.TheVariants as word
 use Rattle.command_line.specs.declared.form.Slot.{Slot}
 use Rattle.command_line.specs.declared.form.Slot.TheVariants.{Plain, Args, Answers, Steps, Stack, Heap, Moves, Fuel, Jobs, Seed, Functions}
-use Rattle.command_line.specs.Words.{command_text, slots_of_command, prefix_of, fills_slot, IsForm, GivesSlot}
-use Rattle.command_line.proofs.Gives.{starts_cut, wanted_given}
-use Rattle.command_line.specs.Program.{id_of, default_texts, option_rule, slot_rule, program, word_gives, word_lacks, HasText, AreTaken}
+use Rattle.command_line.specs.Words.{command_text, slots_of_command, prefix_of, fills_slot, GivesSlot}
+use Rattle.command_line.proofs.Gives.{starts_cut}
+use Rattle.command_line.specs.Program.{id_of, default_texts, option_rule, slot_rule, program}
 
 -- ---- a slot's name identifies the slot
 
@@ -49,7 +48,7 @@ told_slot Jobs = refl
 told_slot Seed = refl
 told_slot Functions = refl
 
-slot-unique : (s t : Slot) → id_of s ≡ id_of t → s ≡ t
+pub slot-unique : (s t : Slot) → id_of s ≡ id_of t → s ≡ t
 slot-unique s t e = sym (told_slot s) ∙ (ap (λ name. slot_by (mark name)) e ∙ told_slot t)
 
 -- ---- the command as it is built
@@ -69,14 +68,14 @@ built_plain = record (slot_rule Plain) {
   index = Some 1;
 }
 
-abbrev built_rule : Slot → Rule
+abbrev pub built_rule : Slot → Rule
 built_rule Plain = built_plain
 built_rule slot = built_option (id_of slot) (default_texts slot)
 
-abbrev rules_at : CommandWord → List Rule
+abbrev pub rules_at : CommandWord → List Rule
 rules_at command = map built_rule (slots_of_command command)
 
-abbrev level_shape : Text → List Rule → Shape
+abbrev pub level_shape : Text → List Rule → Shape
 level_shape name rules = record (new_shape name) {
   rules = rules;
   no_binary_name = true;
@@ -87,7 +86,7 @@ level_shape name rules = record (new_shape name) {
 
 -- ---- what is known of the words of a slot
 
-data Known (rules : List Rule) : Slot → Type 0 where
+pub data Known (rules : List Rule) : Slot → Type 0 where
   plain : arg_by_index rules 1 ≡ Some built_plain → arg_by_id rules (id_of Plain) ≡ Some built_plain → Known rules Plain
   option : (slot : Slot)
       → ((v : Text) → long_of (prefix_of slot ++ v) ≡ Some (id_of slot, Some v))
@@ -95,11 +94,11 @@ data Known (rules : List Rule) : Slot → Type 0 where
       → arg_by_long rules (id_of slot) ≡ Some (built_option (id_of slot) (default_texts slot))
       → Known rules slot
 
-abbrev ForEach : (Slot → Type 0) → List Slot → Type 0
+abbrev pub ForEach : (Slot → Type 0) → List Slot → Type 0
 ForEach P [] = Unit {0}
 ForEach P (slot ∷ slots) = P slot × ForEach P slots
 
-known_each : (command : CommandWord) → ForEach (Known (rules_at command)) (slots_of_command command)
+pub known_each : (command : CommandWord) → ForEach (Known (rules_at command)) (slots_of_command command)
 known_each word.Compile = (option Jobs (λ v. refl) (λ v. refl) refl, tt)
 known_each word.Run = (
   plain refl refl,
@@ -202,7 +201,7 @@ is_taken command others e =
 abbrev row_with : Text → Text → Row
 row_with id v = record { id = id; values = v ∷ []; count = None; source = Some CommandLine; reading = AsWritten }
 
-at_row_fresh : (id : Text) (change : Row → List Row) (missing rows : List Row) → has_row id rows ≡ false → at_row id change missing rows ≡ rows ++ missing
+pub at_row_fresh : (id : Text) (change : Row → List Row) (missing rows : List Row) → has_row id rows ≡ false → at_row id change missing rows ≡ rows ++ missing
 at_row_fresh id change missing [] e = refl
 at_row_fresh id change missing (r ∷ rs) e = go (bytes_eq r.id id) e (at_row_fresh id change missing rs)
   where
@@ -218,7 +217,7 @@ with_fresh id v rows e =
     ap (λ xs. with_values id AsWritten CommandLine (v ∷ []) xs) kept
     ∙ at_row_fresh id (more_values CommandLine (v ∷ [])) (row_with id v ∷ []) rows e
 
-has_row-append : (id : Text) (r : Row) (rows : List Row) → has_row id (rows ++ r ∷ []) ≡ (has_row id rows || bytes_eq r.id id)
+pub has_row-append : (id : Text) (r : Row) (rows : List Row) → has_row id (rows ++ r ∷ []) ≡ (has_row id rows || bytes_eq r.id id)
 has_row-append id r [] = go (bytes_eq r.id id)
   where
     go : (b : Bool) → (b || false) ≡ b
@@ -248,14 +247,14 @@ abbrev stand : List Row → Option (Text × List Text) → ℕ → Walk
 stand rows pending position = record { held = held_at rows pending; waiting = idle; position = position; is_trailing = false; stopped = None }
 
 -- where the walk is after words whose rows these are
-record At (rules : List Rule) (w : Walk) (rows : List Row) : Type 0 where
-  kept : List Row
-  pending : Option (Text × List Text)
-  position : ℕ
-  is : ◌≡◌ {A = Walk} w (stand kept pending position)
-  rows_are : settled_rows rules pending kept ≡ rows
-  passes : settle_passes rules false (held_at kept pending) ≡ true
-  first : has_row (id_of Plain) rows ≡ false → position ≡ 1
+pub record At (rules : List Rule) (w : Walk) (rows : List Row) : Type 0 where
+  pub kept : List Row
+  pub pending : Option (Text × List Text)
+  pub position : ℕ
+  pub is : ◌≡◌ {A = Walk} w (stand kept pending position)
+  pub rows_are : settled_rows rules pending kept ≡ rows
+  pub passes : settle_passes rules false (held_at kept pending) ≡ true
+  pub first : has_row (id_of Plain) rows ≡ false → position ≡ 1
 
 -- a plain word is no flag
 record NoFlag (text : Text) : Type 0 where
@@ -282,7 +281,7 @@ key_of (Some p) word = (p.0, unwrap_or p.1 [])
 abbrev key : Text → Text × Text
 key word = key_of (long_of word) word
 
-abbrev row_for : Text → Row
+abbrev pub row_for : Text → Row
 row_for word = row_with (key word).0 (key word).1
 
 key_is : (rules : List Rule) (slot : Slot) (v : Text) → Known rules slot → fills_slot slot (prefix_of slot ++ v) ≡ true
@@ -291,7 +290,7 @@ key_is rules slot v (option _ long dashes found) fits = ap (λ o. key_of o (pref
 key_is rules _ v (plain found by_id) fits = ap (λ o. key_of o v) (no_flag v fits).long
 
 -- a word is for a slot for which no other of the words is
-record Cut (rules : List Rule) (all : List Text) (text : Text) : Type 0 where
+pub record Cut (rules : List Rule) (all : List Text) (text : Text) : Type 0 where
   slot : Slot
   value : Text
   known : Known rules slot
@@ -456,7 +455,7 @@ module _ (rules : List Rule) (name : Text) where
       let as_text : Q start text (row_for text) = subst (λ t. Q start t (row_for t)) (sym cut.is) as_row in
       subst (λ v. Q v text (row_for text)) (sym at.is) as_text
 
-  goes : (all words done : List Text) (w : Walk) → At rules w (map row_for done) → AllCut rules all words → Fresh done words
+  pub goes : (all words done : List Text) (w : Walk) → At rules w (map row_for done) → AllCut rules all words → Fresh done words
       → At rules (fold (walked rules []) w words) (map row_for (done ++ words)) × (walk_passes level [] w words ≡ true)
   unfolding walk_passes
   goes all [] done w at cuts fresh = (subst (λ d. At rules w (map row_for d)) (sym (append-nil done)) at, refl)
@@ -504,7 +503,7 @@ cut-push : (rules : List Rule) (all done : List Text) (x : Text) → AllCut rule
 cut-push rules all [] x cuts cut = (cut, tt)
 cut-push rules all (y ∷ ys) x cuts cut = (cuts.0, cut-push rules all ys x cuts.1 cut)
 
-fresh_words : (rules : List Rule) (all words done : List Text) → all ≡ done ++ words → AllCut rules all done → AllCut rules all words → Fresh done words
+pub fresh_words : (rules : List Rule) (all words done : List Text) → all ≡ done ++ words → AllCut rules all done → AllCut rules all words → Fresh done words
 fresh_words rules all [] done e dones cuts = tt
 fresh_words rules all (x ∷ xs) done e dones cuts =
     let slot = cuts.0.slot in
@@ -528,7 +527,7 @@ fresh_words rules all (x ∷ xs) done e dones cuts =
 
 -- ---- the form gives each word its slot
 
-cut_value : (slot : Slot) (text : Text) → fills_slot slot text ≡ true → (value : Text) × (text ≡ prefix_of slot ++ value)
+pub cut_value : (slot : Slot) (text : Text) → fills_slot slot text ≡ true → (value : Text) × (text ≡ prefix_of slot ++ value)
 cut_value Plain text e = (text, refl)
 cut_value Args text e = starts_cut (prefix_of Args) text e
 cut_value Answers text e = starts_cut (prefix_of Answers) text e
@@ -544,7 +543,7 @@ cut_value Functions text e = starts_cut (prefix_of Functions) text e
 abbrev Fit : List Rule → List Text → Slot → Type 0
 Fit rules all slot = Known rules slot × (count_by (fills_slot slot) all ≤ 1)
 
-fit_each : (rules : List Rule) (all : List Text) (slots : List Slot) → ForEach (Known rules) slots → All (λ slot. count_by (fills_slot slot) all ≤ 1) slots
+pub fit_each : (rules : List Rule) (all : List Text) (slots : List Slot) → ForEach (Known rules) slots → All (λ slot. count_by (fills_slot slot) all ≤ 1) slots
     → ForEach (Fit rules all) slots
 fit_each rules all [] known few = tt
 fit_each rules all (s ∷ ss) known few =
@@ -568,7 +567,7 @@ some_fit rules all (s ∷ ss) fits text e = elim (cases_Bool (fills_slot s text)
   | inr other ↦ some_fit rules all ss fits.1 text (sym (ap (λ b. b || list_any (λ slot. fills_slot slot text) ss) other) ∙ e)
 ]
 
-all_cut : (command : CommandWord) (all words : List Text) → ForEach (Fit (rules_at command) all) (slots_of_command command)
+pub all_cut : (command : CommandWord) (all words : List Text) → ForEach (Fit (rules_at command) all) (slots_of_command command)
     → All (λ text. IsTrue (list_any (λ slot. fills_slot slot text) (slots_of_command command))) words → AllCut (rules_at command) all words
 all_cut command all [] fits each = tt
 all_cut command all (x ∷ xs) fits each =
@@ -577,7 +576,7 @@ all_cut command all (x ∷ xs) fits each =
 
 -- ---- what the rows of the words say of a slot
 
-abbrev LookedUp : List Text → Slot → Option Text → Type 0
+abbrev pub LookedUp : List Text → Slot → Option Text → Type 0
 LookedUp words slot (Some v) = GivesSlot words slot v
 LookedUp words slot None = (v : Text) → GivesSlot words slot v → ⊥
 
@@ -587,13 +586,13 @@ Contains-cases x xs y c = elim c.0 as (λ k. k < length (x ∷ xs) → get_or (x
   | suc k ↦ λ h e. inr (k, omega arith, e)
 ] c.1 c.2
 
-slot_cases : (x : Slot) (xs : List Slot) (y : Slot) → Contains (x ∷ xs) y → (x ≡ y) ⊎ Contains xs y
+pub slot_cases : (x : Slot) (xs : List Slot) (y : Slot) → Contains (x ∷ xs) y → (x ≡ y) ⊎ Contains xs y
 slot_cases x xs y c = elim c.0 as (λ k. k < length (x ∷ xs) → get_or (x ∷ xs) k y ≡ y → (x ≡ y) ⊎ Contains xs y) [
   | zero ↦ λ _ e. inl e
   | suc k ↦ λ h e. inr (k, omega arith, e)
 ] c.1 c.2
 
-lookup : (rules : List Rule) (all words : List Text) → AllCut rules all words → (slot : Slot) → Known rules slot
+pub lookup : (rules : List Rule) (all words : List Text) → AllCut rules all words → (slot : Slot) → Known rules slot
     → LookedUp words slot (first_of (id_of slot) (map row_for words))
 lookup rules all [] cuts slot known = λ v g. let h : g.0.0 < 0 = g.0.1 in omega arith
 lookup rules all (x ∷ xs) cuts slot known = elim (cases_Bool (bytes_eq (key x).0 (id_of slot))) [
@@ -622,7 +621,7 @@ lookup rules all (x ∷ xs) cuts slot known = elim (cases_Bool (bytes_eq (key x)
     ]
 
 -- a row of the words has a value
-present : (id : Text) (words : List Text) → has_row id (map row_for words) ≡ is_some (first_of id (map row_for words))
+pub present : (id : Text) (words : List Text) → has_row id (map row_for words) ≡ is_some (first_of id (map row_for words))
 present id [] = refl
 present id (x ∷ xs) = go (bytes_eq (key x).0 id) (present id xs)
   where
@@ -631,223 +630,3 @@ present id (x ∷ xs) = go (bytes_eq (key x).0 id) (present id xs)
         ≡ is_some (option_and_then (λ (r : Row). slice_get r.values 0) (cond b (Some (row_for x)) (find (λ (r : Row). bytes_eq r.id id) (map row_for xs))))
     go true e = refl
     go false e = e
-
--- ---- defaults
-
-first_of-append : (id : Text) (rows more : List Row) → has_row id rows ≡ true → first_of id (rows ++ more) ≡ first_of id rows
-first_of-append id [] more e = absurd (both_ways false refl e)
-first_of-append id (r ∷ rs) more e = go (bytes_eq r.id id) e (first_of-append id rs more)
-  where
-    go : (b : Bool) → (b || has_row id rs) ≡ true → (has_row id rs ≡ true → first_of id (rs ++ more) ≡ first_of id rs)
-        → option_and_then (λ (x : Row). slice_get x.values 0) (cond b (Some r) (find (λ (x : Row). bytes_eq x.id id) (rs ++ more)))
-        ≡ option_and_then (λ (x : Row). slice_get x.values 0) (cond b (Some r) (find (λ (x : Row). bytes_eq x.id id) rs))
-    go true f rest = refl
-    go false f rest = rest f
-
-first_of-last : (id : Text) (r : Row) (rows : List Row) → has_row id rows ≡ false → bytes_eq r.id id ≡ true → first_of id (rows ++ r ∷ []) ≡ slice_get r.values 0
-first_of-last id r [] none same = rw same refl
-first_of-last id r (x ∷ xs) none same = go (bytes_eq x.id id) none (λ f. first_of-last id r xs f same)
-  where
-    go : (b : Bool) → (b || has_row id xs) ≡ false → (has_row id xs ≡ false → first_of id (xs ++ r ∷ []) ≡ slice_get r.values 0)
-        → option_and_then (λ (y : Row). slice_get y.values 0) (cond b (Some x) (find (λ (y : Row). bytes_eq y.id id) (xs ++ r ∷ []))) ≡ slice_get r.values 0
-    go true f rest = absurd (both_ways true f refl)
-    go false f rest = rest f
-
-abbrev default_row : Text → Reading → Text → List Text → Row
-default_row id how v vs = record { id = id; values = v ∷ vs; count = None; source = Some DefaultValue; reading = how }
-
--- where a rule's argument has no row, its default is the last row
-defaulted : (a : Rule) (rows : List Row) (v : Text) (vs : List Text) → has_row a.id rows ≡ false → a.defaults ≡ v ∷ vs
-    → with_default rows a ≡ rows ++ default_row a.id (reading_by a) v vs ∷ []
-defaulted a rows v vs none is =
-    ap₂ (λ b ds. cond b rows (default_rows a.id (reading_by a) ds rows)) none is
-    ∙ at_row_fresh a.id (more_values DefaultValue (v ∷ vs)) (default_row a.id (reading_by a) v vs ∷ []) rows none
-
-undefaulted : (a : Rule) (rows : List Row) → a.defaults ≡ [] → with_default rows a ≡ rows
-undefaulted a rows is = ap (λ ds. cond (has_row a.id rows) rows (default_rows a.id (reading_by a) ds rows)) is ∙ same (has_row a.id rows)
-  where
-    same : (b : Bool) → cond b rows rows ≡ rows
-    same true = refl
-    same false = refl
-
-list_cases : (xs : List Text) → (xs ≡ []) ⊎ ((v : Text) × (vs : List Text) × (xs ≡ v ∷ vs))
-list_cases [] = inl refl
-list_cases (v ∷ vs) = inr (v, vs, refl)
-
--- a row that is there stays the first of its id
-keeps_row : (id : Text) (a : Rule) (rows : List Row) → has_row id rows ≡ true
-    → (has_row id (with_default rows a) ≡ true) × (first_of id (with_default rows a) ≡ first_of id rows)
-keeps_row id a rows there = elim (cases_Bool (has_row a.id rows)) [
-  | inl old ↦
-      let same : with_default rows a ≡ rows = rw old refl in
-      (ap (has_row id) same ∙ there, ap (first_of id) same)
-  | inr new ↦ elim (list_cases a.defaults) [
-    | inl none ↦ let same = undefaulted a rows none in (ap (has_row id) same ∙ there, ap (first_of id) same)
-    | inr some ↦
-        let r = default_row a.id (reading_by a) some.0 some.1 in
-        let is = defaulted a rows some.0 some.1 new some.2 in (
-          ap (has_row id) is ∙ (has_row-append id r rows ∙ ap (λ b. b || bytes_eq r.id id) there),
-          ap (first_of id) is ∙ first_of-append id rows (r ∷ []) there,
-        )
-  ]
-]
-
-keeps_all : (id : Text) (rules : List Rule) (rows : List Row) → has_row id rows ≡ true → first_of id (fold with_default rows rules) ≡ first_of id rows
-keeps_all id [] rows there = refl
-keeps_all id (a ∷ rules) rows there =
-    let kept = keeps_row id a rows there in keeps_all id rules (with_default rows a) kept.0 ∙ kept.1
-
--- a default of another argument is no row of this one
-lacks_row : (id : Text) (a : Rule) (rows : List Row) → has_row id rows ≡ false → bytes_eq a.id id ≡ false → has_row id (with_default rows a) ≡ false
-lacks_row id a rows none other = elim (cases_Bool (has_row a.id rows)) [
-  | inl old ↦ let same : with_default rows a ≡ rows = rw old refl in ap (has_row id) same ∙ none
-  | inr new ↦ elim (list_cases a.defaults) [
-    | inl empty ↦ ap (has_row id) (undefaulted a rows empty) ∙ none
-    | inr some ↦
-        let r = default_row a.id (reading_by a) some.0 some.1 in
-        ap (has_row id) (defaulted a rows some.0 some.1 new some.2) ∙ (has_row-append id r rows ∙ ap₂ (λ b c. b || c) none other)
-  ]
-]
-
-rule_is : (slot : Slot) → ((built_rule slot).id ≡ id_of slot) × ((built_rule slot).defaults ≡ default_texts slot)
-rule_is Plain = (refl, refl)
-rule_is Args = (refl, refl)
-rule_is Answers = (refl, refl)
-rule_is Steps = (refl, refl)
-rule_is Stack = (refl, refl)
-rule_is Heap = (refl, refl)
-rule_is Moves = (refl, refl)
-rule_is Fuel = (refl, refl)
-rule_is Jobs = (refl, refl)
-rule_is Seed = (refl, refl)
-rule_is Functions = (refl, refl)
-
-other_rule : (slot s : Slot) → bytes_eq (id_of s) (id_of slot) ≡ false → bytes_eq (built_rule s).id (id_of slot) ≡ false
-other_rule slot s e = ap (λ t. bytes_eq t (id_of slot)) (rule_is s).0 ∙ e
-
-same_slot : (slot s : Slot) → bytes_eq (id_of s) (id_of slot) ≡ true → s ≡ slot
-same_slot slot s e = slot-unique s slot ((bytes_eq-Decides (id_of s) (id_of slot)).0 e)
-
-some_default : (slot : Slot) (text : Text) → default_texts slot ≡ text ∷ [] → (slots : List Slot) → Contains slots slot → (rows : List Row)
-    → has_row (id_of slot) rows ≡ false → first_of (id_of slot) (fold with_default rows (map built_rule slots)) ≡ Some text
-some_default slot text is [] there rows none = let h : there.0 < 0 = there.1 in absurd (omega arith)
-some_default slot text is (s ∷ ss) there rows none = elim (cases_Bool (bytes_eq (id_of s) (id_of slot))) [
-  | inl same ↦
-      let id : (built_rule s).id ≡ id_of slot = (rule_is s).0 ∙ (bytes_eq-Decides (id_of s) (id_of slot)).0 same in
-      let defaults : (built_rule s).defaults ≡ text ∷ [] = (rule_is s).1 ∙ (ap default_texts (same_slot slot s same) ∙ is) in
-      let r = default_row (built_rule s).id (reading_by (built_rule s)) text [] in
-      let added = defaulted (built_rule s) rows text [] (ap (λ t. has_row t rows) id ∙ none) defaults in
-      let own : bytes_eq r.id (id_of slot) ≡ true = (bytes_eq-Decides (built_rule s).id (id_of slot)).1 id in
-      let now : has_row (id_of slot) (with_default rows (built_rule s)) ≡ true =
-      ap (has_row (id_of slot)) added ∙ (has_row-append (id_of slot) r rows ∙ ap₂ (λ b c. b || c) none own) in
-      keeps_all (id_of slot) (map built_rule ss) (with_default rows (built_rule s)) now
-      ∙ (ap (first_of (id_of slot)) added ∙ first_of-last (id_of slot) r rows none own)
-  | inr other ↦
-      let left : Contains ss slot = elim (slot_cases s ss slot there) [
-        | inl here ↦ absurd (both_ways _ other ((bytes_eq-Decides (id_of s) (id_of slot)).1 (ap id_of here)))
-        | inr later ↦ later
-      ] in
-      some_default slot text is ss left (with_default rows (built_rule s)) (lacks_row (id_of slot) (built_rule s) rows none (other_rule slot s other))
-]
-
-default_form : (slot : Slot) → (default_texts slot ≡ []) ⊎ ((text : Text) × (default_texts slot ≡ text ∷ []))
-default_form Plain = inl refl
-default_form Args = inr (_, refl)
-default_form Answers = inr (_, refl)
-default_form Steps = inr (_, refl)
-default_form Stack = inr (_, refl)
-default_form Heap = inr (_, refl)
-default_form Moves = inr (_, refl)
-default_form Fuel = inr (_, refl)
-default_form Jobs = inr (_, refl)
-default_form Seed = inl refl
-default_form Functions = inl refl
-
--- ---- the whole
-
-defaults_pass : (command : CommandWord) → list_all default_passes (rules_at command) ≡ true
-defaults_pass word.Compile = refl
-defaults_pass word.Run = refl
-defaults_pass word.Check = refl
-defaults_pass word.List = refl
-defaults_pass word.Soak = refl
-
-valid_at : (command : CommandWord) (rows : List Row) → is_valid (level_shape (command_text command) (rules_at command)) rows false ≡ true
-valid_at word.Compile rows = refl
-valid_at word.Run rows = refl
-valid_at word.Check rows = refl
-valid_at word.List rows = refl
-valid_at word.Soak rows = refl
-
-each_at : (P : Slot → Type 0) (slots : List Slot) → ForEach P slots → (slot : Slot) → Contains slots slot → P slot
-each_at P [] each slot there = let h : there.0 < 0 = there.1 in absurd (omega arith)
-each_at P (s ∷ ss) each slot there = elim (slot_cases s ss slot there) [
-  | inl here ↦ subst P here each.0
-  | inr later ↦ each_at P ss each.1 slot later
-]
-
--- a slot that has no default has to be there
-abbrev Wanted : List Text → Slot → Type 0
-Wanted others slot = default_texts slot ≡ [] → 1 ≤ count_by (fills_slot slot) others
-
-full : (x : Text) (xs : List Text) → x ∷ xs ≡ [] → ⊥
-full x xs e = cc
-
-wanted_each : (command : CommandWord) (others : List Text) → IsForm command others → ForEach (Wanted others) (slots_of_command command)
-wanted_each word.Compile others form = (λ e. absurd (full _ [] e), tt)
-wanted_each word.Run others form = (
-  λ _. form.there 0 Plain (lit< tt),
-  (
-    λ e. absurd (full _ [] e),
-    (
-      λ e. absurd (full _ [] e),
-      (
-        λ e. absurd (full _ [] e),
-        (λ e. absurd (full _ [] e), (λ e. absurd (full _ [] e), (λ e. absurd (full _ [] e), tt))),
-      ),
-    ),
-  ),
-)
-wanted_each word.Check others form = (λ _. form.there 0 Plain (lit< tt), (λ e. absurd (full _ [] e), (λ e. absurd (full _ [] e), (λ e. absurd (full _ [] e), tt))))
-wanted_each word.List others form = (λ _. form.there 0 Plain (lit< tt), tt)
-wanted_each word.Soak others form = (λ _. form.there 0 Seed (lit< tt), (λ _. form.there 1 Functions (lit< tt), tt))
-
-stands_by : (command : CommandWord) (others : List Text) (slot : Slot) → Contains (slots_of_command command) slot → Wanted others slot → (o : Option Text)
-    → first_of (id_of slot) (map row_for others) ≡ o → LookedUp others slot o
-    → HasText others slot (first_of (id_of slot) (fold with_default (map row_for others) (rules_at command)))
-stands_by command others slot there wanted (Some v) e g =
-    let row : has_row (id_of slot) (map row_for others) ≡ true = present (id_of slot) others ∙ ap is_some e in
-    (v, keeps_all (id_of slot) (rules_at command) (map row_for others) row ∙ e, word_gives g)
-stands_by command others slot there wanted None e none =
-    let row : has_row (id_of slot) (map row_for others) ≡ false = present (id_of slot) others ∙ ap is_some e in
-    elim (default_form slot) [
-      | inl empty ↦ absurd (wanted_given slot others (wanted empty) (cut_value slot) none)
-      | inr some ↦
-          (some.0, some_default slot some.0 some.1 (slots_of_command command) there (map row_for others) row, word_lacks none some.1)
-    ]
-
-pub are_taken : (command : CommandWord) (others : List Text) → IsForm command others → AreTaken command others
-are_taken command others form =
-    let rules = rules_at command in
-    let known = known_each command in
-    let fits = fit_each rules others (slots_of_command command) known form.once in
-    let cuts = all_cut command others others fits form.each in
-    let fresh = fresh_words rules others others [] refl tt cuts in
-    let begin : At rules (walk_from nothing_held) (map row_for []) =
-    record { kept = []; pending = None; position = 1; is = refl; rows_are = refl; passes = refl; first = λ _. refl } in
-    let gone = goes rules (command_text command) others others [] (walk_from nothing_held) begin cuts fresh in
-    let at = gone.0 in
-    let rows_are : rows_after rules [] others ≡ fold with_default (map row_for others) rules =
-    ap (λ (w : Walk). finished rules w.held) at.is ∙ ap (λ rows. fold with_default rows rules) at.rows_are in
-    let passes : level_passes (level_shape (command_text command) rules) [] nothing_held others false ≡ true =
-    ap₂ (λ a b. a && b) gone.1 (ap₂ (λ a b. a && b) (ap (λ (w : Walk). settle_passes rules false w.held) at.is ∙ at.passes)
-    (ap₂ (λ a b. a && b) (defaults_pass command) (valid_at command (rows_after rules [] others)))) in
-    record {
-      taken = is_taken command others passes;
-      rows = rows_after rules [] others;
-      entered = subcommand_is command others;
-      stands = λ slot there.
-          subst (λ rows. HasText others slot (first_of (id_of slot) rows)) (sym rows_are)
-          (stands_by command others slot there (each_at (Wanted others) (slots_of_command command) (wanted_each command others form) slot there) (first_of (id_of slot) (map row_for others)) refl
-          (lookup rules others others cuts slot (each_at (Known rules) (slots_of_command command) known slot there)));
-    }

@@ -87,6 +87,24 @@ pub record IsCheck (others : List (List ℕ)) (check : CheckTree) : Type 0 where
   pub answers : Sets others Answers IsItems [] check.answers
   pub fuel : Sets others Fuel IsSteps default_steps check.fuel
 
+-- What is set without memory: the numbers and the moves of a run, and the fuel of a run of a text.
+pub record SetsRunNumbers (others : List (List ℕ)) : Type 0 where
+  pub steps : (n : ℕ) × Sets others Steps IsSteps default_steps n
+  pub stack : (n : ℕ) × Sets others Stack IsSize default_size n
+  pub heap : (n : ℕ) × Sets others Heap IsSize default_size n
+  pub moves : (moves : Moves) × Sets others slot.Moves IsMoves default_moves moves
+
+abbrev pub SetsFuel : List (List ℕ) → Type 0
+SetsFuel others = (n : ℕ) × Sets others Fuel IsSteps default_steps n
+
+-- What holds where memory was wanted for a command's values: a fault in a value that takes none is told before.
+abbrev pub MayWantMemory : List (List ℕ) → CommandWord → Type 0
+MayWantMemory others word.Run = SetsRunNumbers others
+MayWantMemory others word.Check = SetsFuel others
+MayWantMemory others word.Compile = ⊥
+MayWantMemory others word.List = ⊥
+MayWantMemory others word.Soak = ⊥
+
 -- What the words after the first are, by the command that the first one names.
 pub data Means (others : List (List ℕ)) : CommandWord → CommandTree → Type 0 where
   compile : (jobs : ℕ) → Sets others Jobs (IsCounted most_jobs) default_jobs jobs → Means others word.Compile (CompileCommand jobs)

@@ -1,6 +1,6 @@
 //! Commands, and what is wrong with words that are none.
 ghost use Rattle.std.specs.Prelude.{◌≡◌};
-ghost use Rattle.command_line.specs.declared.command.WordsError.TheVariants.{OutOfMemory};
+ghost use Rattle.command_line.specs.declared.command.WordsError.TheVariants.{OutOfMemory, ValueText};
 
 use bs_words::{List, Name};
 use rv_machine::Arg;
@@ -86,6 +86,18 @@ pub enum WordsError {
     /// Memory ran out.
     #[error("out of memory")]
     OutOfMemory,
+}
+
+/// A value that is not in its grammar or outside its limits: the one fault of values that take no memory.
+#[derive(Clone, Copy, Drop)]
+pub(crate) struct BadValue;
+
+impl From<BadValue> for WordsError {
+    ghost from_gives = { λ _ e. e ≡ ValueText };
+
+    fn from(_error: BadValue) -> Self {
+        WordsError::ValueText
+    }
 }
 
 impl From<AllocError> for WordsError {

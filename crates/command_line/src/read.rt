@@ -2,7 +2,7 @@
 //!
 //! The words go along with the matches for the contracts alone: what a value is said to be is said of the
 //! words, and the code looks at the matches. That values come from the matches alone no clause says.
-ghost use Rattle.std.specs.Prelude.{◌≡◌, ◌≤◌, [], ◌∷◌, IfOk, IsErrOf, count_by, Contains};
+ghost use Rattle.std.specs.Prelude.{◌≡◌, ◌≤◌, [], ◌∷◌, IfOk, IsErrOf, OnErr, count_by, Contains};
 ghost use Rattle.clap.specs.Words.{first_value, found_of, subcommand_of, subcommand_rows_of};
 ghost use Rattle.bs_words.specs.Contents.{contents};
 ghost use Rattle.command_line.specs.declared.command.WordsError.{WordsError};
@@ -12,11 +12,11 @@ ghost use Rattle.bs_words.specs.Symbol.{IsSymbol};
 ghost use Rattle.command_line.specs.Values.{IsSteps, IsSize, IsMoves, IsItems, IsCounted, IsSeed, IsStage, Nothing, most_jobs, most_functions};
 ghost use Rattle.command_line.specs.Words.{fills_slot, command_text, slots_of_command, AreCommandWords, IsForm, GivesSlot};
 ghost use Rattle.command_line.specs.Program.{HasText, IsSlotText, Defaults, id_of, program};
-ghost use Rattle.command_line.specs.Command.{CommandTree, Sets, TellsSlot, IsRun, IsCheck, Means, IsCommand, KeepsLimits};
+ghost use Rattle.command_line.specs.Command.{CommandTree, Sets, SetsFuel, SetsRunNumbers, MayWantMemory, TellsSlot, IsRun, IsCheck, Means, IsCommand, KeepsLimits};
 ghost use Rattle.command_line.specs.Command.{default_jobs, default_steps, default_size, default_moves};
 ghost use Rattle.command_line.specs.View.{texts, view, run_view, check_view};
 
-use crate::command::{CheckWords, Command, Moves, RunWords, WordsError};
+use crate::command::{BadValue, CheckWords, Command, Moves, RunWords, WordsError};
 use crate::form::{CommandWord, Slot, has_form};
 use crate::parser::matches_of;
 use crate::values;
@@ -78,48 +78,42 @@ fn items(
 }
 
 /// The most instructions, or units of fuel.
-fn steps(others: &[String], given: &ArgMatches<'_>, slot: Slot) -> Result<u64, WordsError>
+fn steps(others: &[String], given: &ArgMatches<'_>, slot: Slot) -> Result<u64, BadValue>
     requires once { count_by (fills_slot slot) (texts others.now) ≤ 1 }
     requires stands { HasText (texts others.now) slot
         (first_value (found_of given.now) (id_of slot)) }
     requires left_out { Defaults slot IsSteps default_steps }
     ensures value { IfOk result (λ n. Sets (texts others.now) slot IsSteps default_steps n) }
-    ensures bad { IsErrOf result WordsError.ValueText
-        → Nothing (Sets (texts others.now) slot IsSteps default_steps) }
-    ensures formed { ¬ IsErrOf result WordsError.Words }
+    ensures bad { OnErr result (Nothing (Sets (texts others.now) slot IsSteps default_steps)) }
 {
     let text = text_for(others, given, slot);
-    values::steps(text.as_bytes()).ok_or(WordsError::ValueText)
+    values::steps(text.as_bytes()).ok_or(BadValue)
 }
 
 /// The bytes of the stack or of half of the heap.
-fn size(others: &[String], given: &ArgMatches<'_>, slot: Slot) -> Result<u32, WordsError>
+fn size(others: &[String], given: &ArgMatches<'_>, slot: Slot) -> Result<u32, BadValue>
     requires once { count_by (fills_slot slot) (texts others.now) ≤ 1 }
     requires stands { HasText (texts others.now) slot
         (first_value (found_of given.now) (id_of slot)) }
     requires left_out { Defaults slot IsSize default_size }
     ensures value { IfOk result (λ n. Sets (texts others.now) slot IsSize default_size n) }
-    ensures bad { IsErrOf result WordsError.ValueText
-        → Nothing (Sets (texts others.now) slot IsSize default_size) }
-    ensures formed { ¬ IsErrOf result WordsError.Words }
+    ensures bad { OnErr result (Nothing (Sets (texts others.now) slot IsSize default_size)) }
 {
     let text = text_for(others, given, slot);
-    values::size(text.as_bytes()).ok_or(WordsError::ValueText)
+    values::size(text.as_bytes()).ok_or(BadValue)
 }
 
 /// When the mover asks, and where it puts blocks.
-fn moves(others: &[String], given: &ArgMatches<'_>) -> Result<Moves, WordsError>
+fn moves(others: &[String], given: &ArgMatches<'_>) -> Result<Moves, BadValue>
     requires once { count_by (fills_slot Slot.Moves) (texts others.now) ≤ 1 }
     requires stands { HasText (texts others.now) Slot.Moves
         (first_value (found_of given.now) (id_of Slot.Moves)) }
     ensures value { IfOk result (λ moves.
         Sets (texts others.now) Slot.Moves IsMoves default_moves moves) }
-    ensures bad { IsErrOf result WordsError.ValueText
-        → Nothing (Sets (texts others.now) Slot.Moves IsMoves default_moves) }
-    ensures formed { ¬ IsErrOf result WordsError.Words }
+    ensures bad { OnErr result (Nothing (Sets (texts others.now) Slot.Moves IsMoves default_moves)) }
 {
     let text = text_for(others, given, Slot::Moves);
-    values::moves(text.as_bytes()).ok_or(WordsError::ValueText)
+    values::moves(text.as_bytes()).ok_or(BadValue)
 }
 
 /// The run that the words after `run` are.
@@ -131,15 +125,17 @@ fn run(alloc: Global, others: &[String], given: &ArgMatches<'_>) -> Result<RunWo
     ensures bad { IsErrOf result WordsError.ValueText
         → Nothing (IsRun (texts others.now)) }
     ensures formed { ¬ IsErrOf result WordsError.Words }
+    ensures memory { IsErrOf result WordsError.OutOfMemory → SetsRunNumbers (texts others.now) }
 {
+    // First what takes no memory: a fault there is told whatever memory there is.
     Ok(RunWords {
-        entry: entry(alloc, others, given)?,
-        args: items(alloc, others, given, Slot::Args)?,
-        answers: items(alloc, others, given, Slot::Answers)?,
         steps: steps(others, given, Slot::Steps)?,
         stack: size(others, given, Slot::Stack)?,
         heap: size(others, given, Slot::Heap)?,
         moves: moves(others, given)?,
+        entry: entry(alloc, others, given)?,
+        args: items(alloc, others, given, Slot::Args)?,
+        answers: items(alloc, others, given, Slot::Answers)?,
     })
 }
 
@@ -152,83 +148,74 @@ fn check(alloc: Global, others: &[String], given: &ArgMatches<'_>) -> Result<Che
     ensures bad { IsErrOf result WordsError.ValueText
         → Nothing (IsCheck (texts others.now)) }
     ensures formed { ¬ IsErrOf result WordsError.Words }
+    ensures memory { IsErrOf result WordsError.OutOfMemory → SetsFuel (texts others.now) }
 {
     Ok(CheckWords {
+        fuel: steps(others, given, Slot::Fuel)?,
         entry: entry(alloc, others, given)?,
         args: items(alloc, others, given, Slot::Args)?,
         answers: items(alloc, others, given, Slot::Answers)?,
-        fuel: steps(others, given, Slot::Fuel)?,
     })
 }
 
 /// The most functions that are compiled at a time.
-fn jobs(others: &[String], given: &ArgMatches<'_>) -> Result<u32, WordsError>
+fn jobs(others: &[String], given: &ArgMatches<'_>) -> Result<u32, BadValue>
     requires once { count_by (fills_slot Slot.Jobs) (texts others.now) ≤ 1 }
     requires stands { HasText (texts others.now) Slot.Jobs
         (first_value (found_of given.now) (id_of Slot.Jobs)) }
     ensures value { IfOk result (λ n.
         Sets (texts others.now) Slot.Jobs (IsCounted most_jobs) default_jobs n) }
-    ensures bad { IsErrOf result WordsError.ValueText
-        → Nothing (Sets (texts others.now) Slot.Jobs (IsCounted most_jobs) default_jobs) }
-    ensures formed { ¬ IsErrOf result WordsError.Words }
+    ensures bad { OnErr result (Nothing (Sets (texts others.now) Slot.Jobs (IsCounted most_jobs) default_jobs)) }
 {
     let text = text_for(others, given, Slot::Jobs);
-    values::counted(text.as_bytes(), MOST_JOBS).ok_or(WordsError::ValueText)
+    values::counted(text.as_bytes(), MOST_JOBS).ok_or(BadValue)
 }
 
 /// The stage whose text is written.
-fn stage(others: &[String], given: &ArgMatches<'_>) -> Result<Stage, WordsError>
+fn stage(others: &[String], given: &ArgMatches<'_>) -> Result<Stage, BadValue>
     requires once { count_by (fills_slot Slot.Plain) (texts others.now) ≤ 1 }
     requires stands { HasText (texts others.now) Slot.Plain
         (first_value (found_of given.now) (id_of Slot.Plain)) }
     ensures value { IfOk result (λ stage. TellsSlot (texts others.now) Slot.Plain IsStage stage) }
-    ensures bad { IsErrOf result WordsError.ValueText
-        → Nothing (TellsSlot (texts others.now) Slot.Plain IsStage) }
-    ensures formed { ¬ IsErrOf result WordsError.Words }
+    ensures bad { OnErr result (Nothing (TellsSlot (texts others.now) Slot.Plain IsStage)) }
 {
     let text = text_for(others, given, Slot::Plain);
-    values::stage(text.as_bytes()).ok_or(WordsError::ValueText)
+    values::stage(text.as_bytes()).ok_or(BadValue)
 }
 
 /// What the generator of a soak's text starts from.
-fn seed(others: &[String], given: &ArgMatches<'_>) -> Result<u64, WordsError>
+fn seed(others: &[String], given: &ArgMatches<'_>) -> Result<u64, BadValue>
     requires once { count_by (fills_slot Slot.Seed) (texts others.now) ≤ 1 }
     requires stands { HasText (texts others.now) Slot.Seed
         (first_value (found_of given.now) (id_of Slot.Seed)) }
     ensures value { IfOk result (λ n. TellsSlot (texts others.now) Slot.Seed IsSeed n) }
-    ensures bad { IsErrOf result WordsError.ValueText
-        → Nothing (TellsSlot (texts others.now) Slot.Seed IsSeed) }
-    ensures formed { ¬ IsErrOf result WordsError.Words }
+    ensures bad { OnErr result (Nothing (TellsSlot (texts others.now) Slot.Seed IsSeed)) }
 {
     let text = text_for(others, given, Slot::Seed);
-    values::seed(text.as_bytes()).ok_or(WordsError::ValueText)
+    values::seed(text.as_bytes()).ok_or(BadValue)
 }
 
 /// How many functions a soak's text has.
-fn functions(others: &[String], given: &ArgMatches<'_>) -> Result<u32, WordsError>
+fn functions(others: &[String], given: &ArgMatches<'_>) -> Result<u32, BadValue>
     requires once { count_by (fills_slot Slot.Functions) (texts others.now) ≤ 1 }
     requires stands { HasText (texts others.now) Slot.Functions
         (first_value (found_of given.now) (id_of Slot.Functions)) }
     ensures value { IfOk result (λ n.
         TellsSlot (texts others.now) Slot.Functions (IsCounted most_functions) n) }
-    ensures bad { IsErrOf result WordsError.ValueText
-        → Nothing (TellsSlot (texts others.now) Slot.Functions (IsCounted most_functions)) }
-    ensures formed { ¬ IsErrOf result WordsError.Words }
+    ensures bad { OnErr result (Nothing (TellsSlot (texts others.now) Slot.Functions (IsCounted most_functions))) }
 {
     let text = text_for(others, given, Slot::Functions);
-    values::counted(text.as_bytes(), MOST_FUNCTIONS).ok_or(WordsError::ValueText)
+    values::counted(text.as_bytes(), MOST_FUNCTIONS).ok_or(BadValue)
 }
 
 /// The soak that the words after `soak` are.
-fn soak(others: &[String], given: &ArgMatches<'_>) -> Result<Command, WordsError>
+fn soak(others: &[String], given: &ArgMatches<'_>) -> Result<Command, BadValue>
     requires form { IsForm CommandWord.Soak (texts others.now) }
     requires stands { (slot : Slot) → Contains (slots_of_command CommandWord.Soak) slot
         → HasText (texts others.now) slot (first_value (found_of given.now) (id_of slot)) }
     ensures value { IfOk result (λ command.
         Means (texts others.now) CommandWord.Soak (view command)) }
-    ensures bad { IsErrOf result WordsError.ValueText
-        → Nothing (Means (texts others.now) CommandWord.Soak) }
-    ensures formed { ¬ IsErrOf result WordsError.Words }
+    ensures bad { OnErr result (Nothing (Means (texts others.now) CommandWord.Soak)) }
 {
     Ok(Command::Soak {
         seed: seed(others, given)?,
@@ -250,6 +237,7 @@ fn meant(
     ensures bad { IsErrOf result WordsError.ValueText
         → Nothing (Means (texts others.now) command) }
     ensures formed { ¬ IsErrOf result WordsError.Words }
+    ensures memory { IsErrOf result WordsError.OutOfMemory → MayWantMemory (texts others.now) command }
 {
     match command {
         CommandWord::Compile => Ok(Command::Compile {
@@ -258,7 +246,7 @@ fn meant(
         CommandWord::Run => Ok(Command::Run(run(alloc, others, given)?)),
         CommandWord::Check => Ok(Command::Check(check(alloc, others, given)?)),
         CommandWord::List => Ok(Command::List(stage(others, given)?)),
-        CommandWord::Soak => soak(others, given),
+        CommandWord::Soak => Ok(soak(others, given)?),
     }
 }
 
@@ -275,6 +263,8 @@ fn taken(
     ensures command { IfOk result (λ command. IsCommand (texts words.now) (view command)) }
     ensures bad { IsErrOf result WordsError.ValueText → Nothing (IsCommand (texts words.now)) }
     ensures formed { ¬ IsErrOf result WordsError.Words }
+    ensures memory { IsErrOf result WordsError.OutOfMemory → (command : CommandWord)
+        × (texts words.now ≡ command_text command ∷ texts others.now) × MayWantMemory (texts others.now) command }
 {
     let _words = words;
     let Some((name, given)) = matches.subcommand() else {

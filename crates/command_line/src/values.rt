@@ -153,6 +153,7 @@ pub(crate) fn name(alloc: Global, text: &[u8]) -> Result<Name, WordsError>
     ensures value { IfOk result (λ bytes. (bytes ≡ text.now) × IsSymbol text.now) }
     ensures bad { IsErrOf result WordsError.ValueText → ¬ IsSymbol text.now }
     ensures formed { ¬ IsErrOf result WordsError.Words }
+    ensures memory { IsErrOf result WordsError.OutOfMemory → IsSymbol text.now }
 {
     if !is_symbol(text) {
         return Err(WordsError::ValueText);

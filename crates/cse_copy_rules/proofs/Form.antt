@@ -2,7 +2,7 @@
 use Rattle.std.proofs.Common.{◌≡◌, ℕ, suc, ◌+◌, ◌⊎◌, ⊎_elim, List, [], ◌∷◌, ◌++◌, length, map, refl, sym, ap, ◌∙◌, subst, append_assoc}
 use Rattle.std.proofs.lemmas.List.Elements.{Contains-append_cases, All-contains}
 use Rattle.std.proofs.Math.Nat.{le_of_eq}
-use Rattle.std.specs.List.{All, Contains}
+use Rattle.std.specs.List.{Contains}
 use Rattle.bs_words.proofs.Lists.{none_in, first_in, later_in, in_cons}
 use Rattle.cse_copy_rules.specs.Propagated.{move_instruction, ReadFor, source, itself, instr_with_sources, alone_with_sources, with_sources, IsPropagatedBefore}
 use Rattle.mach_ir.specs.Forms.{HasForm}
@@ -19,6 +19,7 @@ use Rattle.mach_laws.proofs.InPlace as text
 use Rattle.mach_laws.proofs.InPlace.{AreAlike, same_op, both, each_in}
 use Rattle.cse_repeat_rules.proofs.OneForOne.{in_append, in_code_stands, StandsFor, before_of}
 use Rattle.cse_repeat_rules.proofs.OneForOne as one
+use Rattle.mach_laws.specs.Passes.{IsNoLarger}
 
 -- ---- lists
 
@@ -90,8 +91,7 @@ formed_again p (formed_mark {f = f} {args = args} {results = results} h) e =
 pub record IsFormKept (m q : Mach) : Type 0 where
   pub formed : WellFormed q
   pub seated : Seated m → Seated q
-  pub registers : (r : Reg) → IsRegister q r → IsRegister m r
-  pub size : (s : Size) → HasSize m s → HasSize q s
+  pub no_larger : IsNoLarger m q
 
 module _ (m : Mach) (plan : ℕ → Reg → Reg)
     (reads : (i : Instr) (next made : List Instr) → IsPropagatedBefore plan m i next made → (r : Reg) → Contains i.args r →
@@ -191,4 +191,9 @@ module _ (m : Mach) (plan : ℕ → Reg → Reg)
     as_small = one.still_small (instr_with_sources plan) (alike plan) m was_register (le_of_eq (same_count plan m.code))
 
     pub form_kept : IsFormKept m (record m { code = with_sources plan m.code })
-    form_kept = record { formed = still_formed; seated = still_seated; registers = was_register; size = as_small }
+    form_kept =
+        record {
+          formed = still_formed;
+          seated = still_seated;
+          no_larger = record { params = refl; registers = was_register; size = as_small };
+        }

@@ -66,13 +66,8 @@ module _ (m : Mach) (plan : ℕ → Reg → Reg) (formed : WellFormed m)
   pub kept_from : WellPlaced m → OwnOrigins m → IsCopyKept m (record m { code = with_sources plan m.code })
   kept_from placed own =
       record {
-        keeps = still_keeps own;
-        formed = form.formed;
-        placed = still_placed placed;
-        seated = form.seated;
-        params = refl;
-        registers = form.registers;
-        size = form.size;
+        pass = record { keeps = still_keeps own; formed = form.formed; placed = still_placed; seated = form.seated };
+        no_larger = form.no_larger;
       }
 
 pub propagated_kept : (m q : Mach) → WellFormed m → WellPlaced m → OwnOrigins m → IsPropagated m q → IsCopyKept m q

@@ -11,7 +11,7 @@ use Rattle.bs_words.specs.declared.operators.CmpOp.TheVariants as compare
 use Rattle.bs_words.specs.declared.operators.IntOp.{IntOp}
 use Rattle.bs_words.specs.declared.operators.IntOp.TheVariants as operator
 use Rattle.bs_words.specs.declared.types.Comp.{Comp}
-use Rattle.bs_words.proofs.Lists.{first_in, later_in}
+use Rattle.bs_words.proofs.Lists.{first_in, later_in, same_some}
 use Rattle.mach_ir.specs.Forms as form
 use Rattle.mach_ir.specs.Forms.{HasForm, IsRight, a_register, a_constant}
 use Rattle.mach_ir.specs.Formed.{comps, IsFormedInstruction, formed_op, formed_mark}
@@ -146,14 +146,11 @@ none_some n e = cc
 some_none : (n : ℕ) → Some n ≡ None → ⊥
 some_none n e = cc
 
-some_same : (a b : ℕ) → Some a ≡ Some b → a ≡ b
-some_same a b e = cc
-
 same_one : (xs ys : List Reg) → length xs ≤ 1 → length ys ≤ 1 → AreTold xs ys → number_at xs 0 ≡ number_at ys 0 → xs ≡ ys
 same_one [] [] a b t e = refl
 same_one [] (y ∷ ys) a b t e = absurd (none_some y.number e)
 same_one (x ∷ xs) [] a b t e = absurd (some_none x.number e)
-same_one (x ∷ []) (y ∷ []) a b t e = ap (λ r. r ∷ []) (t x y (first_in x []) (first_in y []) (some_same x.number y.number e))
+same_one (x ∷ []) (y ∷ []) a b t e = ap (λ r. r ∷ []) (t x y (first_in x []) (first_in y []) (same_some x.number y.number e))
 same_one (x ∷ []) (y ∷ z ∷ ys) a b t e = absurd (omega (arith, b))
 same_one (x ∷ w ∷ xs) ys a b t e = absurd (omega (arith, a))
 
@@ -168,7 +165,7 @@ same_two (x ∷ xs) [] a b t e h = absurd (some_none x.number e)
 same_two (x ∷ xs) (y ∷ ys) a b t e h =
     let few : length xs ≤ 1 = omega (arith, a) in
     let less : length ys ≤ 1 = omega (arith, b) in
-    two x y xs ys (t x y (first_in x xs) (first_in y ys) (some_same x.number y.number e))
+    two x y xs ys (t x y (first_in x xs) (first_in y ys) (same_some x.number y.number e))
     (same_one xs ys few less (λ r q c d. t r q (later_in x r xs c) (later_in y q ys d)) h)
 
 -- ---- operators

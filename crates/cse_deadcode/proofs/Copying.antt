@@ -10,6 +10,7 @@ use Rattle.bs_words.proofs.Lists.{none_in, first_in, later_in, in_cons, head_sam
 use Rattle.mach_ir.specs.Forms as form
 use Rattle.mach_ir.specs.Forms.{HasForm}
 use Rattle.mach_ir.specs.Formed.{comps, IsFormedInstruction, formed_op, formed_mark, WellFormed}
+use Rattle.mach_ir.specs.Graph.{is_move}
 use Rattle.mach_ir.specs.Placed.{is_straight}
 use Rattle.mach_ir.specs.Walks.{IsRegister, is_in_code}
 use Rattle.mach_ir.specs.declared.op.CopyKind.TheVariants as kind
@@ -26,7 +27,7 @@ use Rattle.cse_deadcode.specs.declared.events.Event.TheVariants as event
 use Rattle.cse_deadcode.specs.Made.{remade, made_by}
 use Rattle.cse_deadcode.specs.Times.{Clock, writes, happens, last_time}
 use Rattle.cse_deadcode.specs.Repeats.{result_stands}
-use Rattle.cse_deadcode.specs.Copies.{is_move, is_still_copy, source_first, source_by, source_found, source_at, source_of, read_by, read_from_sources}
+use Rattle.cse_deadcode.specs.Copies.{is_still_copy, source_first, source_by, source_found, source_at, source_of, read_by, read_from_sources}
 use Rattle.cse_deadcode.proofs.Last.{AreQuiet, Found, find, last_from}
 use Rattle.cse_deadcode.proofs.Noting.{only_first, number_written, written_number, number_write, unwritten, quiet, ends_run, in_run}
 use Rattle.cse_deadcode.proofs.Alike.{one_of}

@@ -1,29 +1,13 @@
 -- What is read in place of operands, by when events happened last.
-use Rattle.std.specs.Prelude.{ℕ, zero, suc, Bool, true, false, cond, ◌&&◌, nat_le, List, Option, Some, None, slice_get, map}
-use Rattle.mach_ir.specs.declared.op.CopyKind.TheVariants as copy
-use Rattle.mach_ir.specs.declared.op.Op.TheVariants as op
-use Rattle.mach_ir.specs.declared.op.Pure.TheVariants as pure
+use Rattle.std.specs.Prelude.{ℕ, zero, suc, Bool, cond, ◌&&◌, nat_le, List, Option, Some, None, slice_get, map}
+use Rattle.mach_ir.specs.Graph.{is_move}
 use Rattle.mach_ir.specs.declared.reg.Reg.{Reg}
-use Rattle.mach_ir.specs.declared.mach.MachOp.{MachOp}
-use Rattle.mach_ir.specs.declared.mach.MachOp.TheVariants as mach
 use Rattle.mach_ir.specs.declared.mach.Instr.{Instr}
 use Rattle.cse_deadcode.specs.declared.events.Event.TheVariants as event
 use Rattle.cse_deadcode.specs.Made.{Making}
 use Rattle.cse_deadcode.specs.Repeats.{result_stands}
 use Rattle.cse_deadcode.specs.Times.{Clock}
 use Rattle.mach_ir.specs.Places.{is_unset_location, same_comp}
-
-abbrev pub is_move : MachOp → Bool
-is_move (mach.Op (op.Pure (pure.Copy copy.Move))) = true
-is_move (mach.Op (op.Pure (pure.Copy copy.Spill))) = false
-is_move (mach.Op (op.Pure (pure.Copy copy.Reload))) = false
-is_move (mach.Op (op.Pure (pure.Constant w))) = false
-is_move (mach.Op (op.Pure (pure.Symbol name))) = false
-is_move (mach.Op (op.Pure (pure.Operator f r))) = false
-is_move (mach.Op (op.Access f)) = false
-is_move (mach.Op (op.Calling f)) = false
-is_move (mach.Op (op.Leaving f)) = false
-is_move (mach.Mark f) = false
 
 -- whether a register is still a copy of the source of the move of the time, which wrote it last
 abbrev pub is_still_copy : Clock → ℕ → Reg → Reg → Bool

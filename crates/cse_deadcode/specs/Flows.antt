@@ -1,13 +1,13 @@
 -- Which numbers are used at the places of a graph, where some places only compute.
-use Rattle.std.specs.Prelude.{◌≡◌, ◌↔◌, ℕ, ◌<◌, Bool, true, false, not, ◌||◌, ◌&&◌, ◌==◌, List, length}
+use Rattle.std.specs.Prelude.{◌≡◌, ◌↔◌, ℕ, Bool, true, false, not, ◌||◌, ◌&&◌, ◌==◌, List}
 use Rattle.std.specs.List.{list_any, Contains}
 use Rattle.bs_words.specs.Contents.{contents}
 use Rattle.bs_bits.specs.Set.{has}
 use Rattle.dataflow.specs.declared.flow.Place as place
 use Rattle.dataflow.specs.declared.flow.Flow as flow
 use Rattle.dataflow.specs.Flow.{Graph, graph}
-use Rattle.dataflow.specs.Rows.{set_in_row, HasSizes}
-use Rattle.dataflow.specs.Sweep.{missing}
+use Rattle.dataflow.specs.Progress.{VisitOf, SweepOf}
+use Rattle.dataflow.specs.Rows.{set_in_row}
 
 -- Some walk from a place uses a number before it writes it. A place that only computes uses what it
 -- reads where a number that it writes is used after it.
@@ -55,20 +55,9 @@ pub record IsClosedForUse (g : Graph) (computes : ℕ → Bool) (rows : List (Li
       has (set_in_row rows p) r ≡ true
 
 -- a visit of place p
-pub record VisitedForUse (f : flow.Flow) (computes : ℕ → Bool) (old new : List (List Bool)) (p : ℕ)
-    (grew : Bool) : Type 0 where
-  pub len : length new ≡ length old
-  pub sizes : HasSizes f.bound new
-  pub sound : AreRowsUsed (graph f) computes old → AreRowsUsed (graph f) computes new
-  pub same : grew ≡ false → (new ≡ old) × IsClosedForUse (graph f) computes old p
-  pub fewer : grew ≡ true → missing new < missing old
+abbrev pub VisitedForUse : flow.Flow → (ℕ → Bool) → List (List Bool) → List (List Bool) → ℕ → Bool → Type 0
+VisitedForUse f computes = VisitOf (AreRowsUsed (graph f) computes) (IsClosedForUse (graph f) computes) f.bound
 
 -- a sweep over all places
-pub record SweptForUse (f : flow.Flow) (computes : ℕ → Bool) (old new : List (List Bool))
-    (grew : Bool) : Type 0 where
-  pub len : length new ≡ length old
-  pub sizes : HasSizes f.bound new
-  pub sound : AreRowsUsed (graph f) computes old → AreRowsUsed (graph f) computes new
-  pub same : grew ≡ false →
-      (new ≡ old) × ((p : ℕ) → p < length old → IsClosedForUse (graph f) computes old p)
-  pub fewer : grew ≡ true → missing new < missing old
+abbrev pub SweptForUse : flow.Flow → (ℕ → Bool) → List (List Bool) → List (List Bool) → Bool → Type 0
+SweptForUse f computes = SweepOf (AreRowsUsed (graph f) computes) (IsClosedForUse (graph f) computes) f.bound

@@ -2,7 +2,6 @@ pub mod Flows
 pub mod Uses
 pub mod Events
 pub mod Last
-pub mod Numbered
 pub mod Times
 pub mod Made
 pub mod Repeats

@@ -20,7 +20,7 @@ use Rattle.cse_deadcode.specs.declared.events.Event.TheVariants as event
 use Rattle.cse_deadcode.specs.declared.times.Times.{Times}
 use Rattle.cse_deadcode.specs.Events.{computation}
 use Rattle.cse_deadcode.specs.Last.{last}
-use Rattle.cse_deadcode.specs.Numbered.{time_of}
+use Rattle.mach_ir.specs.NumberTables.{table_entry}
 
 abbrev pub is_same : Event → Event → Bool
 is_same e f = is_eq (order.ghosts.cmp e f)
@@ -72,10 +72,10 @@ last_time code e = last (happens e) code
 abbrev pub time_in : Times → Event → ℕ
 time_in t event.EndsRun = t.ends_run
 time_in t event.Allocates = t.allocates
-time_in t (event.Writes n) = time_of t.writes n
-time_in t (event.WritesOrigin n) = time_of t.origins n
-time_in t (event.WritesColour n) = time_of t.colours n
-time_in t (event.WritesSlot n) = time_of t.slots n
+time_in t (event.Writes n) = table_entry t.writes n
+time_in t (event.WritesOrigin n) = table_entry t.origins n
+time_in t (event.WritesColour n) = table_entry t.colours n
+time_in t (event.WritesSlot n) = table_entry t.slots n
 time_in t (event.Computes c) = unwrap_or (tree.get computed_order.ghosts.cmp t.computes c) 0
 
 -- the tables have the times of a code

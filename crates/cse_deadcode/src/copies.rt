@@ -4,33 +4,14 @@ ghost use Rattle.mach_ir.specs.Formed.{WellFormed};
 ghost use Rattle.cse_copy_rules.specs.Propagated.{IsPropagated};
 ghost use Rattle.cse_deadcode.specs.Made.{made_by};
 ghost use Rattle.cse_deadcode.specs.Times.{time_in};
-ghost use Rattle.cse_deadcode.specs.Copies.{is_move, is_still_copy, source_by, source_at, source_of};
+ghost use Rattle.cse_deadcode.specs.Copies.{is_still_copy, source_by, source_at, source_of};
 ghost use Rattle.cse_deadcode.specs.Copies.{read_by, read_from_sources};
 
 use crate::events::Event;
 use crate::repeats::result_stands;
 use crate::times::Times;
-use mach_ir::{CopyKind, Instr, Mach, MachOp, Op, Pure, Reg, Seq, same_comp};
+use mach_ir::{Instr, Mach, Reg, Seq, same_comp};
 use std::alloc::{AllocError, Global};
-
-fn is_move(op: &MachOp) -> bool
-    ensures { result ≡ is_move op.now }
-{
-    match op {
-        MachOp::Op(Op::Pure(Pure::Copy(kind))) => match kind {
-            CopyKind::Move => true,
-            CopyKind::Spill => false,
-            CopyKind::Reload => false,
-        },
-        MachOp::Op(Op::Pure(Pure::Constant(_))) => false,
-        MachOp::Op(Op::Pure(Pure::Symbol(_))) => false,
-        MachOp::Op(Op::Pure(Pure::Operator(_, _))) => false,
-        MachOp::Op(Op::Access(_)) => false,
-        MachOp::Op(Op::Calling(_)) => false,
-        MachOp::Op(Op::Leaving(_)) => false,
-        MachOp::Mark(_) => false,
-    }
-}
 
 /// Whether the register, which a move from the source wrote last, at the time, is still its copy.
 fn is_copy(times: &Times, time: usize, source: &Reg, reg: &Reg) -> bool
@@ -46,7 +27,7 @@ fn is_copy(times: &Times, time: usize, source: &Reg, reg: &Reg) -> bool
 fn source_by(times: &Times, time: usize, earlier: &Instr, reg: Reg) -> Reg
     ensures { result ≡ source_by (time_in times.now) time earlier.now reg }
 {
-    if !is_move(&earlier.op) {
+    if !earlier.op.is_move() {
         return reg;
     }
     match earlier.args.get(0) {

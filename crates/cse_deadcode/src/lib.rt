@@ -18,7 +18,6 @@
 mod copies;
 mod dropping;
 mod events;
-mod numbered;
 mod repeats;
 mod times;
 mod uses;

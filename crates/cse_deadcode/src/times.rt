@@ -5,9 +5,8 @@ ghost use Rattle.cse_deadcode.specs.declared.events.Event.{Event};
 ghost use Rattle.cse_deadcode.specs.Times.{is_same, writes_place, writes, operation_event, happens_by, happens, time_in};
 
 use crate::events::{Computed, Event, computation};
-use crate::numbered::Numbered;
 use bs_words::Loc;
-use mach_ir::{Access, Instr, MachOp, Op, Pure, Reg};
+use mach_ir::{Access, Instr, MachOp, NumberTable, Op, Pure, Reg};
 use std::alloc::{AllocError, Global};
 use std::collections::BTreeMap;
 
@@ -51,10 +50,10 @@ fn event_of(op: &MachOp, args: &[Reg]) -> Option<Event>
 /// what is noted and asked is of writes.
 #[derive(Drop)]
 pub struct Times {
-    writes: Numbered,
-    origins: Numbered,
-    colours: Numbered,
-    slots: Numbered,
+    writes: NumberTable,
+    origins: NumberTable,
+    colours: NumberTable,
+    slots: NumberTable,
     allocates: usize,
     ends_run: usize,
     computes: BTreeMap<Computed, usize>,
@@ -66,10 +65,10 @@ impl Times {
         ensures { (e : Event) → time_in result e ≡ 0 }
     {
         Times {
-            writes: Numbered::new(alloc),
-            origins: Numbered::new(alloc),
-            colours: Numbered::new(alloc),
-            slots: Numbered::new(alloc),
+            writes: NumberTable::new(alloc),
+            origins: NumberTable::new(alloc),
+            colours: NumberTable::new(alloc),
+            slots: NumberTable::new(alloc),
             allocates: 0,
             ends_run: 0,
             computes: BTreeMap::new(alloc),

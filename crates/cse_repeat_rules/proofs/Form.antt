@@ -1,6 +1,6 @@
 -- A function whose repeats are moves is well-formed, and is where it was.
 use Rattle.std.proofs.Common.{◌≡◌, ◌≢◌, ℕ, ◌≤◌, Bool, true, false, cond, ◌⊎◌, inl, inr, ⊎_elim, List, [], ◌∷◌, ◌++◌, length, Option, Some, None, refl, sym, ap, ◌∙◌, subst, arith}
-use Rattle.std.specs.List.{All, Contains}
+use Rattle.std.specs.List.{Contains}
 use Rattle.std.proofs.lemmas.Bool.{both_ways}
 use Rattle.std.proofs.lemmas.List.Elements.{All-contains, Contains-append_left}
 use Rattle.bs_words.specs.declared.types.Comp.{Comp}
@@ -294,10 +294,12 @@ module _ (m : Mach) (plan : ℕ → Option Reg) where
         record {
           formed = still_formed;
           seated = still_seated;
-          params = refl;
-          registers = was;
+          no_larger = record {
+            params = refl;
+            registers = was;
+            size = one.still_small (instr_with_earlier plan) (alike plan) m was (fewer plan m.code form_of);
+          };
           none_left = left_none stays;
-          size = one.still_small (instr_with_earlier plan) (alike plan) m was (fewer plan m.code form_of);
         }
 
 pub form_kept : (m q : Mach) → WellFormed m → IsRepeated m q → IsFormKept m q

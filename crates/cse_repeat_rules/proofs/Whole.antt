@@ -90,14 +90,9 @@ module _ (m : Mach) (plan : ℕ → Option Reg) (formed : WellFormed m)
   pub kept_from : WellPlaced m → OwnOrigins m → IsRepeatKept m (record m { code = with_moves plan m.code })
   kept_from placed own =
       record {
-        keeps = still_keeps own;
-        formed = form.formed;
-        placed = still_placed placed;
-        seated = form.seated;
-        params = form.params;
-        registers = form.registers;
+        pass = record { keeps = still_keeps own; formed = form.formed; placed = still_placed; seated = form.seated };
+        no_larger = form.no_larger;
         none_left = form.none_left;
-        size = form.size;
       }
 
 pub repeated_kept : (m q : Mach) → WellFormed m → WellPlaced m → OwnOrigins m → IsRepeated m q → IsRepeatKept m q

@@ -5,8 +5,6 @@ use Rattle.bs_words.specs.declared.types.Loc.TheVariants as loc
 use Rattle.mach_ir.specs.Formed.{WellFormed}
 use Rattle.mach_ir.specs.Placed.{AreStraight}
 use Rattle.mach_ir.specs.Seats.{Seated}
-use Rattle.mach_ir.specs.Sizes.{Size, HasSize}
-use Rattle.mach_ir.specs.Walks.{IsRegister}
 use Rattle.mach_ir.specs.declared.op.Access.TheVariants as access
 use Rattle.mach_ir.specs.declared.op.CopyKind.TheVariants as copy
 use Rattle.mach_ir.specs.declared.op.Op.TheVariants as op
@@ -17,6 +15,7 @@ use Rattle.mach_ir.specs.declared.mach.MachOp.TheVariants as mach
 use Rattle.mach_ir.specs.declared.mach.Instr.{Instr}
 use Rattle.mach_ir.specs.declared.mach.Mach.{Mach}
 use Rattle.mach_laws.specs.Expand.{expand}
+use Rattle.mach_laws.specs.Passes.{IsNoLarger}
 
 abbrev pub is_operator : MachOp → Bool
 is_operator (mach.Op (op.Pure (pure.Operator f right))) = true
@@ -114,10 +113,7 @@ pub record IsRepeated (m q : Mach) : Type 0 where
 pub record IsFormKept (p q : Mach) : Type 0 where
   pub formed : WellFormed q
   pub seated : Seated p → Seated q
-  pub params : q.params ≡ p.params
-  -- no register is new, and none gets a place
-  pub registers : (r : Reg) → IsRegister q r → IsRegister p r
+  pub no_larger : IsNoLarger p q
   -- no operator repeats an earlier one
   pub none_left : (made : List Instr) (i : Instr) (next : List Instr) →
       q.code ≡ made ++ i ∷ next → (r : Reg) → RepeatsEarlier made i r → ⊥
-  pub size : (s : Size) → HasSize p s → HasSize q s

@@ -1,6 +1,7 @@
 mod Forms
 pub mod Loops
 mod Moves
+pub mod Progress
 mod Pushes
 pub mod Steps
 pub mod Sweeps

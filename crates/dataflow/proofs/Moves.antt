@@ -1,10 +1,10 @@
--- What sweeps forwards keep, and that their end is exactly what comes.
-use Rattle.std.proofs.Common.{◌≡◌, ℕ, zero, suc, ◌+◌, ◌<◌, ◌≤◌, Bool, true, false, not, ◌||◌, ◌&&◌, List, [], ◌∷◌, length, map, replicate, get_or, sym, ◌∙◌, ap, inl, inr, arith, refl, subst}
+-- A visit that spreads what comes to a place, and that the end of the sweeps is exactly what comes.
+use Rattle.std.proofs.Common.{◌≡◌, ℕ, zero, suc, ◌<◌, Bool, true, false, not, ◌||◌, ◌&&◌, List, [], ◌∷◌, length, map, replicate, get_or, sym, ◌∙◌, ap, inl, inr, arith, refl, subst}
 use Rattle.std.specs.Prelude.{◌==◌}
 use Rattle.std.specs.List.{Contains, list_any, All}
 use Rattle.std.proofs.lemmas.List.{get_or-map, get_or_past, get_or_default}
 use Rattle.std.proofs.lemmas.List.Elements.{All-get_or, All-contains}
-use Rattle.std.proofs.lemmas.Bool.{or_cases, and_parts, and_from, cases_lt, cases_eq, both_ways, not-true}
+use Rattle.std.proofs.lemmas.Bool.{or_cases, and_parts, and_from, cases_lt, both_ways, not-true}
 use Rattle.bs_words.specs.Contents.{contents}
 use Rattle.bs_bits.specs.Set.{has, union}
 use Rattle.bs_bits.proofs.Sets.{has-union, has-empty}
@@ -13,8 +13,8 @@ use Rattle.dataflow.specs.declared.flow.Flow as flow
 use Rattle.dataflow.specs.Flow.{Graph, graph, IsPlace, IsFlowFormed}
 use Rattle.dataflow.specs.Reach.{ComesIn, ComesTo, IsReaching}
 use Rattle.dataflow.specs.Rows.{set_in_row, HasSizes}
-use Rattle.dataflow.specs.Sweep.{missing}
-use Rattle.dataflow.specs.Spread.{Pushed, arrives, Spread, IsComing, IsSpreadFrom, Moved, SweptOn}
+use Rattle.dataflow.specs.Spread.{Pushed, arrives, Spread, IsComing, IsSpreadFrom, Moved}
+use Rattle.dataflow.proofs.Progress.{Solving}
 use Rattle.dataflow.proofs.Steps.{contains_from, from_contains, or_left, or_right, not_from}
 use Rattle.dataflow.proofs.Sweeps.{table_past}
 use Rattle.dataflow.proofs.Visits.{table_at}
@@ -138,77 +138,7 @@ moved f old new p x bound grew within read same_bound told =
       fewer = s.fewer;
     }
 
--- ---- sweeps
-
--- the places below p were visited
-pub record SweepingOn (f : flow.Flow) (old now : List (List Bool)) (marks : List Bool) (p : ℕ) (grew : Bool) : Type 0 where
-  pub len : length now ≡ length old
-  pub size : length marks ≡ f.bound
-  pub sizes : HasSizes f.bound now
-  pub sound : IsComing (graph f) old → IsComing (graph f) now
-  pub same : grew ≡ false → (now ≡ old) × ((q : ℕ) → q < p → IsSpreadFrom (graph f) old q)
-  pub most : missing now ≤ missing old
-  pub fewer : grew ≡ true → missing now < missing old
-
-pub on_none : (f : flow.Flow) (rows : List (List Bool)) (marks : List Bool) → length marks ≡ f.bound → HasSizes f.bound rows → SweepingOn f rows rows marks 0 false
-on_none f rows marks size sizes = record {
-  len = refl;
-  size = size;
-  sizes = sizes;
-  sound = λ s. s;
-  same = λ e. (refl, λ q below. absurd (omega (arith, below)));
-  most = omega arith;
-  fewer = λ e. cc;
-}
-
-moved_most : (f : flow.Flow) (old new : List (List Bool)) (p : ℕ) (grew : Bool) → Moved f old new p grew → missing new ≤ missing old
-moved_most f old new p true m = omega (arith, m.fewer refl)
-moved_most f old new p false m = let e : missing new ≡ missing old = ap missing (m.same refl).0 in omega (arith, e)
-
-pub on_more : (f : flow.Flow) (old now now' : List (List Bool)) (marks marks' : List Bool) (p : ℕ) (grew here grew' : Bool) → SweepingOn f old now marks p grew → length marks' ≡ f.bound → Moved f now now' p here → grew' ≡ (grew || here) → SweepingOn f old now' marks' (p + 1) grew'
-on_more f old now now' marks marks' p grew here grew' s size m flag = record {
-  len = m.len ∙ s.len;
-  size = size;
-  sizes = m.sizes;
-  sound = λ sound. m.sound (s.sound sound);
-  same = λ e.
-      let parts = or_parts grew here (sym flag ∙ e) in
-      let before = s.same parts.0 in
-      let P : List (List Bool) → Type 0 = λ rows. IsSpreadFrom (graph f) rows p in (
-        (m.same parts.1).0 ∙ before.0,
-        λ q below.
-            elim (cases_eq q p) [
-              | inl at ↦
-                  let Q : ℕ → Type 0 = λ n. IsSpreadFrom (graph f) old n in
-                  subst Q (sym at) (subst P before.0 (m.same parts.1).1)
-              | inr other ↦ before.1 q (omega (arith, other, below))
-            ],
-      );
-  most = omega (arith, s.most, moved_most f now now' p here m);
-  fewer = λ e. elim (or_cases grew here (sym flag ∙ e)) [
-    | inl before ↦ omega (arith, s.fewer before, moved_most f now now' p here m)
-    | inr now_grew ↦ omega (arith, s.most, m.fewer now_grew)
-  ];
-}
-
-pub on_all : (f : flow.Flow) (old now : List (List Bool)) (marks : List Bool) (p : ℕ) (grew : Bool) → length old ≤ p → SweepingOn f old now marks p grew → SweptOn f old now grew
-on_all f old now marks p grew all s = record {
-  len = s.len;
-  sizes = s.sizes;
-  sound = s.sound;
-  same = λ e. ((s.same e).0, λ q below. (s.same e).1 q (omega (arith, below, all)));
-  fewer = s.fewer;
-}
-
 -- ---- the end
-
--- the sets are sound, and closed once nothing grew
-pub record SolvingOn (f : flow.Flow) (rows : List (List Bool)) (marks : List Bool) (grew : Bool) : Type 0 where
-  pub len : length rows ≡ length (contents f.places)
-  pub size : length marks ≡ f.bound
-  pub sizes : HasSizes f.bound rows
-  pub sound : IsComing (graph f) rows
-  pub closed : grew ≡ false → (p : ℕ) → p < length rows → IsSpreadFrom (graph f) rows p
 
 -- an edge leads from a place to a place
 from_within : (field : place.Place → List ℕ) (xs : List place.Place) (o q : ℕ) → Contains (get_or (map field xs) o []) q → o < length xs
@@ -258,7 +188,7 @@ comes_member f rows formed len closed (suc n) q r (inr (o, step, walk)) =
     (closed o from).member q r to (or_left (list_any (λ k. k == q) (g.aside o) && has (set_in_row rows o) r) (list_any (λ k. k == q) (g.next o) && ((has (set_in_row rows o) r && not (list_any (λ k. k == r) (g.writes o))) || list_any (λ k. k == r) (g.reads o))) (and_from (list_any (λ k. k == q) (g.aside o)) (has (set_in_row rows o) r) (from_contains (g.aside o) q step) there))
 
 -- the sets say exactly what comes to each place
-pub solved_on : (f : flow.Flow) (rows : List (List Bool)) (marks : List Bool) (grew : Bool) → IsFlowFormed f → grew ≡ false → SolvingOn f rows marks grew → IsReaching f rows
+pub solved_on : (f : flow.Flow) (rows : List (List Bool)) (marks : List Bool) (grew : Bool) → IsFlowFormed f → grew ≡ false → Solving (IsComing (graph f)) (IsSpreadFrom (graph f)) (length (contents f.places)) f.bound rows marks grew → IsReaching f rows
 solved_on f rows marks grew formed unchanged s = record {
   len = s.len;
   sizes = s.sizes;

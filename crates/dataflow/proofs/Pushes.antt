@@ -11,7 +11,7 @@ use Rattle.std.proofs.lemmas.Bool.{cases_eq, both_ways, eq-eqb, ne_eqb, or_cases
 use Rattle.bs_bits.specs.Set.{has, union, Grew}
 use Rattle.bs_bits.proofs.Sets.{length-union, has-union, union_cases, grew_not}
 use Rattle.dataflow.specs.Rows.{set_in_row, HasSizes}
-use Rattle.dataflow.specs.Sweep.{absent, missing}
+use Rattle.dataflow.specs.Progress.{absent, missing}
 use Rattle.dataflow.specs.Spread.{Pushed}
 use Rattle.dataflow.proofs.Visits.{absent_less}
 

@@ -6,9 +6,9 @@ use Rattle.bs_bits.specs.Set.{has}
 use Rattle.dataflow.specs.declared.flow.Place as place
 use Rattle.dataflow.specs.declared.flow.Flow as flow
 use Rattle.dataflow.specs.Flow.{Graph, graph}
+use Rattle.dataflow.specs.Progress.{missing, VisitOf, SweepOf}
 use Rattle.dataflow.specs.Reach.{ComesTo}
 use Rattle.dataflow.specs.Rows.{set_in_row, HasSizes}
-use Rattle.dataflow.specs.Sweep.{missing}
 
 -- a set was added to the sets of places
 pub record Pushed (marks : List Bool) (old new : List (List Bool)) (places : List ℕ)
@@ -55,17 +55,9 @@ pub record IsSpreadFrom (g : Graph) (rows : List (List Bool)) (p : ℕ) : Type 0
       → has (set_in_row rows q) r ≡ true
 
 -- a visit of place p
-pub record Moved (f : flow.Flow) (old new : List (List Bool)) (p : ℕ) (grew : Bool) : Type 0 where
-  pub len : length new ≡ length old
-  pub sizes : HasSizes f.bound new
-  pub sound : IsComing (graph f) old → IsComing (graph f) new
-  pub same : grew ≡ false → (new ≡ old) × IsSpreadFrom (graph f) old p
-  pub fewer : grew ≡ true → missing new < missing old
+abbrev pub Moved : flow.Flow → List (List Bool) → List (List Bool) → ℕ → Bool → Type 0
+Moved f = VisitOf (IsComing (graph f)) (IsSpreadFrom (graph f)) f.bound
 
 -- a sweep over all places
-pub record SweptOn (f : flow.Flow) (old new : List (List Bool)) (grew : Bool) : Type 0 where
-  pub len : length new ≡ length old
-  pub sizes : HasSizes f.bound new
-  pub sound : IsComing (graph f) old → IsComing (graph f) new
-  pub same : grew ≡ false → (new ≡ old) × ((p : ℕ) → p < length old → IsSpreadFrom (graph f) old p)
-  pub fewer : grew ≡ true → missing new < missing old
+abbrev pub SweptOn : flow.Flow → List (List Bool) → List (List Bool) → Bool → Type 0
+SweptOn f = SweepOf (IsComing (graph f)) (IsSpreadFrom (graph f)) f.bound

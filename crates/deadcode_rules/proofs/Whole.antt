@@ -147,15 +147,10 @@ module _ (m : Mach) (drops : ℕ → Bool) (dead : AreDead m drops) where
     pub kept_by : IsDropKept m (dropped drops m)
     kept_by =
         record {
-          keeps = still_keeps;
-          formed = still_formed;
-          placed = still_placed;
-          seated = still_seated;
+          pass = record { keeps = still_keeps; formed = still_formed; placed = λ _. still_placed; seated = still_seated };
+          no_larger = record { params = refl; registers = was; size = smaller };
           fresh = still_fresh;
-          params = refl;
-          registers = was;
           none_left = left_live;
-          size = smaller;
         }
 
 pub dropped_kept : (m q : Mach) → WellFormed m → WellPlaced m → IsDropped m q → IsDropKept m q

@@ -1,21 +1,17 @@
 -- Mach functions without the instructions that only compute what nothing uses.
 use Rattle.std.specs.Prelude.{◌≡◌, ℕ, Bool, true, false, cond, ◌&&◌, List, [], ◌∷◌, length}
-use Rattle.mach_ir.specs.Formed.{WellFormed}
-use Rattle.mach_ir.specs.Keeps.{Keeps}
-use Rattle.mach_ir.specs.Placed.{WellPlaced, AllocatesFresh}
-use Rattle.mach_ir.specs.Seats.{Seated}
-use Rattle.mach_ir.specs.Sizes.{Size, HasSize}
-use Rattle.mach_ir.specs.Walks.{AmongRegisters, Writes, WalkStep, Raises, LiveAfter, StandsAsInstr, IsRegister}
+use Rattle.mach_ir.specs.Placed.{AllocatesFresh}
+use Rattle.mach_ir.specs.Walks.{AmongRegisters, Writes, WalkStep, Raises, LiveAfter, StandsAsInstr}
 use Rattle.mach_ir.specs.declared.op.CopyKind.TheVariants as copy
 use Rattle.mach_ir.specs.declared.op.Op.TheVariants as op
 use Rattle.mach_ir.specs.declared.op.Pure.{Pure}
 use Rattle.mach_ir.specs.declared.op.Pure.TheVariants as pure
-use Rattle.mach_ir.specs.declared.reg.Reg.{Reg}
 use Rattle.mach_ir.specs.declared.mach.MachOp.{MachOp}
 use Rattle.mach_ir.specs.declared.mach.MachOp.TheVariants as mach
 use Rattle.mach_ir.specs.declared.mach.Instr.{Instr}
 use Rattle.mach_ir.specs.declared.mach.Mach.{Mach}
 use Rattle.mach_laws.specs.Expand.{expand}
+use Rattle.mach_laws.specs.Passes.{IsPassKept, IsNoLarger}
 
 -- constants, symbols, moves and integer operators; a spill or a reload stays
 abbrev pub only_computes : Pure → Bool
@@ -82,15 +78,9 @@ pub record HasLiveResult (q : Mach) (i : Instr) (next : List Instr) : Type 0 whe
 
 -- What a function without its dead instructions keeps.
 pub record IsDropKept (p q : Mach) : Type 0 where
-  pub keeps : Keeps p q
-  pub formed : WellFormed q
-  pub placed : WellPlaced q
-  pub seated : Seated p → Seated q
+  pub pass : IsPassKept p q
+  pub no_larger : IsNoLarger p q
   pub fresh : AllocatesFresh p → AllocatesFresh q
-  pub params : q.params ≡ p.params
-  -- no register is new, and none gets a place
-  pub registers : (r : Reg) → IsRegister q r → IsRegister p r
   -- what may go and is left has a result that is live after it
   pub none_left : (i : Instr) (next : List Instr) → StandsAsInstr i next q.code → may_go i.op ≡ true →
       HasLiveResult q i next
-  pub size : (s : Size) → HasSize p s → HasSize q s

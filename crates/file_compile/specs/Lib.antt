@@ -2,3 +2,4 @@ pub mod Accepted
 pub mod Pieces
 pub mod Listed
 pub mod Known
+pub mod Promised

@@ -14,6 +14,7 @@ ghost use Rattle.file_promise.specs.Known.{IsFunctionMade, AreTablesMadeFor};
 ghost use Rattle.file_compile.specs.Accepted.{IsAcceptedFile, IsAcceptedFunction};
 ghost use Rattle.stages.specs.Image.{IsOfImage};
 ghost use Rattle.file_compile.specs.Listed.{AreFunctionTexts, IsStageText};
+ghost use Rattle.file_compile.specs.Promised.{IsPromised};
 ghost use Rattle.file_compile.specs.Pieces.{ArePiecesAt};
 
 use crate::gate::{Gate, OpenGate};
@@ -146,7 +147,8 @@ pub fn compile_by<R: Threads + Sync, G: Gate + Sync>(
     assemble(rt, alloc, pieces.as_slice(), checked.typed(), &placed, jobs)
 }
 
-/// The image of a checked file by the defaults, as `compile_by` makes it.
+/// The image of a checked file by the defaults, as `compile_by` makes it. Runs of it do what the file means, it asks
+/// for allocations only in need, it is as small as the file asks, and its frame descriptors are exact.
 pub fn compile<R: Threads + Sync, G: Gate + Sync>(
     rt: &R,
     alloc: Global,
@@ -160,6 +162,8 @@ pub fn compile<R: Threads + Sync, G: Gate + Sync>(
     ensures made { IfOk result (λ image.
         AreTablesMadeFor defaults (file_view checked.now) (tables image)) }
     ensures is_image { IfOk result IsImage }
+    ensures promised { IfOk result (λ image.
+        IsPromised defaults (file_view checked.now) (tables image)) }
     ensures fits { IfOk result (λ image. first_too_large (tables image) ≡ None) }
     ensures large { (large : Large)
         → result ≡ Err (BuildError.TooLarge large)

@@ -23,6 +23,7 @@ use Rattle.hoist_rules.specs.Hoisted.{makes, FitsAlways, an_int, an_odd_val, May
 use Rattle.hoist_rules.specs.Chosen.{IsLoopRound, IsWide, IsMoved}
 use Rattle.mach_laws.proofs.Places.{shorter, results_in, is_unset}
 use Rattle.mach_laws.proofs.Among.{split_among, left_among}
+use Rattle.mach_laws.proofs.Instructions.{instr}
 use Rattle.hoist.specs.Constants.{is_wide, fits_always, constant_of, can_hold, holds_wide, makes_wide}
 use Rattle.hoist.specs.Loops.{exit_of, EndsFrom, IsFirstCall, IsCalmWide}
 use Rattle.hoist.specs.Written.{writes_counted, times, is_once}
@@ -156,15 +157,12 @@ pub record MakesWide (i : Instr) : Type 0 where
   pub open_place : register.loc ≡ loc.Unset
   pub wide : IsWide word
 
-abbrev of_parts : MachOp → List Reg → List Reg → Instr
-of_parts f args results = record { op = f; args = args; results = results }
-
 constant_told : (w : ℕ) (args results : List Reg) → holds_wide (Some w) args results ≡ true →
-    MakesWide (of_parts (mach.Op (op.Pure (pure.Constant w))) args results)
+    MakesWide (instr (mach.Op (op.Pure (pure.Constant w))) args results)
 constant_told w args results e = by args results (and_parts (is_wide w) (are_none args && can_hold w results) e)
   where
     by : (args results : List Reg) → (is_wide w ≡ true) × ((are_none args && can_hold w results) ≡ true) →
-        MakesWide (of_parts (mach.Op (op.Pure (pure.Constant w))) args results)
+        MakesWide (instr (mach.Op (op.Pure (pure.Constant w))) args results)
     by [] [] t = absurd (true≢false (sym t.1))
     by [] (r ∷ []) t =
         let h = and_parts (is_unset_location r.loc) (fits_always r.comp w) t.1 in
@@ -179,7 +177,7 @@ constant_told w args results e = by args results (and_parts (is_wide w) (are_non
     by [] (r ∷ q ∷ rs) t = absurd (true≢false (sym t.1))
     by (a ∷ args) results t = absurd (true≢false (sym t.1))
 
-parts_told : (f : MachOp) (args results : List Reg) → holds_wide (constant_of f) args results ≡ true → MakesWide (of_parts f args results)
+parts_told : (f : MachOp) (args results : List Reg) → holds_wide (constant_of f) args results ≡ true → MakesWide (instr f args results)
 parts_told (mach.Op (op.Pure (pure.Constant w))) args results e = constant_told w args results e
 parts_told (mach.Op (op.Pure (pure.Copy kind))) args results e = absurd (true≢false (sym e))
 parts_told (mach.Op (op.Pure (pure.Symbol name))) args results e = absurd (true≢false (sym e))

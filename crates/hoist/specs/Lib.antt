@@ -1,4 +1,3 @@
-pub mod Tables
 pub mod Constants
 pub mod Loops
 pub mod Written

@@ -6,15 +6,14 @@ ghost use Rattle.mach_ir.specs.declared.reg.Reg.{Reg};
 ghost use Rattle.hoist_rules.specs.Chosen.{AreChosen};
 ghost use Rattle.hoist.specs.Loops.{AreFlags};
 ghost use Rattle.hoist.specs.Moves.{flag_stays, StaysAt, moves_by, none_moves};
-ghost use Rattle.hoist.specs.Tables.{table_entry};
+ghost use Rattle.mach_ir.specs.NumberTables.{table_entry};
 ghost use Rattle.hoist.specs.Written.{is_once};
 
 use crate::calls::first_call;
 use crate::constants::has_wide;
 use crate::loops::{in_calm_loops, last_exits};
-use crate::table::Table;
 use crate::writes::{is_once, times_written};
-use mach_ir::{Instr, Mach};
+use mach_ir::{Instr, Mach, NumberTable};
 use std::alloc::{AllocError, Global};
 
 /// Whether none of them moves.
@@ -25,7 +24,7 @@ pub fn none_moves(flags: &[bool]) -> bool
 }
 
 /// Whether the flag of the instruction stays: nothing else writes its results.
-fn stays(flag: bool, writes: &Table, instr: &Instr) -> bool
+fn stays(flag: bool, writes: &NumberTable, instr: &Instr) -> bool
     ensures { result ≡ flag_stays flag (table_entry writes.now) instr.now }
 {
     flag && is_once(writes, instr)
@@ -36,7 +35,7 @@ fn written_once(
     alloc: Global,
     flags: &[bool],
     code: &[Instr],
-    writes: &Table,
+    writes: &NumberTable,
 ) -> Result<Vec<bool>, AllocError>
     requires { length flags.now ≤ length code.now }
     ensures { IfOk result (λ kept.

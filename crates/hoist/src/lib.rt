@@ -11,7 +11,6 @@ mod choosing;
 mod constants;
 mod hoisting;
 mod loops;
-mod table;
 mod writes;
 
 pub use hoisting::hoist;

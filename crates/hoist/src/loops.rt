@@ -1,11 +1,10 @@
 //! Loops, by the text.
 ghost use Rattle.std.specs.Prelude.{◌≡◌, ◌≤◌, ◌&&◌, ℕ, length, IfOk};
 ghost use Rattle.hoist.specs.Loops.{exit_of, loop_end, end_noted, is_calm_wide, AreEnds, AreFlags, IsCalmWide};
-ghost use Rattle.hoist.specs.Tables.{table_entry};
+ghost use Rattle.mach_ir.specs.NumberTables.{table_entry};
 
 use crate::constants::makes_wide;
-use crate::table::Table;
-use mach_ir::{Instr, Label, MachOp, Mark};
+use mach_ir::{Instr, Label, MachOp, Mark, NumberTable};
 use std::alloc::{AllocError, Global};
 
 /// The label to which a mark exits.
@@ -44,7 +43,7 @@ fn exit_of(op: &MachOp) -> Option<Label>
 }
 
 /// Notes the exit, after which this place comes, if it is one.
-fn note_exit(ends: &mut Table, op: &MachOp, after: usize) -> Result<(), AllocError>
+fn note_exit(ends: &mut NumberTable, op: &MachOp, after: usize) -> Result<(), AllocError>
     ensures { IfOk result (λ _. (l : ℕ) →
         table_entry ends.new l ≡ end_noted (exit_of op.now) after (table_entry ends.old) l) }
 {
@@ -55,10 +54,10 @@ fn note_exit(ends: &mut Table, op: &MachOp, after: usize) -> Result<(), AllocErr
 }
 
 /// For each label the place after the last exit to it, or 0. The only error is want of memory.
-pub fn last_exits(alloc: Global, code: &[Instr]) -> Result<Table, AllocError>
+pub fn last_exits(alloc: Global, code: &[Instr]) -> Result<NumberTable, AllocError>
     ensures { IfOk result (λ ends. AreEnds code.now (table_entry ends)) }
 {
-    let mut ends = Table::new(alloc);
+    let mut ends = NumberTable::new(alloc);
     for place in 0..code.len() {
         note_exit(&mut ends, &code[place].op, place + 1)?;
     }
@@ -66,7 +65,7 @@ pub fn last_exits(alloc: Global, code: &[Instr]) -> Result<Table, AllocError>
 }
 
 /// The place after the last exit to the label that is here, or 0.
-fn end_of(ends: &Table, op: &MachOp) -> usize
+fn end_of(ends: &NumberTable, op: &MachOp) -> usize
     ensures { result ≡ loop_end (table_entry ends.now) op.now }
 {
     match op.own_label() {
@@ -87,7 +86,7 @@ fn is_calm_wide(instr: &Instr, place: usize, reach: usize, calls: usize) -> bool
 pub fn in_calm_loops(
     alloc: Global,
     code: &[Instr],
-    ends: &Table,
+    ends: &NumberTable,
     calls: usize,
 ) -> Result<Vec<bool>, AllocError>
     requires ends { AreEnds code.now (table_entry ends.now) }

@@ -1,10 +1,9 @@
 //! How often registers are written.
 ghost use Rattle.std.specs.Prelude.{◌≡◌, ℕ, IfOk};
-ghost use Rattle.hoist.specs.Tables.{table_entry};
+ghost use Rattle.mach_ir.specs.NumberTables.{table_entry};
 ghost use Rattle.hoist.specs.Written.{more, writes_counted, noted_in, times, is_once};
 
-use crate::table::Table;
-use mach_ir::{Instr, Mach, Reg};
+use mach_ir::{Instr, Mach, NumberTable, Reg};
 use std::alloc::{AllocError, Global};
 
 /// Once more: 2 stands for each greater number too.
@@ -14,7 +13,7 @@ fn more(times: usize) -> usize
     if times == 0 { 1 } else { 2 }
 }
 
-fn note_writes(writes: &mut Table, regs: &[Reg]) -> Result<(), AllocError>
+fn note_writes(writes: &mut NumberTable, regs: &[Reg]) -> Result<(), AllocError>
     ensures { IfOk result (λ _. (n : ℕ) →
         table_entry writes.new n ≡ writes_counted n regs.now (table_entry writes.old n)) }
 {
@@ -25,7 +24,7 @@ fn note_writes(writes: &mut Table, regs: &[Reg]) -> Result<(), AllocError>
     Ok(())
 }
 
-fn note_code(writes: &mut Table, code: &[Instr]) -> Result<(), AllocError>
+fn note_code(writes: &mut NumberTable, code: &[Instr]) -> Result<(), AllocError>
     ensures { IfOk result (λ _. (n : ℕ) →
         table_entry writes.new n ≡ noted_in n code.now (table_entry writes.old n)) }
 {
@@ -38,17 +37,17 @@ fn note_code(writes: &mut Table, code: &[Instr]) -> Result<(), AllocError>
 /// How often each register is written, by its number: 0, 1 or, for more, 2. The entry writes the
 /// parameters. What an instruction destroys is at a colour, and is not counted.
 /// The only error is want of memory.
-pub fn times_written(alloc: Global, mach: &Mach) -> Result<Table, AllocError>
+pub fn times_written(alloc: Global, mach: &Mach) -> Result<NumberTable, AllocError>
     ensures { IfOk result (λ writes. (n : ℕ) → table_entry writes n ≡ times mach.now n) }
 {
-    let mut writes = Table::new(alloc);
+    let mut writes = NumberTable::new(alloc);
     note_writes(&mut writes, mach.params.as_slice())?;
     note_code(&mut writes, mach.code.as_slice())?;
     Ok(writes)
 }
 
 /// Whether its results are written nowhere else.
-pub fn is_once(writes: &Table, instr: &Instr) -> bool
+pub fn is_once(writes: &NumberTable, instr: &Instr) -> bool
     ensures { result ≡ is_once (table_entry writes.now) instr.now }
 {
     instr

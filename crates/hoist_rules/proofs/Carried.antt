@@ -1,6 +1,6 @@
 -- Constants that are made at the entry are as many words as before, and no frame point or exit is new; and what a function
 -- keeps then, whole.
-use Rattle.std.proofs.Common.{◌≡◌, ℕ, ◌+◌, ◌≤◌, Bool, cond, inl, inr, ◌⊎◌, ⊎_elim, List, ◌∷◌, ◌++◌, length, refl, sym, ap, ◌∙◌, subst, arith}
+use Rattle.std.proofs.Common.{◌≡◌, ℕ, ◌≤◌, Bool, cond, inl, inr, ◌⊎◌, ⊎_elim, List, ◌∷◌, ◌++◌, length, refl, sym, ap, ◌∙◌, subst, arith}
 use Rattle.std.specs.Prelude.{slice_index_or}
 use Rattle.std.proofs.lemmas.List.Elements.{Contains-get_or, All-contains}
 use Rattle.std.proofs.Math.Nat.{le_of_eq}
@@ -81,14 +81,14 @@ module _ (m : Mach) (moves : ℕ → Bool) (may : MayAllMove m moves) (formed : 
   pub kept_by : IsHoistKept m (hoisted moves m)
   kept_by =
       record {
-        keeps = whole.still_keeps m moves may formed;
-        formed = whole.still_formed m moves may formed;
-        placed = whole.still_placed m moves may formed;
-        seated = whole.still_seated m moves may;
+        pass = record {
+          keeps = whole.still_keeps m moves may formed;
+          formed = whole.still_formed m moves may formed;
+          placed = whole.still_placed m moves may formed;
+          seated = whole.still_seated m moves may;
+        };
+        no_larger = record { params = refl; registers = whole.was m moves may; size = whole.same_size m moves may };
         fresh = whole.still_fresh m moves may;
-        params = refl;
-        registers = whole.was m moves may;
-        size = whole.same_size m moves may;
         carried = carried;
       }
 

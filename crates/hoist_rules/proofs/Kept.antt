@@ -10,7 +10,7 @@ use Rattle.bs_words.specs.declared.values.Value.{Value}
 use Rattle.bs_words.specs.declared.values.Value.TheVariants as value
 use Rattle.bs_words.proofs.Lists.{head_same, tail_same}
 use Rattle.cmm_meaning.specs.State.{Doing}
-use Rattle.mach_ir.specs.Acts.{Around, Target, On, At, Landing, Goes, Replaces, Stuck}
+use Rattle.mach_ir.specs.Acts.{Around, Target, On, At, Landing, Goes, Stuck}
 use Rattle.mach_ir.specs.Formed.{IsFormedInstruction, WellFormed}
 use Rattle.mach_ir.specs.Runs.{ActivationSetting, entry_around}
 use Rattle.mach_ir.specs.Meaning.{Held, State, File, unless_addr, with_held, assign_register, put_all, clear_registers, killed, registers_written, values, past_frame, passes_frame, mach_act, after_label, landing_code, mach_start}

@@ -5,11 +5,7 @@ use Rattle.bs_words.specs.declared.types.Comp.{Comp}
 use Rattle.bs_words.specs.declared.types.Comp.TheVariants as comp
 use Rattle.bs_words.specs.declared.types.Loc.TheVariants as loc
 use Rattle.deadcode_rules.specs.Dropped.{unless_dropped}
-use Rattle.mach_ir.specs.Formed.{WellFormed}
-use Rattle.mach_ir.specs.Keeps.{Keeps}
-use Rattle.mach_ir.specs.Placed.{WellPlaced, AllocatesFresh}
-use Rattle.mach_ir.specs.Seats.{Seated}
-use Rattle.mach_ir.specs.Sizes.{Size, HasSize}
+use Rattle.mach_ir.specs.Placed.{AllocatesFresh}
 use Rattle.mach_ir.specs.Walks.{AmongRegisters, Writes, StandsAsInstr, IsRegister}
 use Rattle.mach_ir.specs.declared.op.Op.TheVariants as op
 use Rattle.mach_ir.specs.declared.op.Pure.TheVariants as pure
@@ -19,6 +15,7 @@ use Rattle.mach_ir.specs.declared.mach.Instr.{Instr}
 use Rattle.mach_ir.specs.declared.mach.Mach.{Mach}
 use Rattle.mach_laws.specs.Expand.{expand}
 use Rattle.pass_rules.specs.Carried.{IsCarried}
+use Rattle.mach_laws.specs.Passes.{IsPassKept, IsNoLarger}
 
 -- the instruction that makes a constant in a register
 abbrev pub makes : Reg → ℕ → Instr
@@ -67,13 +64,7 @@ pub record IsHoisted (m q : Mach) : Type 0 where
 
 -- What a function keeps whose constants are made at the entry.
 pub record IsHoistKept (p q : Mach) : Type 0 where
-  pub keeps : Keeps p q
-  pub formed : WellFormed q
-  pub placed : WellPlaced p → WellPlaced q
-  pub seated : Seated p → Seated q
+  pub pass : IsPassKept p q
+  pub no_larger : IsNoLarger p q
   pub fresh : AllocatesFresh p → AllocatesFresh q
-  pub params : q.params ≡ p.params
-  -- no register is new, and none gets a place
-  pub registers : (r : Reg) → IsRegister q r → IsRegister p r
-  pub size : (s : Size) → HasSize p s → HasSize q s
   pub carried : IsCarried 0 p q

@@ -27,6 +27,11 @@ abbrev pub ReadsImagePart : {X Y : Type 0} → (X → Y) → Result X ImageError
 ReadsImagePart view (Ok x) read = read ≡ Ok (view x)
 ReadsImagePart view (Err e) read = Refuses e read
 
+-- the same of a function that takes no memory
+abbrev pub ReadsWithoutMemory : {X Y : Type 0} → (X → Y) → Result X ImageRefusal → Result Y ImageRefusal → Type 0
+ReadsWithoutMemory view (Ok x) read = read ≡ Ok (view x)
+ReadsWithoutMemory view (Err refusal) read = read ≡ Err refusal
+
 -- the fault at the first of the bytes that are left of so many
 abbrev pub refused : ImageFault → ℕ → List ℕ → ImageRefusal
 refused fault total bytes = record { fault = fault; at = total - length bytes }
@@ -105,6 +110,13 @@ abbrev pub code_limits : List Func → Limits
 code_limits funcs = record { least = code_least funcs; most = code_limit; step = 4 }
 
 -- ---- the whole
+
+-- the front of an image, up to the end of its first section: what is read before any memory is taken
+unfoldable pub opening_at : List ℕ → Result (List ℕ × List ℕ) ImageRefusal
+opening_at bytes = do
+  behind_magic ← after_mark (length bytes) faults.Magic magic bytes
+  front ← version_at (length bytes) behind_magic
+  section_at (length bytes) (codes "FUNC") table_limits front.1
 
 unfoldable pub image_reading : List ℕ → Result Tables ImageRefusal
 image_reading bytes = do

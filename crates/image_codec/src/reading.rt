@@ -2,13 +2,13 @@
 //!
 //! A longer input than any image is still read as one, up to one byte past the longest, so that its first
 //! fault is reported.
-ghost use Rattle.std.specs.Prelude.{◌≡◌, List, ℕ, [], ◌*◌, ◌<◌, length, map, codes, IfOk, IfErr, Ok};
+ghost use Rattle.std.specs.Prelude.{◌≡◌, List, ℕ, [], ◌*◌, ◌<◌, length, map, codes, IfOk, IfErr, IsErrOf, IsOk, Ok};
 ghost use Rattle.image_form.specs.Tables.{tables, func, sym, ext, desc, func_names};
 ghost use Rattle.image_form.specs.Image.{IsImage, image_bytes};
 ghost use Rattle.image_form.specs.Seen.{HoldsTexts};
 ghost use Rattle.image_form.specs.Fields.{func_at, sym_at, root_offset_field, ext_at, desc_at, table_at, words_of_body};
-ghost use Rattle.image_codec.specs.Reading.{IsRefusalOf, ReadsImagePart, refused, whole_at, after_mark, version_at, is_within_limits, length_at, section_at, placed_result, part_at, table_limits, data_limits, code_limits, code_least, image_reading};
-ghost use Rattle.image_form.specs.declared.fault.ImageError.TheVariants.{Refused};
+ghost use Rattle.image_codec.specs.Reading.{IsRefusalOf, ReadsImagePart, ReadsWithoutMemory, opening_at, refused, whole_at, after_mark, version_at, is_within_limits, length_at, section_at, placed_result, part_at, table_limits, data_limits, code_limits, code_least, image_reading};
+ghost use Rattle.image_form.specs.declared.fault.ImageError.{ImageError};
 
 use crate::rows::{desc_table, end_of, ext_table, func_table, root_table, sym_table, words};
 use bs_fault::{ImageFault, ImageRefusal};
@@ -39,24 +39,24 @@ const DATA: Limits = Limits {
 };
 
 /// The fault at the first of the bytes that are left of so many.
-fn refusal(fault: ImageFault, total: usize, rest: &[u8]) -> ImageError
-    ensures { result ≡ Refused (refused fault total rest.now) }
+fn refusal(fault: ImageFault, total: usize, rest: &[u8]) -> ImageRefusal
+    ensures { result ≡ refused fault total rest.now }
 {
     let at = total.saturating_sub(rest.len()) as u64;
-    ImageError::Refused(ImageRefusal { fault, at })
+    ImageRefusal { fault, at }
 }
 
 /// The first bytes. Where they are not all there, the fault is at the end of the image.
 #[tactic(auto, unfolding(crate::specs::Reading::whole_at))]
-fn whole_from(total: usize, count: usize, bytes: &[u8]) -> Result<(&[u8], &[u8]), ImageError>
-    ensures reads { ReadsImagePart (λ x. (x.0.now, x.1.now)) result (whole_at total count bytes.now) }
+fn whole_from(total: usize, count: usize, bytes: &[u8]) -> Result<(&[u8], &[u8]), ImageRefusal>
+    ensures reads { ReadsWithoutMemory (λ x. (x.0.now, x.1.now)) result (whole_at total count bytes.now) }
     ensures len { IfOk result (λ x. length x.0.now ≡ count) }
 {
     if bytes.len() < count {
-        return Err(ImageError::Refused(ImageRefusal {
+        return Err(ImageRefusal {
             fault: ImageFault::Truncated,
             at: total as u64,
-        }));
+        });
     }
     Ok(bytes.split_at(count))
 }
@@ -67,8 +67,8 @@ fn mark_from<'a>(
     fault: ImageFault,
     mark: &[u8],
     bytes: &'a [u8],
-) -> Result<&'a [u8], ImageError>
-    ensures { ReadsImagePart (λ x. x.now) result (after_mark total fault mark.now bytes.now) }
+) -> Result<&'a [u8], ImageRefusal>
+    ensures { ReadsWithoutMemory (λ x. x.now) result (after_mark total fault mark.now bytes.now) }
 {
     let (front, rest) = whole_from(total, mark.len(), bytes)?;
     if front == mark {
@@ -80,8 +80,8 @@ fn mark_from<'a>(
 
 /// The version, 1 or 2.
 #[tactic(auto, unfolding(crate::specs::Reading::version_at))]
-fn version_from(total: usize, bytes: &[u8]) -> Result<(u32, &[u8]), ImageError>
-    ensures { ReadsImagePart (λ x. (x.0, x.1.now)) result (version_at total bytes.now) }
+fn version_from(total: usize, bytes: &[u8]) -> Result<(u32, &[u8]), ImageRefusal>
+    ensures { ReadsWithoutMemory (λ x. (x.0, x.1.now)) result (version_at total bytes.now) }
 {
     let (front, rest) = whole_from(total, 4, bytes)?;
     let version = u32::from_le_bytes([front[0], front[1], front[2], front[3]]);
@@ -101,9 +101,9 @@ fn is_within(limits: Limits, len: u32) -> bool
 }
 
 #[tactic(auto, unfolding(crate::specs::Reading::length_at))]
-fn length_from(total: usize, limits: Limits, bytes: &[u8]) -> Result<(usize, &[u8]), ImageError>
+fn length_from(total: usize, limits: Limits, bytes: &[u8]) -> Result<(usize, &[u8]), ImageRefusal>
     requires { 0 < limits.step }
-    ensures { ReadsImagePart (λ x. (x.0, x.1.now)) result (length_at total limits bytes.now) }
+    ensures { ReadsWithoutMemory (λ x. (x.0, x.1.now)) result (length_at total limits bytes.now) }
 {
     let (front, rest) = whole_from(total, 4, bytes)?;
     let len = u32::from_le_bytes([front[0], front[1], front[2], front[3]]);
@@ -121,9 +121,9 @@ fn section_from<'a>(
     name: &[u8],
     limits: Limits,
     bytes: &'a [u8],
-) -> Result<(&'a [u8], &'a [u8]), ImageError>
+) -> Result<(&'a [u8], &'a [u8]), ImageRefusal>
     requires { 0 < limits.step }
-    ensures { ReadsImagePart (λ x. (x.0.now, x.1.now)) result (section_at total name.now limits bytes.now) }
+    ensures { ReadsWithoutMemory (λ x. (x.0.now, x.1.now)) result (section_at total name.now limits bytes.now) }
 {
     let rest = mark_from(total, ImageFault::Section, name, bytes)?;
     let (len, rest) = length_from(total, limits, rest)?;
@@ -160,6 +160,9 @@ fn func_part<'a>(
     ensures reads { ReadsImagePart (λ x. (map func x.0.items, x.1.now)) result
         (part_at total (codes "FUNC") table_limits (table_at func_at) bytes.now) }
     ensures seen { IfOk result (λ x. HoldsTexts seen.new (func_names (map func x.0.items))) }
+    ensures whole { IfOk result (λ _. IsOk (section_at total (codes "FUNC") table_limits bytes.now)) }
+    ensures memory { IsErrOf result ImageError.OutOfMemory
+        → IsOk (section_at total (codes "FUNC") table_limits bytes.now) }
 {
     let (body, rest) = section_from(total, b"FUNC", TABLE, bytes)?;
     let rows = placed(total, rest, func_table(alloc, seen, body))?;
@@ -185,8 +188,10 @@ fn code_part<'a>(
     funcs: &[FuncRow],
     bytes: &'a [u8],
 ) -> Result<(Vec<u32>, &'a [u8]), ImageError>
-    ensures { ReadsImagePart (λ x. (x.0.items, x.1.now)) result
+    ensures reads { ReadsImagePart (λ x. (x.0.items, x.1.now)) result
         (part_at total (codes "CODE") (code_limits (map func funcs.now)) words_of_body bytes.now) }
+    ensures memory { IsErrOf result ImageError.OutOfMemory
+        → IsOk (section_at total (codes "CODE") (code_limits (map func funcs.now)) bytes.now) }
 {
     let limits = Limits {
         least: code_least(funcs),
@@ -200,8 +205,10 @@ fn code_part<'a>(
 
 #[tactic(auto, unfolding(crate::specs::Reading::part_at))]
 fn data_part(alloc: Global, total: usize, bytes: &[u8]) -> Result<(Vec<u8>, &[u8]), ImageError>
-    ensures { ReadsImagePart (λ x. (x.0.items, x.1.now)) result
+    ensures reads { ReadsImagePart (λ x. (x.0.items, x.1.now)) result
         (part_at total (codes "DATA") data_limits Ok bytes.now) }
+    ensures memory { IsErrOf result ImageError.OutOfMemory
+        → IsOk (section_at total (codes "DATA") data_limits bytes.now) }
 {
     let (body, rest) = section_from(total, b"DATA", DATA, bytes)?;
     Ok((Vec::from_slice(alloc, body)?, rest))
@@ -215,11 +222,13 @@ fn sym_part<'a>(
     data_len: usize,
     bytes: &'a [u8],
 ) -> Result<(Vec<SymRow>, &'a [u8]), ImageError>
-    ensures { (names : List (List ℕ))
+    ensures reads { (names : List (List ℕ))
         → HoldsTexts seen.old names
         → ReadsImagePart (λ x. (map sym x.0.items, x.1.now)) result
         (part_at total (codes "SYMS") table_limits (table_at (sym_at names data_len))
         bytes.now) }
+    ensures memory { IsErrOf result ImageError.OutOfMemory
+        → IsOk (section_at total (codes "SYMS") table_limits bytes.now) }
 {
     let (body, rest) = section_from(total, b"SYMS", TABLE, bytes)?;
     let rows = placed(total, rest, sym_table(alloc, seen, data_len, body))?;
@@ -233,8 +242,10 @@ fn root_part(
     data_len: usize,
     bytes: &[u8],
 ) -> Result<(Vec<u32>, &[u8]), ImageError>
-    ensures { ReadsImagePart (λ x. (x.0.items, x.1.now)) result
+    ensures reads { ReadsImagePart (λ x. (x.0.items, x.1.now)) result
         (part_at total (codes "ROOT") table_limits (table_at (root_offset_field data_len)) bytes.now) }
+    ensures memory { IsErrOf result ImageError.OutOfMemory
+        → IsOk (section_at total (codes "ROOT") table_limits bytes.now) }
 {
     let (body, rest) = section_from(total, b"ROOT", TABLE, bytes)?;
     let rows = placed(total, rest, root_table(alloc, data_len, body))?;
@@ -243,8 +254,10 @@ fn root_part(
 
 #[tactic(auto, unfolding(crate::specs::Reading::part_at))]
 fn ext_part(alloc: Global, total: usize, bytes: &[u8]) -> Result<(Vec<ExtRow>, &[u8]), ImageError>
-    ensures { ReadsImagePart (λ x. (map ext x.0.items, x.1.now)) result
+    ensures reads { ReadsImagePart (λ x. (map ext x.0.items, x.1.now)) result
         (part_at total (codes "EXTC") table_limits (table_at ext_at) bytes.now) }
+    ensures memory { IsErrOf result ImageError.OutOfMemory
+        → IsOk (section_at total (codes "EXTC") table_limits bytes.now) }
 {
     let (body, rest) = section_from(total, b"EXTC", TABLE, bytes)?;
     let rows = placed(total, rest, ext_table(alloc, body))?;
@@ -259,18 +272,21 @@ fn desc_part(
     code_len: usize,
     bytes: &[u8],
 ) -> Result<(Vec<DescRow>, &[u8]), ImageError>
-    ensures { ReadsImagePart (λ x. (map desc x.0.items, x.1.now)) result
+    ensures reads { ReadsImagePart (λ x. (map desc x.0.items, x.1.now)) result
         (part_at total (codes "DESC") table_limits (table_at (desc_at version code_len))
         bytes.now) }
+    ensures memory { IsErrOf result ImageError.OutOfMemory
+        → IsOk (section_at total (codes "DESC") table_limits bytes.now) }
 {
     let (body, rest) = section_from(total, b"DESC", TABLE, bytes)?;
     let rows = placed(total, rest, desc_table(alloc, version, code_len, body))?;
     Ok((rows, rest))
 }
 
-#[tactic(auto, unfolding(crate::specs::Reading::image_reading))]
+#[tactic(auto, unfolding(crate::specs::Reading::image_reading, crate::specs::Reading::opening_at))]
 fn image_from(alloc: Global, bytes: &[u8]) -> Result<Image, ImageError>
-    ensures { ReadsImagePart tables result (image_reading bytes.now) }
+    ensures reads { ReadsImagePart tables result (image_reading bytes.now) }
+    ensures memory { IsErrOf result ImageError.OutOfMemory → IsOk (opening_at bytes.now) }
 {
     let total = bytes.len();
     let rest = mark_from(total, ImageFault::Magic, b"CMMRV64\n", bytes)?;
@@ -284,7 +300,7 @@ fn image_from(alloc: Global, bytes: &[u8]) -> Result<Image, ImageError>
     let (extcs, rest) = ext_part(alloc, total, rest)?;
     let (descs, rest) = desc_part(alloc, total, version, 4 * code.len(), rest)?;
     if !rest.is_empty() {
-        return Err(refusal(ImageFault::Trailing, total, rest));
+        return Err(refusal(ImageFault::Trailing, total, rest).into());
     }
     Ok(Image {
         version,
@@ -304,7 +320,8 @@ fn image_from(alloc: Global, bytes: &[u8]) -> Result<Image, ImageError>
 ///
 /// `Refused` exactly where no image has these bytes, with the first fault from the front. A fault in a field is
 /// reported at the field's first byte, one of a name at its length, and bytes that end too early at their end.
-/// `OutOfMemory` where memory ran out before the answer is known.
+/// `OutOfMemory` where memory ran out before the answer is known, and never for a fault in the mark, in the version or in
+/// the frame of the first section.
 pub fn read_image(alloc: Global, bytes: &[u8]) -> Result<Image, ImageError>
     // What is read is an image, and these are its bytes.
     ensures found { IfOk result (λ image. IsImage image × (image_bytes image ≡ bytes.now)) }
@@ -315,6 +332,8 @@ pub fn read_image(alloc: Global, bytes: &[u8]) -> Result<Image, ImageError>
         → ReadsImagePart tables result (Ok (tables image)) }
     // What is refused is no image's bytes, and the fault is the first.
     ensures refused { IfErr result (IsRefusalOf bytes.now) }
+    // Memory is wanted only behind a right mark, a known version and a whole first section.
+    ensures memory { IsErrOf result ImageError.OutOfMemory → IsOk (opening_at bytes.now) }
 {
     image_from(alloc, bytes)
 }

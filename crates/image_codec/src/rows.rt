@@ -2,13 +2,14 @@
 //!
 //! The number of parameters is tested at its own byte. The count of a table is not tested: one that is too
 //! large shows at the first field past the body's end.
-ghost use Rattle.std.specs.Prelude.{◌≡◌, List, ℕ, [], ◌∷◌, ◌++◌, ◌&&◌, ◌+◌, ◌%◌, ◌==◌, map, nat_lt, nat_le, IfOk};
+ghost use Rattle.std.specs.Prelude.{◌≡◌, List, ℕ, [], ◌∷◌, ◌++◌, ◌&&◌, ◌+◌, ◌%◌, ◌==◌, map, nat_lt, nat_le, IfOk, IsErrOf, IsOk};
 ghost use Rattle.std.specs.Int.{w32};
 ghost use Rattle.bs_words.specs.External.{External};
 ghost use Rattle.image_form.specs.Tables.{func, sym, ext, desc, func_names, sym_names};
 ghost use Rattle.image_form.specs.Image.{function_end, ext_bytes};
+ghost use Rattle.image_form.specs.declared.fault.Stop.{Stop};
 ghost use Rattle.image_form.specs.Seen.{HoldsTexts};
-ghost use Rattle.image_form.specs.Fields.{GivesField, number_at, rows_at, at_last, func_offset_at, frame_at, func_at, sym_offset_at, sym_at, root_offset_field, ext_at, is_entry, is_next_entry, entry_at, is_return, after_at, frame_size_field, desc_at, table_at, words_of_body};
+ghost use Rattle.image_form.specs.Fields.{GivesField, ReadsField, name_at, number_at, rows_at, at_last, func_offset_at, frame_at, func_at, sym_offset_at, sym_at, root_offset_field, ext_at, is_entry, is_next_entry, entry_at, is_return, after_at, frame_size_field, desc_at, table_at, words_of_body};
 
 use crate::writing::ext_text;
 use bs_words::Name;
@@ -16,7 +17,7 @@ use image_form::fields::{
     ext_result_from, name_from, new_name_from, params_from, result_from, u32_from, wide_from,
 };
 use image_form::limits::FIRST_RETURN;
-use image_form::{DescRow, ExtRow, FuncRow, Seen, Stop, SymRow};
+use image_form::{BadField, DescRow, ExtRow, FuncRow, Seen, Stop, SymRow};
 use std::alloc::Global;
 
 /// The bytes of code before the end of the function.
@@ -44,23 +45,23 @@ fn begins_behind(before: &[FuncRow], offset: u32) -> bool
 }
 
 #[tactic(auto, unfolding(image_form::specs::Fields::func_offset_at, image_form::specs::Fields::kept))]
-fn func_offset_from<'a>(before: &[FuncRow], bytes: &'a [u8]) -> Result<(u32, &'a [u8]), Stop>
-    ensures { GivesField (λ x. (x.0, x.1.now)) result (func_offset_at (map func before.now) bytes.now) }
+fn func_offset_from<'a>(before: &[FuncRow], bytes: &'a [u8]) -> Result<(u32, &'a [u8]), BadField>
+    ensures { ReadsField (λ x. (x.0, x.1.now)) result (func_offset_at (map func before.now) bytes.now) }
 {
     let (offset, rest) = u32_from(bytes)?;
     if offset % 4 != 0 || !begins_behind(before, offset) {
-        return Err(Stop::Left(bytes.len()));
+        return Err(BadField { left: bytes.len() });
     }
     Ok((offset, rest))
 }
 
 #[tactic(auto, unfolding(image_form::specs::Fields::frame_at, image_form::specs::Fields::kept))]
-fn frame_from(bytes: &[u8]) -> Result<(u32, &[u8]), Stop>
-    ensures { GivesField (λ x. (x.0, x.1.now)) result (frame_at bytes.now) }
+fn frame_from(bytes: &[u8]) -> Result<(u32, &[u8]), BadField>
+    ensures { ReadsField (λ x. (x.0, x.1.now)) result (frame_at bytes.now) }
 {
     let (frame, rest) = u32_from(bytes)?;
     if frame % 16 != 0 {
-        return Err(Stop::Left(bytes.len()));
+        return Err(BadField { left: bytes.len() });
     }
     Ok((frame, rest))
 }
@@ -122,6 +123,7 @@ pub(crate) fn func_table(alloc: Global, seen: &mut Seen, body: &[u8]) -> Result<
     requires { HoldsTexts seen.old [] }
     ensures gives { GivesField (λ rows. map func rows.items) result (table_at func_at body.now) }
     ensures seen { IfOk result (λ rows. HoldsTexts seen.new (func_names (map func rows.items))) }
+    ensures memory { IsErrOf result Stop.Memory → IsOk (number_at w32 body.now) }
 {
     let (count, rest) = u32_from(body)?;
     let (rows, rest) = funcs_from(alloc, seen, count, rest)?;
@@ -169,13 +171,13 @@ fn sym_offset_from<'a>(
     data_len: usize,
     before: &[SymRow],
     bytes: &'a [u8],
-) -> Result<(u32, &'a [u8]), Stop>
-    ensures { GivesField (λ x.
+) -> Result<(u32, &'a [u8]), BadField>
+    ensures { ReadsField (λ x.
         (x.0, x.1.now)) result (sym_offset_at data_len (map sym before.now) bytes.now) }
 {
     let (offset, rest) = u32_from(bytes)?;
     if offset as usize > data_len || !falls_not(before, offset) {
-        return Err(Stop::Left(bytes.len()));
+        return Err(BadField { left: bytes.len() });
     }
     Ok((offset, rest))
 }
@@ -197,6 +199,7 @@ fn sym_from<'a>(
         → HoldsTexts seen.old (names ++ sym_names (map sym before.now))
         → IfOk result
         (λ x. HoldsTexts seen.new ((names ++ sym_names (map sym before.now)) ++ x.0.name ∷ [])) }
+    ensures memory { IsErrOf result Stop.Memory → IsOk (name_at bytes.now) }
 {
     let (name, rest) = new_name_from(alloc, seen, bytes)?;
     let (offset, rest) = sym_offset_from(data_len, before, rest)?;
@@ -237,9 +240,10 @@ pub(crate) fn sym_table(
     data_len: usize,
     body: &[u8],
 ) -> Result<Vec<SymRow>, Stop>
-    ensures { (names : List (List ℕ))
+    ensures gives { (names : List (List ℕ))
         → HoldsTexts seen.old names
         → GivesField (λ rows. map sym rows.items) result (table_at (sym_at names data_len) body.now) }
+    ensures memory { IsErrOf result Stop.Memory → IsOk (number_at w32 body.now) }
 {
     let (count, rest) = u32_from(body)?;
     let (rows, rest) = syms_from(alloc, seen, data_len, count, rest)?;
@@ -267,12 +271,16 @@ fn is_cell(data_len: usize, offset: u32) -> bool
 }
 
 #[tactic(auto, unfolding(image_form::specs::Fields::root_offset_field, image_form::specs::Fields::kept))]
-fn root_from<'a>(data_len: usize, before: &[u32], bytes: &'a [u8]) -> Result<(u32, &'a [u8]), Stop>
-    ensures { GivesField (λ x. (x.0, x.1.now)) result (root_offset_field data_len before.now bytes.now) }
+fn root_from<'a>(
+    data_len: usize,
+    before: &[u32],
+    bytes: &'a [u8],
+) -> Result<(u32, &'a [u8]), BadField>
+    ensures { ReadsField (λ x. (x.0, x.1.now)) result (root_offset_field data_len before.now bytes.now) }
 {
     let (root, rest) = u32_from(bytes)?;
     if !is_cell(data_len, root) || !rises(before, root) {
-        return Err(Stop::Left(bytes.len()));
+        return Err(BadField { left: bytes.len() });
     }
     Ok((root, rest))
 }
@@ -299,7 +307,8 @@ fn roots_from(
 /// The root cells, of all of a body.
 #[tactic(auto, unfolding(image_form::specs::Fields::table_at))]
 pub(crate) fn root_table(alloc: Global, data_len: usize, body: &[u8]) -> Result<Vec<u32>, Stop>
-    ensures { GivesField (λ rows. rows.items) result (table_at (root_offset_field data_len) body.now) }
+    ensures gives { GivesField (λ rows. rows.items) result (table_at (root_offset_field data_len) body.now) }
+    ensures memory { IsErrOf result Stop.Memory → IsOk (number_at w32 body.now) }
 {
     let (count, rest) = u32_from(body)?;
     let (rows, rest) = roots_from(alloc, data_len, count, rest)?;
@@ -318,6 +327,7 @@ fn ext_from<'a>(alloc: Global, seen: &mut Seen, bytes: &'a [u8]) -> Result<(ExtR
     ensures seen { (before : List External)
         → HoldsTexts seen.old (map ext_bytes before)
         → IfOk result (λ x. HoldsTexts seen.new (map ext_bytes before ++ ext_bytes (ext x.0) ∷ [])) }
+    ensures memory { IsErrOf result Stop.Memory → IsOk (name_at bytes.now) }
 {
     let (name, rest) = name_from(bytes)?;
     let name = Vec::from_slice(alloc, name)?;
@@ -357,7 +367,8 @@ fn extcs_from<'a>(
 /// The external calls, of all of a body.
 #[tactic(auto, unfolding(image_form::specs::Fields::table_at))]
 pub(crate) fn ext_table(alloc: Global, body: &[u8]) -> Result<Vec<ExtRow>, Stop>
-    ensures { GivesField (λ rows. map ext rows.items) result (table_at ext_at body.now) }
+    ensures gives { GivesField (λ rows. map ext rows.items) result (table_at ext_at body.now) }
+    ensures memory { IsErrOf result Stop.Memory → IsOk (number_at w32 body.now) }
 {
     let (count, rest) = u32_from(body)?;
     let mut seen = Seen::new(alloc);
@@ -399,12 +410,12 @@ fn entry_from<'a>(
     size: u32,
     before: &[u32],
     bytes: &'a [u8],
-) -> Result<(u32, &'a [u8]), Stop>
-    ensures { GivesField (λ x. (x.0, x.1.now)) result (entry_at version size before.now bytes.now) }
+) -> Result<(u32, &'a [u8]), BadField>
+    ensures { ReadsField (λ x. (x.0, x.1.now)) result (entry_at version size before.now bytes.now) }
 {
     let (entry, rest) = wide_from(version, bytes)?;
     if !is_entry(size, entry) || !continues(before, entry) {
-        return Err(Stop::Left(bytes.len()));
+        return Err(BadField { left: bytes.len() });
     }
     Ok((entry, rest))
 }
@@ -451,24 +462,24 @@ fn after_from<'a>(
     code_len: usize,
     before: &[DescRow],
     bytes: &'a [u8],
-) -> Result<(u32, &'a [u8]), Stop>
-    ensures { GivesField (λ x.
+) -> Result<(u32, &'a [u8]), BadField>
+    ensures { ReadsField (λ x.
         (x.0, x.1.now)) result (after_at code_len (map desc before.now) bytes.now) }
 {
     let (offset, rest) = u32_from(bytes)?;
     if !is_return(code_len, offset) || !returns_behind(before, offset) {
-        return Err(Stop::Left(bytes.len()));
+        return Err(BadField { left: bytes.len() });
     }
     Ok((offset, rest))
 }
 
 #[tactic(auto, unfolding(image_form::specs::Fields::frame_size_field, image_form::specs::Fields::kept))]
-fn size_from(version: u32, bytes: &[u8]) -> Result<(u32, &[u8]), Stop>
-    ensures { GivesField (λ x. (x.0, x.1.now)) result (frame_size_field version bytes.now) }
+fn size_from(version: u32, bytes: &[u8]) -> Result<(u32, &[u8]), BadField>
+    ensures { ReadsField (λ x. (x.0, x.1.now)) result (frame_size_field version bytes.now) }
 {
     let (size, rest) = wide_from(version, bytes)?;
     if size % 16 != 0 || size < 16 {
-        return Err(Stop::Left(bytes.len()));
+        return Err(BadField { left: bytes.len() });
     }
     Ok((size, rest))
 }
@@ -524,8 +535,9 @@ pub(crate) fn desc_table(
     code_len: usize,
     body: &[u8],
 ) -> Result<Vec<DescRow>, Stop>
-    ensures { GivesField (λ rows.
+    ensures gives { GivesField (λ rows.
         map desc rows.items) result (table_at (desc_at version code_len) body.now) }
+    ensures memory { IsErrOf result Stop.Memory → IsOk (number_at w32 body.now) }
 {
     let (count, rest) = u32_from(body)?;
     let (rows, rest) = descs_from(alloc, version, code_len, count, rest)?;

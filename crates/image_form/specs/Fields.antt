@@ -10,6 +10,7 @@ use Rattle.bs_words.specs.declared.types.Comp.{Comp}
 use Rattle.bs_words.specs.declared.types.Comp.TheVariants.{Int, Val, Addr}
 use Rattle.bs_words.specs.declared.types.Ret.{Ret}
 use Rattle.bs_words.specs.declared.types.Ret.TheVariants as returns
+use Rattle.image_form.specs.declared.fault.BadField.{BadField}
 use Rattle.image_form.specs.declared.fault.Stop.{Stop}
 use Rattle.image_form.specs.declared.fault.Stop.TheVariants as stops
 use Rattle.image_form.specs.Tables.{Func, Sym, Desc, func_names, sym_names}
@@ -29,6 +30,11 @@ Stops (stops.Left n) read = read ≡ Err n
 abbrev pub GivesField : {X Y : Type 0} → (X → Y) → Result X Stop → Result Y ℕ → Type 0
 GivesField view (Ok x) read = read ≡ Ok (view x)
 GivesField view (Err e) read = Stops e read
+
+-- the same of a function that takes no memory
+abbrev pub ReadsField : {X Y : Type 0} → (X → Y) → Result X BadField → Result Y ℕ → Type 0
+ReadsField view (Ok x) read = read ≡ Ok (view x)
+ReadsField view (Err field) read = read ≡ Err field.left
 
 -- ---- fields
 

@@ -1,7 +1,7 @@
 //! Why bytes are no image.
 ghost use Rattle.std.specs.Prelude.{◌≡◌};
-ghost use Rattle.image_form.specs.declared.fault.ImageError.TheVariants.{OutOfMemory};
-ghost use Rattle.image_form.specs.declared.fault.Stop.TheVariants.{Memory};
+ghost use Rattle.image_form.specs.declared.fault.ImageError.TheVariants.{OutOfMemory, Refused};
+ghost use Rattle.image_form.specs.declared.fault.Stop.TheVariants.{Left, Memory};
 
 use bs_fault::ImageRefusal;
 use std::alloc::{AllocError, AllocFailed};
@@ -26,6 +26,21 @@ impl From<AllocError> for ImageError {
     }
 }
 
+impl From<ImageRefusal> for ImageError {
+    ghost from_gives = { λ refusal e. e ≡ Refused refusal };
+
+    fn from(refusal: ImageRefusal) -> ImageError {
+        ImageError::Refused(refusal)
+    }
+}
+
+/// A field that breaks a rule or passes the end of the body.
+#[derive(Clone, Copy, Debug, Drop)]
+pub struct BadField {
+    /// The number of bytes of the body from the field on.
+    pub left: usize,
+}
+
 /// Why the body of a section was not read.
 #[derive(Drop)]
 pub enum Stop {
@@ -34,6 +49,14 @@ pub enum Stop {
     /// A field breaks a rule or passes the end of the body. It is known by the number of bytes of the
     /// body from the field on.
     Left(usize),
+}
+
+impl From<BadField> for Stop {
+    ghost from_gives = { λ field e. e ≡ Left field.left };
+
+    fn from(field: BadField) -> Stop {
+        Stop::Left(field.left)
+    }
 }
 
 impl From<AllocError> for Stop {

@@ -11,6 +11,6 @@ mod image;
 pub mod limits;
 mod seen;
 
-pub use fault::{ImageError, Stop};
+pub use fault::{BadField, ImageError, Stop};
 pub use image::{DescRow, ExtRow, FuncRow, Image, SymRow};
 pub use seen::Seen;

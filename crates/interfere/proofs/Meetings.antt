@@ -8,6 +8,7 @@ use Rattle.std.proofs.lemmas.List.Elements.{Contains-get_or, Contains-append_cas
 use Rattle.bs_bits.specs.Set.{has}
 use Rattle.dataflow.specs.Rows.{set_in_row}
 use Rattle.mach_ir.specs.Graph.{IsLiveMap}
+use Rattle.mach_ir.specs.Graph as graph
 use Rattle.mach_ir.specs.Meaning.{code_at, killed, registers_written}
 use Rattle.mach_ir.specs.Walks.{AmongRegisters, targets, goes, raises, Writes, Live}
 use Rattle.mach_ir.specs.Walks.{read, on, aside, LiveAfter, after_step, InCode, in_args, in_results, further}
@@ -31,7 +32,6 @@ use Rattle.mach_laws.proofs.Walking.{among_numbers, in_numbers, place_is, ending
 use Rattle.liveness.proofs.Bounds.{killed_is_colour}
 use Rattle.bs_words.proofs.Lists.{drop_none}
 use Rattle.interfere.specs.Moves.{move_between, move_of, is_move_from_to}
-use Rattle.interfere.specs.Moves as moves
 use Rattle.interfere.specs.Pairs.{Table, Has, EitherWay, one_way, other_way, AddsPairs, ForOne, MeetsSet, MeetsPlaces}
 use Rattle.interfere.specs.declared.moves.Move.{Move}
 use Rattle.interfere.proofs.Pairs.{either_map}
@@ -55,7 +55,7 @@ is_from_to_of a b from to e h =
 pub move_told : {k n : ℕ} {i : Instr} → IsMove k n i → is_move_from_to (move_of i) k n ≡ true
 move_told {k} {n} (is_move {r = r} {q = q} e h) = is_from_to_of r.number q.number k n e h
 
-move_op : (f : MachOp) → moves.is_move f ≡ true → mach.Op (op.Pure (pure.Copy copy.Move)) ≡ f
+move_op : (f : MachOp) → graph.is_move f ≡ true → mach.Op (op.Pure (pure.Copy copy.Move)) ≡ f
 move_op (mach.Op (op.Pure (pure.Copy copy.Move))) e = refl
 move_op (mach.Op (op.Pure (pure.Copy copy.Spill))) e = absurd (cc)
 move_op (mach.Op (op.Pure (pure.Copy copy.Reload))) e = absurd (cc)
@@ -78,9 +78,9 @@ between_move (r ∷ x ∷ xs) results k n e = absurd (cc)
 is_told : (f : MachOp) (args results : List Reg) (k n : ℕ) →
     is_move_from_to (move_of (record { op = f; args = args; results = results })) k n ≡ true →
     IsMove k n (record { op = f; args = args; results = results })
-is_told f args results k n e = by (moves.is_move f) refl e
+is_told f args results k n e = by (graph.is_move f) refl e
   where
-    by : (b : Bool) → moves.is_move f ≡ b → is_move_from_to (cond b (move_between args results) None) k n ≡ true →
+    by : (b : Bool) → graph.is_move f ≡ b → is_move_from_to (cond b (move_between args results) None) k n ≡ true →
         IsMove k n (record { op = f; args = args; results = results })
     by true h e =
         subst (λ f. IsMove k n (record { op = f; args = args; results = results })) (move_op f h) (between_move args results k n e)

@@ -4,11 +4,11 @@ use Rattle.std.proofs.Common.{length, map, set, get_or, sym, ap, ◌∙◌, arit
 use Rattle.std.specs.List.{Contains}
 use Rattle.std.proofs.lemmas.Bool.{cases_eq, eq-eqb, ne_eqb}
 use Rattle.std.proofs.lemmas.List.{append-nil, length-map, map-set, get_or-map, get_or-set_same, get_or-set_other}
-use Rattle.mach_ir.specs.Graph.{partner}
+use Rattle.mach_ir.specs.Graph.{is_move, partner}
 use Rattle.mach_ir.specs.declared.reg.Reg.{Reg}
 use Rattle.mach_ir.specs.declared.mach.Instr.{Instr}
 use Rattle.bs_words.proofs.Lists.{first_in}
-use Rattle.interfere.specs.Moves.{is_move, move_between, move_of}
+use Rattle.interfere.specs.Moves.{move_between, move_of}
 use Rattle.interfere.specs.Partners.{partners_in, AreSmall, no_move, both}
 use Rattle.interfere.specs.declared.partners.Partners.{Partners}
 

@@ -1,9 +1,8 @@
 //! Moves between registers.
 ghost use Rattle.std.specs.Prelude.{◌≡◌};
-ghost use Rattle.interfere.specs.Moves.{is_move_kind, is_move_pure, is_move_op, is_move, move_between, move_of};
-ghost use Rattle.interfere.specs.Moves.{is_move_from_to};
+ghost use Rattle.interfere.specs.Moves.{is_move_from_to, move_between, move_of};
 
-use mach_ir::{CopyKind, Instr, MachOp, Op, Pure, Reg};
+use mach_ir::{Instr, Reg};
 
 /// A move: the numbers of the register that it reads and of the one that it writes.
 #[derive(Clone, Copy)]
@@ -12,47 +11,6 @@ pub struct Move {
     pub from: u32,
     /// The number of the register that is written.
     pub to: u32,
-}
-
-fn is_move_kind(kind: CopyKind) -> bool
-    ensures { result ≡ is_move_kind kind }
-{
-    match kind {
-        CopyKind::Move => true,
-        CopyKind::Spill => false,
-        CopyKind::Reload => false,
-    }
-}
-
-fn is_move_pure(pure: &Pure) -> bool
-    ensures { result ≡ is_move_pure pure.now }
-{
-    match pure {
-        Pure::Copy(kind) => is_move_kind(*kind),
-        Pure::Constant(_) => false,
-        Pure::Symbol(_) => false,
-        Pure::Operator(_, _) => false,
-    }
-}
-
-fn is_move_op(op: &Op) -> bool
-    ensures { result ≡ is_move_op op.now }
-{
-    match op {
-        Op::Pure(pure) => is_move_pure(pure),
-        Op::Access(_) => false,
-        Op::Calling(_) => false,
-        Op::Leaving(_) => false,
-    }
-}
-
-fn is_move(op: &MachOp) -> bool
-    ensures { result ≡ is_move op.now }
-{
-    match op {
-        MachOp::Op(op) => is_move_op(op),
-        MachOp::Mark(_) => false,
-    }
 }
 
 /// The move from the one operand to the one result, if that is what these are.
@@ -72,7 +30,7 @@ fn move_between(args: &[Reg], results: &[Reg]) -> Option<Move>
 pub fn move_of(instr: &Instr) -> Option<Move>
     ensures { result ≡ move_of instr.now }
 {
-    if is_move(&instr.op) {
+    if instr.op.is_move() {
         move_between(instr.args.as_slice(), instr.results.as_slice())
     } else {
         None

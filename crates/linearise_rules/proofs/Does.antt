@@ -4,21 +4,21 @@ use Rattle.std.proofs.lemmas.Bool.{true≢false, eq-eqb, eqb-true, eqb-false}
 use Rattle.std.specs.List.{Contains}
 use Rattle.std.proofs.lemmas.Option.{none-some, same_Some}
 use Rattle.bs_words.specs.Fits.{fits, type_of_comp}
-use Rattle.bs_words.specs.Memory.{Memory, sizes}
+use Rattle.bs_words.specs.Memory.{Memory}
 use Rattle.bs_words.specs.declared.types.Comp.{Comp}
 use Rattle.bs_words.specs.declared.types.Comp.TheVariants as comp
 use Rattle.bs_words.specs.declared.types.Loc.{Loc}
 use Rattle.bs_words.specs.declared.types.Loc.TheVariants as loc
 use Rattle.bs_words.specs.declared.values.Value.{Value}
 use Rattle.bs_words.proofs.Lists.{none_in, pairs_here, pairs_later, head_same, tail_same}
-use Rattle.lin_ir.specs.Known.{Setting, Doing, Callee}
-use Rattle.mach_ir.specs.Acts.{Around, Target, On, At, AtLabel, AtHandler, Act, Goes, Pushes, Jumps, Unwinds, Asks, Replaces, Ends, EndsRaising, Stuck, drop_tries, truth_of, goes_by_test}
+use Rattle.lin_ir.specs.Known.{Doing, Callee}
+use Rattle.mach_ir.specs.Acts.{Around, Target, On, At, AtLabel, AtHandler, Act, Goes, Pushes, Jumps, Unwinds, Asks, Replaces, Ends, EndsRaising, Stuck, drop_tries}
 use Rattle.mach_ir.specs.Runs.{ActivationSetting, Step, Continues, Pays, entry_around, first_tally}
 use Rattle.mach_ir.specs.Meaning.{State, File, Held, put_all, put_if, with_held, clear_registers, killed, registers_written, values, past_frame, passes_frame, is_destroyed, is_at_one_of, destroyed_by, after_label, from_handler, at_handler, code_at, landing_code, tries_at, mach_act, wrote, on_act, on_values, step, begin_mach, mach_start}
 use Rattle.mach_ir.specs.Formed.{AreDistinct, tries_left, WellFormed}
 use Rattle.mach_ir.specs.Keeps.{ValsWritten, wrote_unless, wrote_at, Ahead, Trails}
 use Rattle.mach_ir.specs.Placed.{HasColourOrSlot, in_colour, in_slot, FullyPlaced, colour_numbers}
-use Rattle.mach_ir.specs.Walks.{AmongRegisters, first, later, Writes, OneOf, this, targets, may_raise, goes, raises, Live, read, aside, LiveAcross, across_step, across_raise, after_step, IsRegister, is_param, is_colour, is_in_code, IsMove, is_move, at_write, at_params, one_way}
+use Rattle.mach_ir.specs.Walks.{AmongRegisters, first, later, Writes, OneOf, this, targets, may_raise, goes, raises, Live, read, aside, LiveAcross, across_step, across_raise, after_step, IsRegister, is_param, is_colour, is_in_code, IsMove, at_write, at_params, one_way}
 use Rattle.mach_ir.specs.Walks as mach_walks
 use Rattle.mach_ir.specs.declared.op.CopyKind.TheVariants as copy
 use Rattle.mach_ir.specs.declared.op.Op.TheVariants as op
@@ -50,142 +50,15 @@ use Rattle.lin_laws.proofs.Forms.{not_slot}
 use Rattle.linearise_rules.specs.Kept as kept
 use Rattle.linearise_rules.specs.Kept.{ValsHeld, LoweringBegins}
 use Rattle.linearise_rules.specs.Lowered.{home, spots, is_idle, line_of, pops, lines_of, lowered_code}
-use Rattle.linearise_rules.proofs.Homes.{IsIn, is_first, is_later, in_of, contains_of, in_among, number_in, Pair, pair_in, Once, once_none, once_more, values_none, pair_held, single, clear_keeps, past_some, machine_of, one_at, killed_has, in_spots, spot_of, Typed, puts_at, typed_put, reads_all, in_map}
+use Rattle.linearise_rules.proofs.Alike.{calm_at, same_frame, same_tries, same_act, is_handler, is_entry, none_raised, bare_calm, Copies, move_of, copies_of}
+use Rattle.linearise_rules.proofs.Homes.{not_unset, of_map, IsIn, is_first, in_of, contains_of, in_among, number_in, Pair, pair_in, Once, once_none, once_more, values_none, pair_held, single, clear_keeps, past_some, machine_of, one_at, killed_has, in_spots, spot_of, Typed, puts_at, typed_put, reads_all, in_map}
 use Rattle.linearise_rules.proofs.Marks.{all_in, in_ending, args_in_code, results_in_code, AsLine, op_line, if_line, switch_line, try_line, handler_line, is_bare, IsIdle, idles, idle_of, bare_empty, EntryOf, entry_of}
 use Rattle.linearise_rules.proofs.Places.{drop_more}
-use Rattle.linearise_rules.proofs.Opposite.{truth_opposite, branch_opposite}
 use Rattle.linearise_rules.proofs.Standing.{same_targets, same_raises, same_destroyed, q, formed_at, label_of, label_q, at_target, handler_of, marked}
 use Rattle.linearise_rules.proofs.Meeting.{bare_writes, traps_to, traps_on, IsMetAcross, met_across}
 use Rattle.linearise_rules.proofs.Simulate.{Arrives, both_continue, both_pay, both_deepen, both_wait, both_finish_by, both_finish, both_finish_raising, first_stuck, goes_alone, Closed, simulates}
-use Rattle.mach_laws.proofs.Turns.{Turns, goes_in, exits_in, jumps_in, unwinds_in, pushes_in, asks_in, tries_on, raised_on, IsTry, is_try, IsExit, turns}
+use Rattle.mach_laws.proofs.Turns.{Turns, goes_in, exits_in, jumps_in, unwinds_in, pushes_in, asks_in, tries_on, IsTry, is_try, IsExit, turns}
 use Rattle.mach_laws.proofs.Level.{ahead_of, trails_of}
-
--- no value is asked for where a line is no frame point
-calm_at : (c : ActivationSetting) (m : Lin) (j : Line) (ys : List Line) (b : Locations) (around : Around) → lines.passes_frame j.op ≡ false →
-    ValsHeld c m (record { rest = j ∷ ys; file = b; around = around })
-calm_at c m j ys b around e =
-    record {
-      held = λ k ks same frame l w.
-          absurd (true≢false (sym frame ∙ ap (λ (x : Line). lines.passes_frame x.op) (sym (head_same same)) ∙ e));
-    }
-
--- ---- what is the same of a line of its own
-
-same_frame : {g : MachOp} {f : LinOp} → AsLine g f → lines.passes_frame f ≡ passes_frame g
-same_frame op_line = refl
-same_frame if_line = refl
-same_frame switch_line = refl
-same_frame try_line = refl
-same_frame handler_line = refl
-
-same_tries : {g : MachOp} {f : LinOp} (ts : List ℕ) → AsLine g f → tries_on g ts ≡ walks.tries_after f ts
-same_tries ts op_line = refl
-same_tries ts if_line = refl
-same_tries ts switch_line = refl
-same_tries ts try_line = refl
-same_tries ts handler_line = refl
-
-same_act : {g : MachOp} {f : LinOp} (c : Setting) (vs : List Value) (a : Around) → AsLine g f → mach_act c g vs a ≡ lines.lin_act c f vs a
-same_act c vs a op_line = refl
-same_act c vs a (if_line {t = t} {l = l}) =
-    sym (branch_opposite a On (At l) (truth_of (sizes a.memory) t vs)) ∙ ap (goes_by_test a (At l) On) (sym (truth_opposite (sizes a.memory) t vs))
-same_act c vs a switch_line = refl
-same_act c [] a try_line = refl
-same_act c (v ∷ vs) a try_line = refl
-same_act c [] a handler_line = refl
-same_act c (v ∷ vs) a handler_line = refl
-
-abbrev is_handler : MachOp → Bool
-is_handler (mach.Mark (mark.Handler l)) = true
-is_handler _ = false
-
--- at the mark of a handler
-abbrev is_entry : List Instr → Bool
-is_entry [] = false
-is_entry (i ∷ is) = is_handler i.op
-
-none_raised : {g : MachOp} {f : LinOp} (o : Option Value) → AsLine g f → (is_handler g ≡ false → o ≡ None) → raised_on g o ≡ None
-none_raised o op_line calm = calm refl
-none_raised o if_line calm = calm refl
-none_raised o switch_line calm = calm refl
-none_raised o try_line calm = calm refl
-none_raised o handler_line calm = refl
-
-bare_calm : (f : MachOp) → is_bare f ≡ true → is_handler f ≡ false
-bare_calm (mach.Op f) e = refl
-bare_calm (mach.Mark (mark.Exit l n)) e = refl
-bare_calm (mach.Mark (mark.If t l)) e = refl
-bare_calm (mach.Mark (mark.Else l end)) e = refl
-bare_calm (mach.Mark (mark.Switch ls)) e = refl
-bare_calm (mach.Mark (mark.Case ns l end)) e = refl
-bare_calm (mach.Mark mark.Catch) e = refl
-bare_calm (mach.Mark (mark.With l end)) e = refl
-bare_calm (mach.Mark (mark.Try l)) e = refl
-bare_calm (mach.Mark (mark.Leave l end)) e = refl
-bare_calm (mach.Mark (mark.Handler l)) e = absurd (true≢false (sym e))
-bare_calm (mach.Mark (mark.End l)) e = refl
-
--- ---- moves
-
--- it copies one register into another
-record Copies (i : Instr) (k : ℕ) : Type 0 where
-  op_is : i.op ≡ mach.Op (op.Pure (pure.Copy copy.Move))
-  from : Reg
-  args_are : i.args ≡ from ∷ []
-  number : from.number ≡ k
-
-copies_of : {k n : ℕ} {i : Instr} → IsMove k n i → Copies i k
-copies_of (is_move {r = r} e u) = record { op_is = refl; from = r; args_are = refl; number = e }
-
-move_of : (k n : ℕ) (f : MachOp) (args results : List Reg) → IsMove k n (instr f args results) ⊎ (IsMove k n (instr f args results) → ⊥)
-move_of k n (mach.Op (op.Pure (pure.Copy copy.Move))) (x ∷ []) (d ∷ []) = by (nat_eq x.number k) (nat_eq d.number n) refl refl
-  where
-    by : (s t : Bool) → nat_eq x.number k ≡ s → nat_eq d.number n ≡ t →
-        IsMove k n (instr (mach.Op (op.Pure (pure.Copy copy.Move))) (x ∷ []) (d ∷ [])) ⊎ (IsMove k n (instr (mach.Op (op.Pure (pure.Copy copy.Move))) (x ∷ []) (d ∷ [])) → ⊥)
-    by true true s t = inl (is_move (eqb-true x.number k s) (eqb-true d.number n t))
-    by false t s u = inr (λ m. out m)
-      where
-        out : IsMove k n (instr (mach.Op (op.Pure (pure.Copy copy.Move))) (x ∷ []) (d ∷ [])) → ⊥
-        out (is_move e v) = true≢false (sym (eq-eqb x.number k e) ∙ s)
-    by true false s u = inr (λ m. out m)
-      where
-        out : IsMove k n (instr (mach.Op (op.Pure (pure.Copy copy.Move))) (x ∷ []) (d ∷ [])) → ⊥
-        out (is_move e v) = true≢false (sym (eq-eqb d.number n v) ∙ u)
-move_of k n (mach.Op (op.Pure (pure.Copy copy.Move))) [] results = inr (λ m. elim m [ ])
-move_of k n (mach.Op (op.Pure (pure.Copy copy.Move))) (x ∷ []) [] = inr (λ m. elim m [ ])
-move_of k n (mach.Op (op.Pure (pure.Copy copy.Move))) (x ∷ []) (d ∷ e ∷ ds) = inr (λ m. elim m [ ])
-move_of k n (mach.Op (op.Pure (pure.Copy copy.Move))) (x ∷ y ∷ ys) results = inr (λ m. elim m [ ])
-move_of k n (mach.Op (op.Pure (pure.Copy copy.Spill))) args results = inr (λ m. elim m [ ])
-move_of k n (mach.Op (op.Pure (pure.Copy copy.Reload))) args results = inr (λ m. elim m [ ])
-move_of k n (mach.Op (op.Pure (pure.Constant w))) args results = inr (λ m. elim m [ ])
-move_of k n (mach.Op (op.Pure (pure.Symbol w))) args results = inr (λ m. elim m [ ])
-move_of k n (mach.Op (op.Pure (pure.Operator f r))) args results = inr (λ m. elim m [ ])
-move_of k n (mach.Op (op.Access f)) args results = inr (λ m. elim m [ ])
-move_of k n (mach.Op (op.Calling f)) args results = inr (λ m. elim m [ ])
-move_of k n (mach.Op (op.Leaving f)) args results = inr (λ m. elim m [ ])
-move_of k n (mach.Mark f) args results = inr (λ m. elim m [ ])
-
--- ---- places
-
-not_unset : (r : Reg) → HasColourOrSlot r → r.loc ≡ loc.Unset → ⊥
-not_unset r (in_colour n c e) u = out n (sym e ∙ u)
-  where
-    out : (n : ℕ) → loc.Machine n ≡ loc.Unset → ⊥
-    out n e = cc
-not_unset r (in_slot e) u = out r.origin (sym e ∙ u)
-  where
-    out : (n : ℕ) → loc.Slot n ≡ loc.Unset → ⊥
-    out n e = cc
-
-record FromMap {A B : Type 0} (f : A → B) (y : B) (xs : List A) : Type 0 where
-  from : A
-  inside : IsIn from xs
-  same : f from ≡ y
-
-of_map : {A B : Type 0} (f : A → B) (y : B) (xs : List A) → IsIn y (map f xs) → FromMap f y xs
-of_map f y [] i = elim i [ ]
-of_map f y (x ∷ xs) is_first = record { from = x; inside = is_first; same = refl }
-of_map f y (x ∷ xs) (is_later i) = let h = of_map f y xs i in record { from = h.from; inside = is_later h.inside; same = h.same }
 
 abbrev Distinct : Reg → Reg → Type 0
 Distinct r q = r.number ≢ q.number

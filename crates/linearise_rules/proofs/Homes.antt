@@ -342,3 +342,23 @@ module _ (number : ℕ → ℕ) where
 pub in_map : {A B : Type 0} (f : A → B) {x : A} {xs : List A} → IsIn x xs → IsIn (f x) (map f xs)
 in_map f is_first = is_first
 in_map f (is_later i) = is_later (in_map f i)
+
+pub not_unset : (r : Reg) → HasColourOrSlot r → r.loc ≡ loc.Unset → ⊥
+not_unset r (in_colour n c e) u = out n (sym e ∙ u)
+  where
+    out : (n : ℕ) → loc.Machine n ≡ loc.Unset → ⊥
+    out n e = cc
+not_unset r (in_slot e) u = out r.origin (sym e ∙ u)
+  where
+    out : (n : ℕ) → loc.Slot n ≡ loc.Unset → ⊥
+    out n e = cc
+
+pub record FromMap {A B : Type 0} (f : A → B) (y : B) (xs : List A) : Type 0 where
+  pub from : A
+  pub inside : IsIn from xs
+  pub same : f from ≡ y
+
+pub of_map : {A B : Type 0} (f : A → B) (y : B) (xs : List A) → IsIn y (map f xs) → FromMap f y xs
+of_map f y [] i = elim i [ ]
+of_map f y (x ∷ xs) is_first = record { from = x; inside = is_first; same = refl }
+of_map f y (x ∷ xs) (is_later i) = let h = of_map f y xs i in record { from = h.from; inside = is_later h.inside; same = h.same }

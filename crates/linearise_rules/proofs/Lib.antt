@@ -6,6 +6,7 @@ pub mod Places
 pub mod Standing
 pub mod Meeting
 pub mod Simulate
+pub mod Alike
 pub mod Does
 pub mod Lines
 pub mod Walked

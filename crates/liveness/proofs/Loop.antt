@@ -2,6 +2,7 @@
 use Rattle.std.proofs.Common.{◌≡◌, ℕ, suc, ◌-◌, ◌<◌, ◌≤◌, List, [], ◌∷◌, length, drop, refl, sym, ap, ◌∙◌, subst, arith}
 use Rattle.std.proofs.Math.Seq.{drop-length, drop-cons}
 use Rattle.std.specs.Prelude.{slice_index_or}
+use Rattle.dataflow.specs.Flow.{IsBare}
 use Rattle.dataflow.specs.declared.flow.Place as place
 use Rattle.mach_ir.specs.Meaning.{tries_at, tries_past}
 use Rattle.mach_ir.specs.declared.mach.Instr.{Instr}
@@ -14,6 +15,11 @@ module _ (m : Mach) where
 
   pub tries_begun : (k : ℕ) (tries : List ℕ) → k ≡ length m.code → tries ≡ [] → tries ≡ tries_at (drop k m.code)
   tries_begun k tries e h = h ∙ sym (ap tries_at (none_left k e))
+
+  -- the place after the last instruction, where nothing is read or written there
+  pub bare_last : (uses : Uses) (last : place.Place) → uses.reads [] ≡ [] → uses.writes [] ≡ [] → IsBare last → IsLivenessNode m uses [] last
+  bare_last uses last reads writes bare =
+      record { next = bare.next; aside = bare.aside; reads = bare.reads ∙ sym reads; writes = bare.writes ∙ sym writes }
 
   pub nodes_begun : (uses : Uses) (k : ℕ) (last : place.Place) (old nodes : List place.Place) → k ≡ length m.code →
       IsLivenessNode m uses [] last → old ≡ [] → nodes ≡ last ∷ old → AreLivenessNodes m uses (drop k m.code) nodes

@@ -1,7 +1,7 @@
 //! Where control goes from each instruction, as the text is read from its end.
-ghost use Rattle.std.specs.Prelude.{◌<◌, ◌^◌, suc, [], IfOk};
+ghost use Rattle.std.specs.Prelude.{◌<◌, ◌^◌, suc, IfOk};
 ghost use Rattle.liveness.specs.Labels.{AreLabelsOf};
-ghost use Rattle.liveness.specs.Nodes.{AreEdges, AreEdgesAt};
+ghost use Rattle.liveness.specs.Nodes.{AreEdgesAt};
 
 use crate::backward::Backward;
 use crate::control::{places_after, places_aside};
@@ -17,16 +17,6 @@ pub struct Edges {
     pub next: List<u32>,
     /// The handler's place that a raise leads to, where one may come.
     pub aside: List<u32>,
-}
-
-/// There are none after the last instruction.
-pub fn no_edges(alloc: Global, mach: &Mach) -> Edges
-    ensures { AreEdges mach.now [] result }
-{
-    Edges {
-        next: List::new(alloc),
-        aside: List::new(alloc),
-    }
 }
 
 /// Where control goes from the instruction at the place, with these tries round it.

@@ -10,10 +10,10 @@ use crate::backward::Backward;
 use crate::control::pass_tries;
 use crate::edges::edges_of;
 use crate::labels::InstructionLabels;
-use crate::nodes::{last_node, node_of};
+use crate::nodes::node_of;
 use crate::numbers::first_free;
 use bs_words::List;
-use dataflow::{Flow, Place};
+use dataflow::{Flow, Place, bare_place};
 use mach_ir::Mach;
 use std::alloc::{AllocError, Global};
 
@@ -30,7 +30,7 @@ fn nodes_of(
 {
     let code = mach.code.as_slice();
     let mut nodes = Backward::with_capacity(alloc, code.len() + 1)?;
-    nodes.push(last_node(alloc, mach))?;
+    nodes.push(bare_place(alloc))?;
     let mut tries = Backward::new(alloc);
     let mut left = code.len();
     while left > 0 {

@@ -18,7 +18,7 @@ mod written;
 
 pub use backward::Backward;
 pub use control::pass_tries;
-pub use edges::{Edges, edges_of, no_edges};
+pub use edges::{Edges, edges_of};
 pub use flow::flow_of;
 pub use labels::InstructionLabels;
 pub use live_map::{LiveFlow, live, live_flow};

@@ -1,26 +1,13 @@
 //! The nodes of the flow graph.
-ghost use Rattle.std.specs.Prelude.{[], IfOk};
-ghost use Rattle.liveness.specs.Nodes.{IsLivenessNode, IsNodeWith, register_uses};
+ghost use Rattle.std.specs.Prelude.{IfOk};
+ghost use Rattle.liveness.specs.Nodes.{IsNodeWith, register_uses};
 
-use crate::edges::{Edges, no_edges};
+use crate::edges::Edges;
 use crate::written::{numbers_of, numbers_written};
 use bs_words::List;
 use dataflow::Place;
 use mach_ir::{Instr, Mach};
 use std::alloc::{AllocError, Global};
-
-/// The node after the last instruction.
-pub fn last_node(alloc: Global, mach: &Mach) -> Place
-    ensures { IsLivenessNode mach.now (register_uses mach.now) [] result }
-{
-    let Edges { next, aside } = no_edges(alloc, mach);
-    Place {
-        next,
-        aside,
-        reads: List::new(alloc),
-        writes: List::new(alloc),
-    }
-}
 
 /// The node of the instruction from which control goes so. The only error is want of memory.
 pub fn node_of(alloc: Global, mach: &Mach, instr: &Instr, edges: Edges) -> Result<Place, AllocError>

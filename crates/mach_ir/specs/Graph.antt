@@ -1,5 +1,5 @@
 -- What is live in a function, its graph of interference and places for its registers, as tables.
-use Rattle.std.specs.Prelude.{◌≡◌, ◌↔◌, ℕ, suc, ◌+◌, ◌<◌, true, cond, nat_eq, List, [], ◌∷◌, ◌++◌, drop, length, map, slice_index_or, All, AllPairs, Contains}
+use Rattle.std.specs.Prelude.{◌≡◌, ◌↔◌, ℕ, suc, ◌+◌, ◌<◌, Bool, true, false, cond, nat_eq, List, [], ◌∷◌, ◌++◌, drop, length, map, slice_index_or, All, AllPairs, Contains}
 use Rattle.bs_words.specs.declared.types.Loc.TheVariants as loc
 use Rattle.bs_bits.specs.Set.{has}
 use Rattle.dataflow.specs.Rows.{set_in_row}
@@ -50,6 +50,19 @@ AreSorted g = All (λ (x : Node). AllPairs ◌<◌ x.neighbours) g.nodes
 -- this number, where the other is that of the register
 abbrev pub partner : ℕ → ℕ → ℕ → List ℕ
 partner n k other = cond (nat_eq n k) (other ∷ []) []
+
+-- whether it takes the value of a register to another
+abbrev pub is_move : MachOp → Bool
+is_move (mach.Op (op.Pure (pure.Copy copy.Move))) = true
+is_move (mach.Op (op.Pure (pure.Copy copy.Spill))) = false
+is_move (mach.Op (op.Pure (pure.Copy copy.Reload))) = false
+is_move (mach.Op (op.Pure (pure.Constant w))) = false
+is_move (mach.Op (op.Pure (pure.Symbol name))) = false
+is_move (mach.Op (op.Pure (pure.Operator f r))) = false
+is_move (mach.Op (op.Access f)) = false
+is_move (mach.Op (op.Calling f)) = false
+is_move (mach.Op (op.Leaving f)) = false
+is_move (mach.Mark f) = false
 
 -- the other registers of a move from or to a register
 abbrev pub moved_with : ℕ → Op → List Reg → List Reg → List ℕ

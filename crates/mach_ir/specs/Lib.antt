@@ -13,6 +13,7 @@ pub mod Graph
 pub mod Sizes
 pub mod Keeps
 pub mod Words
+pub mod NumberTables
 pub mod Pages
 pub mod Text
 pub mod Known

@@ -4,6 +4,7 @@
 //! switch, catch, try) are given by marks in it. A label is that of the place after the mark that
 //! has it first.
 ghost use Rattle.std.specs.Prelude.{◌≡◌, ◌↔◌, ℕ, [], ◌∷◌, IsTrue, IfOk};
+ghost use Rattle.mach_ir.specs.Graph.{is_move};
 ghost use Rattle.mach_ir.specs.Labels.{label_of, is_that_label};
 ghost use Rattle.mach_ir.specs.Meaning.{Everything, Temporaries, destroyed_by, has_label};
 
@@ -147,6 +148,26 @@ impl MachOp {
         match self {
             MachOp::Op(_) => None,
             MachOp::Mark(mark) => mark.own_label(),
+        }
+    }
+
+    /// Whether it takes the value of a register to another.
+    pub fn is_move(&self) -> bool
+        ensures { result ≡ is_move self.now }
+    {
+        match self {
+            MachOp::Op(Op::Pure(Pure::Copy(kind))) => match kind {
+                CopyKind::Move => true,
+                CopyKind::Spill => false,
+                CopyKind::Reload => false,
+            },
+            MachOp::Op(Op::Pure(Pure::Constant(_))) => false,
+            MachOp::Op(Op::Pure(Pure::Symbol(_))) => false,
+            MachOp::Op(Op::Pure(Pure::Operator(_, _))) => false,
+            MachOp::Op(Op::Access(_)) => false,
+            MachOp::Op(Op::Calling(_)) => false,
+            MachOp::Op(Op::Leaving(_)) => false,
+            MachOp::Mark(_) => false,
         }
     }
 

@@ -15,3 +15,4 @@ pub mod Runs
 pub mod Among
 pub mod Instructions
 pub mod Files
+pub mod Passes

@@ -44,13 +44,13 @@ is_last Code over a b c d e = absurd over
 -- where spilling asks for a well formed function, it gets one
 pub spill_passed : {m start a b q : Mach} → IsPreparable m → IsPassedTo m Dead start → HasConstantsFirst start a → IsSunk a b → (WellFormed b → IsSpilled b q) →
     IsPassedTo m Spill q
-spill_passed is before first late made = spills before first late (made (sunk_stage is (hoist_cut is (dropped_cut is before) first) late).formed)
+spill_passed is before first late made = spills before first late (made (sunk_stage is (hoist_cut is (dropped_cut is before) first) late).pass.formed)
 
 -- and so does splitting, with numbers for its webs
 pub split_passed : {m s q : Mach} → IsPreparable m → IsPassedTo m Spill s → (WellFormed s → WellPlaced s → IsSplit s q) → IsPassedTo m Split q
 split_passed is (spills before first late slots) made =
     let k = slots_stage is (hoist_cut is (dropped_cut is before) first) late slots in
-    splits (spills before first late slots) (made k.formed k.placed)
+    splits (spills before first late slots) (made k.pass.formed (k.pass.placed is.placed))
 
 pub split_room : (m : Mach) → IsPreparable m → HasRoom (prepared_size (length m.params)) m → {q : Mach} → IsPassedTo m Spill q → HasRoom (split_size (length q.params)) q
 split_room m is room (spills before first late slots) = spilled_room m is room (hoist_cut is (dropped_cut is before) first) late slots

@@ -1,6 +1,5 @@
 -- Dropping what only computes and is not used carries: no word, frame point or exit is new, and tries are where they were.
 use Rattle.std.proofs.Common.{ℕ, suc, ◌≤◌, Bool, true, false, cond, List, [], ◌∷◌, length, sym, ap, subst, arith}
-use Rattle.std.specs.List.{Contains}
 use Rattle.std.specs.Prelude.{slice_index_or}
 use Rattle.std.proofs.lemmas.List.Elements.{Contains-get_or, All-contains}
 use Rattle.hoist_rules.specs.Known.{unless_dropped, dropped, AreDead, IsDropped}

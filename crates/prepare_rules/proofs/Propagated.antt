@@ -74,4 +74,4 @@ propagated_carried {m} {q} kept s =
     subst (IsCarried 0 m) (sym s.is)
     (replaced_carried (instr_with_sources s.plan) m (λ i next at. replaces (s.plan (length next)) (fits m s.plan s.reads i next at))
     (tries_same (instr_with_sources s.plan) (same_ops s.plan))
-    (λ low r k c i u. low r k c (kept.registers k (subst (λ (x : Mach). IsRegister x k) (sym s.is) i)) u))
+    (λ low r k c i u. low r k c ((kept.no_larger).registers k (subst (λ (x : Mach). IsRegister x k) (sym s.is) i)) u))

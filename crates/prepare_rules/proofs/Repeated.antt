@@ -75,4 +75,4 @@ pub repeated_carried : {m q : Mach} → IsRepeatKept m q → IsRepeated m q → 
 repeated_carried {m} {q} kept s =
     subst (IsCarried 0 m) (sym s.is)
     (replaced_carried (instr_with_earlier s.plan) m (λ i next at. replaces s.plan (length next) i) (tries_same (instr_with_earlier s.plan) (same_ops s.plan))
-    (λ low r k c i u. low r k c (kept.registers k (subst (λ (x : Mach). IsRegister x k) (sym s.is) i)) u))
+    (λ low r k c i u. low r k c ((kept.no_larger).registers k (subst (λ (x : Mach). IsRegister x k) (sym s.is) i)) u))

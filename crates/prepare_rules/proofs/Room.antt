@@ -7,7 +7,7 @@ use Rattle.pass_rules.proofs.Room.{small_within, room_within}
 use Rattle.sink_rules.specs.Chosen.{IsSunk}
 use Rattle.sink_rules.specs.Known.{IsSpilled, spilled_size}
 use Rattle.split_rules.specs.Split.{split_size}
-use Rattle.prepare_rules.proofs.Whole.{IsStage, sunk_size, IsCut, sunk_stage, slots_stage}
+use Rattle.prepare_rules.proofs.Whole.{IsStage, sunk_size, IsCut, cut_stage, sunk_stage, slots_stage}
 
 -- What a stage makes has room to grow where the function has room for both.
 room_after : {more : ℕ} {grown : Size → Size} {m q : Mach} (wider : Size → Size) → IsStage more grown m q →
@@ -28,7 +28,7 @@ module _ (m : Mach) (is : IsPreparable m) (room : HasRoom (prepared_size (length
   countable = room_within (prepared_size (length m.params)) (λ s. s) (small_at_first (length m.params)) room
 
   pub cut_countable : {q : Mach} → IsCut m q → IsCountable q
-  cut_countable cut = room_after (λ s. s) cut.stage countable
+  cut_countable cut = room_after (λ s. s) (cut_stage cut) countable
 
   pub sunk_room : {hoisted q : Mach} → IsCut m hoisted → IsSunk hoisted q → HasRoom spilled_size q
   sunk_room cut made =

@@ -2,10 +2,6 @@
 use Rattle.std.proofs.Common.{◌≡◌, ℕ, suc, ◌+◌, ◌*◌, ◌<◌, ◌≤◌, ⊎_elim, List, [], ◌∷◌, length, refl, sym, ap, ◌∙◌, subst, arith}
 use Rattle.std.specs.List.{Contains}
 use Rattle.std.proofs.Math.Nat.{le_trans}
-use Rattle.comballoc_rules.proofs.Formed.{combined_formed, combined_seated}
-use Rattle.comballoc_rules.proofs.Placed.{combined_placed}
-use Rattle.comballoc_rules.proofs.Sizes.{size, register_before}
-use Rattle.comballoc_rules.proofs.Whole as combining
 use Rattle.comballoc_rules.specs.Combined.{combined}
 use Rattle.cse_copy_rules.proofs.One.{one_propagated}
 use Rattle.cse_copy_rules.proofs.Whole.{propagated_kept}
@@ -16,11 +12,8 @@ use Rattle.pass_rules.specs.Carried.{IsCarried}
 use Rattle.pass_rules.specs.Measures.{copy_words, code_words}
 use Rattle.hoist_rules.proofs.Chosen.{constants_first_kept, one_constants_first}
 use Rattle.hoist_rules.specs.Chosen.{HasConstantsFirst}
-use Rattle.mach_ir.proofs.Keeping.{keeps_then}
 use Rattle.mach_ir.specs.Formed.{WellFormed}
-use Rattle.mach_ir.specs.Keeps.{Keeps}
 use Rattle.mach_ir.specs.Placed.{WellPlaced}
-use Rattle.mach_ir.specs.Seats.{Seated}
 use Rattle.mach_ir.specs.Sizes.{Size, HasSize, OpenAtMost, operand_count}
 use Rattle.mach_ir.specs.Walks.{InCode, in_args, in_results, further, IsRegister, is_param, is_colour, is_in_code, NoAddrLive}
 use Rattle.mach_ir.specs.declared.reg.Reg.{Reg}
@@ -50,6 +43,9 @@ use Rattle.prepare_rules.proofs.Propagated.{propagated_carried}
 use Rattle.prepare_rules.proofs.Repeated.{repeated_carried}
 use Rattle.prepare_rules.proofs.Spilled.{spill_carried}
 use Rattle.prepare_rules.proofs.Split.{split_carried}
+use Rattle.mach_laws.specs.Passes.{IsPassKept, IsNoLarger}
+use Rattle.mach_laws.proofs.Passes.{pass_then}
+use Rattle.comballoc_rules.proofs.Whole.{combined_kept}
 
 -- ---- a function has its own size
 
@@ -177,10 +173,7 @@ carried_within {more} {most} {p} {q} le c =
 --
 -- What each pass gives: it adds so many words at the most, and the bounds on a function grow so.
 pub record IsStage (more : ℕ) (grown : Size → Size) (m q : Mach) : Type 0 where
-  pub keeps : Keeps m q
-  pub formed : WellFormed q
-  pub placed : WellPlaced q
-  pub seated : Seated m → Seated q
+  pub pass : IsPassKept m q
   pub params : q.params ≡ m.params
   pub size : (s : Size) → HasSize m s → HasSize q (grown s)
   pub carried : IsCarried more m q
@@ -189,10 +182,7 @@ pub stage_then : {more others : ℕ} {grown wider : Size → Size} {p q r : Mach
     IsStage (more + others) (λ s. wider (grown s)) p r
 stage_then {grown = grown} one two =
     record {
-      keeps = keeps_then one.keeps two.keeps;
-      formed = two.formed;
-      placed = two.placed;
-      seated = λ s. two.seated (one.seated s);
+      pass = pass_then one.pass two.pass;
       params = two.params ∙ one.params;
       size = λ s h. two.size (grown s) (one.size s h);
       carried = carried_then one.carried two.carried;
@@ -227,15 +217,12 @@ more_than a n r le = omega (arith, le)
 twice_more : (a n r : ℕ) → n ≤ r → a + 2 * n ≤ a + 2 * r
 twice_more a n r le = omega (arith, le)
 
-sink_stage : (m q : Mach) → WellFormed m → WellPlaced m → NoAddrLive m → (made : IsSunk m q) → IsStage (copy_words * length made.plan.registers) sunk_size m q
-sink_stage m q formed placed no_addr s =
+sink_stage : (m q : Mach) → WellFormed m → NoAddrLive m → (made : IsSunk m q) → IsStage (copy_words * length made.plan.registers) sunk_size m q
+sink_stage m q formed no_addr s =
     let k = sinking.kept m q formed no_addr s in
     let moved = length s.plan.registers in
     record {
-      keeps = k.keeps;
-      formed = k.formed;
-      placed = k.placed placed;
-      seated = k.seated;
+      pass = k.pass;
       params = k.params;
       size = λ z h.
           within_size (k.size z h) (more_than z.instrs moved z.registers (k.few z h)) (twice_more z.operands moved z.registers (k.few z h)) refl refl;
@@ -247,10 +234,7 @@ spill_stage : (m q : Mach) → WellFormed m → WellPlaced m → ParamsPlaced m 
 spill_stage m q formed placed params s =
     let k : IsChosenKept m q s.plan = spilled_kept m q formed placed params s in
     record {
-      keeps = (k.kept).keeps;
-      formed = (k.kept).formed;
-      placed = (k.kept).placed;
-      seated = (k.kept).seated;
+      pass = (k.kept).pass;
       params = ap (λ (q : Mach). q.params) s.is;
       size = k.size;
       carried = spill_carried m q formed s k;
@@ -261,10 +245,7 @@ split_stage : (m q : Mach) (parameters : ℕ) → length m.params ≡ parameters
 split_stage m q parameters e formed placed s =
     let k = split_kept m q formed placed s in
     record {
-      keeps = k.keeps;
-      formed = k.formed;
-      placed = k.placed;
-      seated = k.seated;
+      pass = k.pass;
       params = ap (λ (q : Mach). q.params) s.is;
       size = λ z h. subst (λ n. HasSize q (split_size n z)) e (k.size z h);
       carried = split_carried formed placed s;
@@ -278,94 +259,61 @@ all_words n r a b few le = by n r a b few le
     by : (n r a b : ℕ) → n ≤ r → a ≤ b + 2 * n → ((0 + 6 * n) + 6 * a) + 0 ≤ 6 * (b + 3 * r)
     by n r a b few le = omega (arith, few, le)
 
--- What the passes before late stores make of a function is no larger, and none of its registers is new: so none is made from
--- another.
+-- What the passes before late stores make of a function is no larger.
 pub record IsCut (m q : Mach) : Type 0 where
-  pub stage : Smaller m q
-  pub registers : (r : Reg) → IsRegister q r → IsRegister m r
+  pub pass : IsPassKept m q
+  pub no_larger : IsNoLarger m q
+  pub carried : IsCarried 0 m q
+
+pub cut_stage : {m q : Mach} → IsCut m q → Smaller m q
+cut_stage cut =
+    record { pass = cut.pass; params = (cut.no_larger).params; size = (cut.no_larger).size; carried = cut.carried }
+
+cut_then : {p q r : Mach} → IsCut p q → IsPassKept q r → IsNoLarger q r → IsCarried 0 q r → IsCut p r
+cut_then cut pass smaller carried =
+    record {
+      pass = pass_then cut.pass pass;
+      no_larger = record {
+        params = smaller.params ∙ (cut.no_larger).params;
+        registers = λ r i. (cut.no_larger).registers r (smaller.registers r i);
+        size = λ s h. smaller.size s ((cut.no_larger).size s h);
+      };
+      carried = carried_then cut.carried carried;
+    }
 
 module _ {m : Mach} (is : IsPreparable m) where
-  pub cut_own : {q : Mach} → IsCut m q → OwnOrigins q
-  cut_own cut r i = is.combinable.origins r (cut.registers r i)
+  pub cut_placed : {q : Mach} → IsCut m q → WellPlaced q
+  cut_placed cut = (cut.pass).placed is.placed
 
-  cut_then : {p q : Mach} → IsCut m p → Smaller p q → ((r : Reg) → IsRegister q r → IsRegister p r) → IsCut m q
-  cut_then cut one registers = record { stage = stage_then cut.stage one; registers = λ r i. cut.registers r (registers r i) }
+  -- no register is made from another
+  pub cut_own : {q : Mach} → IsCut m q → OwnOrigins q
+  cut_own cut r i = (is.combinable).origins r ((cut.no_larger).registers r i)
 
   pub combine_cut : {q : Mach} → q ≡ combined m → IsCut m q
   combine_cut e =
+      let k = combined_kept m is.combinable in
       subst (IsCut m) (sym e)
-      (record {
-        stage = record {
-          keeps = combining.keeps m is.combinable;
-          formed = combined_formed m is.combinable;
-          placed = combined_placed m is.combinable is.placed;
-          seated = combined_seated m;
-          params = refl;
-          size = size m;
-          carried = combined_carried m is.combinable.formed;
-        };
-        registers = register_before m;
-      })
+      (record { pass = k.pass; no_larger = k.no_larger; carried = combined_carried m (is.combinable).formed })
 
   pub propagate_cut : {p q : Mach} → IsCut m p → IsPropagated p q → IsCut m q
   propagate_cut {p} {q} cut s =
-      let k = propagated_kept p q cut.stage.formed cut.stage.placed (cut_own cut) s in
-      cut_then cut
-      (record {
-        keeps = k.keeps;
-        formed = k.formed;
-        placed = k.placed;
-        seated = k.seated;
-        params = k.params;
-        size = k.size;
-        carried = propagated_carried k s;
-      })
-      k.registers
+      let k = propagated_kept p q (cut.pass).formed (cut_placed cut) (cut_own cut) s in
+      cut_then cut k.pass k.no_larger (propagated_carried k s)
 
   pub repeat_cut : {p q : Mach} → IsCut m p → IsRepeated p q → IsCut m q
   repeat_cut {p} {q} cut s =
-      let k = repeated_kept p q cut.stage.formed cut.stage.placed (cut_own cut) s in
-      cut_then cut
-      (record {
-        keeps = k.keeps;
-        formed = k.formed;
-        placed = k.placed;
-        seated = k.seated;
-        params = k.params;
-        size = k.size;
-        carried = repeated_carried k s;
-      })
-      k.registers
+      let k = repeated_kept p q (cut.pass).formed (cut_placed cut) (cut_own cut) s in
+      cut_then cut k.pass k.no_larger (repeated_carried k s)
 
   pub drop_cut : {p q : Mach} → IsCut m p → IsDropped p q → IsCut m q
   drop_cut {p} {q} cut s =
-      let k = dropped_kept p q cut.stage.formed cut.stage.placed s in
-      cut_then cut
-      (record {
-        keeps = k.keeps;
-        formed = k.formed;
-        placed = k.placed;
-        seated = k.seated;
-        params = k.params;
-        size = k.size;
-        carried = dropped_carried cut.stage.formed s;
-      })
-      k.registers
+      let k = dropped_kept p q (cut.pass).formed (cut_placed cut) s in
+      cut_then cut k.pass k.no_larger (dropped_carried (cut.pass).formed s)
 
   pub hoist_cut : {p q : Mach} → IsCut m p → HasConstantsFirst p q → IsCut m q
   hoist_cut {p} {q} cut s =
-      let k = constants_first_kept p q cut.stage.formed s in
-      cut_then cut
-      (record {
-        keeps = k.keeps;
-        formed = k.formed;
-        placed = k.placed cut.stage.placed;
-        seated = k.seated;
-        params = k.params;
-        size = k.size;
-        carried = k.carried;
-      })
-      k.registers
+      let k = constants_first_kept p q (cut.pass).formed s in
+      cut_then cut k.pass k.no_larger k.carried
 
   -- so it is up to the stages without repeats and without dead code
   pub combined_cut : {q : Mach} → IsPassedTo m CombAlloc q → IsCut m q
@@ -380,25 +328,25 @@ module _ {m : Mach} (is : IsPreparable m) where
 -- and late stores
 module _ {m hoisted q : Mach} (is : IsPreparable m) (cut : IsCut m hoisted) (made : IsSunk hoisted q) where
   no_addr_left : NoAddrLive hoisted
-  no_addr_left = (cut.stage.keeps).addrs is.no_addr
+  no_addr_left = ((cut.pass).keeps).addrs is.no_addr
 
   abbrev pub moves : ℕ
   moves = length made.plan.registers
 
   pub sunk_stage : IsStage (0 + copy_words * moves) sunk_size m q
-  sunk_stage = stage_then cut.stage (sink_stage hoisted q cut.stage.formed cut.stage.placed no_addr_left made)
+  sunk_stage = stage_then (cut_stage cut) (sink_stage hoisted q (cut.pass).formed no_addr_left made)
 
   sunk : sinks.IsSinkKept hoisted q made.plan
-  sunk = sinking.kept hoisted q cut.stage.formed no_addr_left made
+  sunk = sinking.kept hoisted q (cut.pass).formed no_addr_left made
 
   -- a move for each open register at the most
   pub few_moves : (k : ℕ) → OpenAtMost m k → moves ≤ k
-  few_moves k h = sunk.few_open k (record { numbers = h.numbers; few = h.few; all = λ r i e. h.all r (cut.registers r i) e })
+  few_moves k h = sunk.few_open k (record { numbers = h.numbers; few = h.few; all = λ r i e. h.all r ((cut.no_larger).registers r i) e })
 
   -- each has an operand and a result
   pub more_operands : operand_count q.code ≤ operand_count m.code + 2 * moves
   more_operands =
-      grows (operand_count m.code) (operand_count hoisted.code) (operand_count q.code) moves (fewer_operands cut.stage)
+      grows (operand_count m.code) (operand_count hoisted.code) (operand_count q.code) moves (fewer_operands (cut_stage cut))
       (sunk.size (own_size hoisted) (has_own_size hoisted)).operands
     where
       grows : (a b c n : ℕ) → b ≤ a → c ≤ b + 2 * n → c ≤ a + 2 * n
@@ -408,7 +356,8 @@ module _ {m hoisted q : Mach} (is : IsPreparable m) (cut : IsCut m hoisted) (mad
   pub slots_stage : {r : Mach} → IsSpilled q r →
       IsStage (0 + copy_words * moves + copy_words * operand_count q.code) (λ s. spilled_size (sunk_size s)) m r
   slots_stage {r} spilled =
-      stage_then sunk_stage (spill_stage q r sunk_stage.formed sunk_stage.placed (seated_params q (sunk_stage.seated is.seated)) spilled)
+      stage_then sunk_stage
+      (spill_stage q r (sunk_stage.pass).formed ((sunk_stage.pass).placed is.placed) (seated_params q ((sunk_stage.pass).seated is.seated)) spilled)
 
 -- ---- all of them
 
@@ -463,12 +412,13 @@ pub prepared_kept : (m q : Mach) → IsPreparable m → IsPreparedMach m q → I
 prepared_kept m q is made =
     let cut = hoisted_cut is q made in
     let slots = slots_stage is cut made.is_sunk made.is_spilled in
-    let all = stage_then slots (split_stage made.spilled q (length m.params) (ap length slots.params) slots.formed slots.placed made.is_split) in
+    let all = stage_then slots
+    (split_stage made.spilled q (length m.params) (ap length slots.params) (slots.pass).formed ((slots.pass).placed is.placed) made.is_split) in
     record {
-      keeps = all.keeps;
-      formed = all.formed;
-      placed = all.placed;
-      seated = all.seated is.seated;
+      keeps = (all.pass).keeps;
+      formed = (all.pass).formed;
+      placed = (all.pass).placed is.placed;
+      seated = (all.pass).seated is.seated;
       size = all.size;
       carried = λ k h.
           carried_within

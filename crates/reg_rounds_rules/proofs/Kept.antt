@@ -8,25 +8,22 @@ use Rattle.bs_words.specs.declared.types.Loc.TheVariants as loc
 use Rattle.choices.specs.declared.choices.Alloc.{Alloc}
 use Rattle.mach_ir.specs.Formed.{WellFormed, IsFormedInstruction}
 use Rattle.mach_ir.specs.Graph.{coloured_location}
-use Rattle.mach_ir.specs.Keeps.{Keeps}
 use Rattle.mach_ir.specs.Meaning.{tries_at}
 use Rattle.mach_ir.specs.Placed.{Colouring, FullyPlaced, IsProperColouring, HasColourOrSlot, WellPlaced}
 use Rattle.mach_ir.specs.Placed as placings
-use Rattle.mach_ir.specs.Seats.{Seated}
 use Rattle.mach_ir.specs.Sizes.{Size, HasSize, HasRoom}
 use Rattle.mach_ir.specs.Walks.{InCode, in_args, in_results, further, IsRegister, is_in_code, Joined, StandsAsInstr, here, below}
 use Rattle.bs_words.proofs.Lists.{first_in, later_in}
 use Rattle.mach_ir.specs.declared.reg.Reg.{Reg}
 use Rattle.mach_ir.specs.declared.mach.Instr.{Instr}
 use Rattle.mach_ir.specs.declared.mach.Mach.{Mach}
-use Rattle.mach_ir.proofs.Keeping.{keeps_itself, keeps_then}
 use Rattle.mach_laws.proofs.Colouring.{colouring_of}
 use Rattle.mach_laws.proofs.Instructions.{return_results}
 use Rattle.reload_rules.specs.Known.{IsCarried, OffsetFits, code_words, copy_words, other_operands}
 use Rattle.reload_rules.proofs.Known.{others_few}
 use Rattle.colouring_rules.specs.Places.{LocationAssignment, all_placed, placed_code, with_colouring, rest_in_slots, last_resort, or_slot, ColoursLow}
 use Rattle.colouring_rules.proofs.Open.{machine_open, slot_open, machine_slot, not_open}
-use Rattle.colouring_rules.proofs.Rest.{rest_keeps, rest_placed, rest_formed, rest_seated}
+use Rattle.colouring_rules.proofs.Rest.{rest_pass, rest_placed}
 use Rattle.reload_rules.specs.Kept.{with_copies}
 use Rattle.reload_rules.specs.Reloaded.{slot_or, to_slots, in_slots, reloaded_code, IsReloadedBy, is_coloured, asks_again}
 use Rattle.reload_rules.proofs.Copies.{code_instrs, placed_others}
@@ -37,6 +34,8 @@ use Rattle.reg_rounds_rules.specs.Rounds.{IsRound, RoundsAsked, none_yet, one_mo
 use Rattle.reg_rounds_rules.proofs.Feeding.{MayStand, stays, in_colour, at_home, left_open, IsSound, IsHomed, stays_homed, AreHomed, none_homed, one_homed}
 use Rattle.reg_rounds_rules.proofs.Grown.{HomedCode, no_code, homed_then, Grown, grown_first, grown_placed, grown_reloaded, grown_words, grown_points, grown_exits, grown_operands, Shallow, grown_shallow, Fit, grown_fit, ReturnsNothing, grown_ends}
 use Rattle.bs_words.proofs.Places.{same_slot}
+use Rattle.mach_laws.specs.Passes.{IsPassKept}
+use Rattle.mach_laws.proofs.Passes.{pass_itself, pass_then}
 
 -- ---- placings of all registers that do as a colouring does
 
@@ -196,11 +195,8 @@ nothing_returned (i ∷ is) all = (return_results (All-head IsFormedInstruction 
 
 -- what is after so many rounds that each asked for another
 record Standing (first : Mach) (rounds : ℕ) (m : Mach) : Type 0 where
-  keeps : Keeps first m
-  formed : WellFormed m
-  well : WellPlaced m
+  pass : IsPassKept first m
   low : ColoursLow m
-  seated : Seated first → Seated m
   grown : Grown first.code m.code
   labels : m.labels ≡ first.labels
   instrs : length m.code ≤ length first.code + rounds * other_operands first.code
@@ -267,16 +263,13 @@ module _ {alloc : Alloc} {fresh : ℕ} where
     next_round : {rounds : ℕ} {m q : Mach} → Standing first rounds m → IsRound alloc fresh m q true → Standing first (suc rounds) q
     next_round {rounds} {m} {q} s r =
         let place : Colouring = coloured_location r.colours in
-        let kept = reloaded_kept m q place true s.formed s.well s.low (chosen r) r.reloaded in
+        let kept = reloaded_kept m q place true (s.pass).formed ((s.pass).placed well) s.low (chosen r) r.reloaded in
         let long = reload_instrs place r.reloaded in
         let so_far = s.instrs in
         let same = grown_operands s.grown in
         record {
-          keeps = keeps_then s.keeps kept.keeps;
-          formed = kept.formed;
-          well = kept.placed;
+          pass = pass_then s.pass kept.pass;
           low = kept.colours_low;
-          seated = λ x. kept.seated (s.seated x);
           grown = reload_grown place (chosen r) s.grown r.reloaded;
           labels = reload_labels place r.reloaded ∙ s.labels;
           instrs = by (rounds * other_operands first.code) (length first.code) (other_operands first.code) (suc rounds * other_operands first.code) long so_far same
@@ -295,11 +288,8 @@ module _ {alloc : Alloc} {fresh : ℕ} where
 
     standing : {rounds : ℕ} {m : Mach} → RoundsAsked alloc fresh first rounds m → Standing first rounds m
     standing none_yet = record {
-      keeps = keeps_itself first;
-      formed = formed;
-      well = well;
+      pass = pass_itself first formed;
       low = low;
-      seated = λ s. s;
       grown = grown_first first.code;
       labels = refl;
       instrs = omega arith;
@@ -309,10 +299,10 @@ module _ {alloc : Alloc} {fresh : ℕ} where
 
     -- what a round needs of a function, after rounds that asked for another
     pub still_formed : {rounds : ℕ} {m : Mach} → RoundsAsked alloc fresh first rounds m → WellFormed m
-    still_formed a = let s = standing a in s.formed
+    still_formed a = let s = standing a in (s.pass).formed
 
     pub still_placed : {rounds : ℕ} {m : Mach} → RoundsAsked alloc fresh first rounds m → WellPlaced m
-    still_placed a = let s = standing a in s.well
+    still_placed a = let s = standing a in (s.pass).placed well
 
     -- how large it is
     pub still_within : {rounds : ℕ} {m : Mach} → RoundsAsked alloc fresh first rounds m → (s : Size) → HasSize first s →
@@ -362,17 +352,18 @@ module _ {first : Mach} (formed : WellFormed first) where
     ended {q = q} (asks_no_more {rounds = rounds} {m = m} few a r) =
         let s = standing formed well low a in
         let place : Colouring = coloured_location r.colours in
-        let kept = reloaded_kept m q place false s.formed s.well s.low (chosen r) r.reloaded in
+        let kept = reloaded_kept m q place false (s.pass).formed ((s.pass).placed well) s.low (chosen r) r.reloaded in
         let full : FullyPlaced q = kept.all_placed refl in
         let long = reload_instrs place r.reloaded in
         let so_far = s.instrs in
         let same = grown_operands s.grown in
         let most = few_rounds (suc rounds) (other_operands first.code) few in
+        let whole = pass_then s.pass kept.pass in
         record {
-          keeps = keeps_then s.keeps kept.keeps;
-          formed = kept.formed;
+          keeps = whole.keeps;
+          formed = whole.formed;
           placed = full;
-          seated = λ x. kept.seated (s.seated x);
+          seated = whole.seated;
           carried = carried full (reload_grown place (chosen r) s.grown r.reloaded) (reload_words place (chosen r) s.grown r.reloaded);
           labels = reload_labels place r.reloaded ∙ s.labels;
           instrs = by (rounds * other_operands first.code) (length first.code) (other_operands first.code) (suc rounds * other_operands first.code) (most_rounds * other_operands first.code) long so_far
@@ -384,11 +375,12 @@ module _ {first : Mach} (formed : WellFormed first) where
     ended (gives_up a) =
         let full : FullyPlaced (rest_in_slots first) = rest_placed first formed well in
         let same = placed_long last_resort first.code in
+        let whole = rest_pass first formed well in
         record {
-          keeps = rest_keeps first formed well;
-          formed = rest_formed first formed well;
+          keeps = whole.keeps;
+          formed = whole.formed;
           placed = full;
-          seated = rest_seated first formed well;
+          seated = whole.seated;
           carried = carried full (grown_placed last_resort rest_sound (grown_first first.code)) (grown_words last_resort rest_sound (grown_first first.code));
           labels = refl;
           instrs = omega (arith, same);

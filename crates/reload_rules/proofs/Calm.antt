@@ -1,5 +1,6 @@
 -- A raised value is round none but handlers: where none is raised, an operation leaves none behind where it goes on.
 use Rattle.std.proofs.Common.{◌≡◌, ℕ, zero, suc, Bool, true, false, cond, List, [], ◌∷◌, Option, Some, None, Result, Ok, Err, refl}
+use Rattle.std.proofs.lemmas.Bool.{both_ways}
 use Rattle.std.specs.Prelude.{slice_get}
 use Rattle.bs_words.specs.Memory.{Memory, Cell, InHeader, InBlock, InStatic, sizes, stored, value_in_cell}
 use Rattle.bs_words.specs.Operators.{apply, word_in}
@@ -16,7 +17,7 @@ use Rattle.cmm_meaning.specs.State.{Doing, Gave, Threw, Callee, Inside}
 use Rattle.mach_ir.specs.Acts as acts
 use Rattle.cmm_meaning.specs.Setting.{Setting}
 use Rattle.mach_ir.specs.Acts.{Around, Target, On, At, AtLabel, AtHandler, Act, Goes, Pushes, Jumps, Unwinds, Asks, Replaces, Ends, EndsRaising, Stuck, stuck_unless}
-use Rattle.mach_ir.specs.Meaning.{mark_act, mach_act}
+use Rattle.mach_ir.specs.Meaning.{mark_act, mach_act, is_handler_of, from_handler, at_handler}
 use Rattle.mach_ir.specs.declared.op.Right.TheVariants as right
 use Rattle.mach_ir.specs.declared.op.Pure.{Pure}
 use Rattle.mach_ir.specs.declared.op.Pure.TheVariants as pure
@@ -33,6 +34,7 @@ use Rattle.mach_ir.specs.declared.op.Op.TheVariants as op
 use Rattle.mach_ir.specs.declared.mach.Test.{Test}
 use Rattle.mach_ir.specs.declared.mach.Mark.{Mark}
 use Rattle.mach_ir.specs.declared.mach.Mark.TheVariants as mark
+use Rattle.mach_ir.specs.declared.mach.Instr.{Instr}
 use Rattle.mach_ir.specs.declared.mach.MachOp.{MachOp}
 use Rattle.mach_ir.specs.declared.mach.MachOp.TheVariants as mach
 use Rattle.mach_ir.specs.Acts.{AtLabel, AtHandler}
@@ -263,3 +265,43 @@ calm c (mach.Mark f) vs a e = mark_calm f vs a e
 
 pub calm_at_handler : (c : Setting) (f : MachOp) (vs : List Value) (a : Around) → IsHandler f → Calm (mach_act c f vs a)
 calm_at_handler c f vs a (is_handler {l = l}) = handler_calm l vs a
+
+-- where a raised value comes to: at the mark of a handler, or nowhere
+pub data IsCaught : List Instr → Type 0 where
+  nowhere : IsCaught []
+  handled : {i : Instr} {next : List Instr} → IsHandler i.op → IsCaught (i ∷ next)
+
+handler_of : (l : ℕ) (f : MachOp) → is_handler_of l f ≡ true → IsHandler f
+handler_of l (mach.Op f) e = absurd (both_ways false refl e)
+handler_of l (mach.Mark (mark.Exit k n)) e = absurd (both_ways false refl e)
+handler_of l (mach.Mark (mark.If t k)) e = absurd (both_ways false refl e)
+handler_of l (mach.Mark (mark.Else k end)) e = absurd (both_ways false refl e)
+handler_of l (mach.Mark (mark.Switch ls)) e = absurd (both_ways false refl e)
+handler_of l (mach.Mark (mark.Case ns k end)) e = absurd (both_ways false refl e)
+handler_of l (mach.Mark mark.Catch) e = absurd (both_ways false refl e)
+handler_of l (mach.Mark (mark.With k end)) e = absurd (both_ways false refl e)
+handler_of l (mach.Mark (mark.Try k)) e = absurd (both_ways false refl e)
+handler_of l (mach.Mark (mark.Leave k end)) e = absurd (both_ways false refl e)
+handler_of l (mach.Mark (mark.Handler k)) e = is_handler
+handler_of l (mach.Mark (mark.End k)) e = absurd (both_ways false refl e)
+
+caught_from : (l : ℕ) (code : List Instr) → IsCaught (from_handler l code)
+caught_from l [] = nowhere
+caught_from l (i ∷ is) = by (is_handler_of l i.op) refl (caught_from l is)
+  where
+    by : (b : Bool) → is_handler_of l i.op ≡ b → IsCaught (from_handler l is) → IsCaught (cond b (i ∷ is) (from_handler l is))
+    by true e h = handled (handler_of l i.op e)
+    by false e h = h
+
+pub caught_at : (code : List Instr) (tries : List ℕ) → IsCaught (at_handler code tries)
+caught_at code [] = nowhere
+caught_at code (l ∷ tries) = caught_from l code
+
+-- no value is raised, but where it is caught
+pub data IsQuiet (rest : List Instr) (x : Around) : Type 0 where
+  none_raised : x.raised ≡ None → IsQuiet rest x
+  caught : IsCaught rest → IsQuiet rest x
+
+pub calm_here : (i : Instr) (next : List Instr) (x : Around) → IsQuiet (i ∷ next) x → (c : _) (vs : List Value) → Calm (mach_act c i.op vs x)
+calm_here i next x (none_raised e) c vs = calm c i.op vs x e
+calm_here i next x (caught (handled h)) c vs = calm_at_handler c i.op vs x h

@@ -7,6 +7,7 @@ pub mod Live
 pub mod Calm
 pub mod Registers
 pub mod Files
+pub mod Passed
 pub mod Kept
 pub mod Parts
 pub mod Formed

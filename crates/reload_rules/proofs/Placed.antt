@@ -10,7 +10,7 @@ use Rattle.mach_ir.specs.Acts.{Target, On, At}
 use Rattle.mach_ir.specs.Forms.{HasForm, copies, constant, symbol, operates, loads, stores, allocates, calls, tail_calls, calls_out, checks, raises, returns}
 use Rattle.mach_ir.specs.Formed.{comps, MarkHasForm, exit_form, if_form, else_form, switch_form, case_form, catch_form, with_form, try_form, leave_form, handler_form, end_form, IsFormedInstruction, formed_op, formed_mark, WellFormed}
 use Rattle.mach_ir.specs.Meaning.{code_at, killed}
-use Rattle.mach_ir.specs.Placed.{HasColourOrSlot, MayShare, WellPlaced, colour_numbers}
+use Rattle.mach_ir.specs.Placed.{HasColourOrSlot, MayShare, WellPlaced}
 use Rattle.mach_ir.specs.Seats.{Seats, Anywhere, InOrder, AfterFirst, AreSeated, anywhere, in_order, after_first, places_of, mach_operand_seats, mach_result_seats, Seated}
 use Rattle.mach_ir.specs.Walks.{AmongRegisters, first, later, OneOf, this, other, targets, goes, Live, LiveAfter, after_step, Writes, IsMove, is_move, StandsAsInstr, IsRegister, is_colour, Meets, at_write, at_params, Joined, one_way, other_way}
 use Rattle.mach_ir.specs.declared.op.Op.{Op}
@@ -30,7 +30,7 @@ use Rattle.colouring_rules.proofs.Walked.{colour_place}
 use Rattle.spill_rules.specs.Spilled.{copy_instruction}
 use Rattle.spill_rules.proofs.Chosen.{no_result}
 use Rattle.reload_rules.specs.Reloaded.{reads_registers, writes_registers, is_in_slot, is_renewed, fresh_stand_in, next_reload_number, renewed}
-use Rattle.reload_rules.proofs.Kept.{laid_after}
+use Rattle.reload_rules.proofs.Passed.{laid_after}
 use Rattle.reload_rules.proofs.Live.{IsNumbering, reloaded_by, ForResult, Storing, Laid, FreshResult, is_result, killed_same, live_back, live_before}
 use Rattle.reload_rules.proofs.Numbers.{WasIn, was_own, was_fresh, for_in, for_slot, was_in}
 use Rattle.reload_rules.proofs.Parts.{first_operand, first_result, main_for, Part, part_reload, part_main, part_spill, part_at, IsCopy, is_copy, part_in}

@@ -11,7 +11,7 @@ use Rattle.mach_ir.specs.declared.mach.Mach.{Mach}
 use Rattle.mach_laws.specs.Expand.{expand}
 use Rattle.mach_laws.proofs.Places.{args_in, results_in}
 use Rattle.spill_rules.specs.Spilled.{copy_instruction}
-use Rattle.spill_rules.proofs.Kept.{in_append}
+use Rattle.spill_rules.proofs.Registers.{in_append}
 use Rattle.bs_words.proofs.Lists.{none_in, first_in, later_in, in_cons}
 use Rattle.reload_rules.specs.Reloaded.{reads_registers, writes_registers, is_in_slot, is_renewed, fresh_stand_in, next_reload_number, number_past, reloads, spills, past_instr}
 use Rattle.reload_rules.proofs.Killed.{renewed_slot}

@@ -6,7 +6,7 @@ use Rattle.bs_words.specs.declared.types.Loc.{Loc}
 use Rattle.bs_words.specs.declared.types.Loc.TheVariants as loc
 use Rattle.bs_words.proofs.Lists.{first_in, later_in}
 use Rattle.mach_ir.specs.Formed.{WellFormed}
-use Rattle.mach_ir.specs.Placed.{Colouring, IsProperColouring, HasColourOrSlot, in_colour, in_slot, MayShare, WellPlaced, colour_numbers}
+use Rattle.mach_ir.specs.Placed.{Colouring, IsProperColouring, HasColourOrSlot, in_colour, in_slot, MayShare, WellPlaced}
 use Rattle.mach_ir.specs.Walks.{InCode, in_args, in_results, further, IsRegister, is_in_code, Joined}
 use Rattle.mach_ir.specs.declared.reg.Reg.{Reg}
 use Rattle.mach_ir.specs.declared.mach.Instr.{Instr}

@@ -6,14 +6,12 @@ use Rattle.mach_ir.specs.Formed.{WellFormed}
 use Rattle.mach_ir.specs.Placed.{Colouring, IsProperColouring, WellPlaced}
 use Rattle.mach_ir.specs.Sizes.{HasSize}
 use Rattle.mach_ir.specs.Walks.{IsRegister, Joined}
-use Rattle.mach_ir.proofs.Keeping.{keeps_then}
 use Rattle.mach_ir.specs.declared.mach.Mach.{Mach}
 use Rattle.pass_rules.specs.Measures.{other_operands}
 use Rattle.colouring_rules.specs.Places.{ColoursLow, with_colouring}
 use Rattle.colouring_rules.proofs.Colouring.{coloured_kept}
 use Rattle.colouring_rules.proofs.Open.{not_open}
 use Rattle.colouring_rules.proofs.Text.{placed_formed}
-use Rattle.colouring_rules.proofs.Walked.{no_addr_before}
 use Rattle.colouring_rules.proofs.Whole.{placed_keeps, placed_well, placed_seated, placed_size, placed_slots}
 use Rattle.reload_rules.specs.Kept.{with_copies, IsReloadKept}
 use Rattle.reload_rules.specs.Reloaded.{any_needs, reloaded, to_slots, in_slots, IsFree, IsReloadedBy, is_coloured, asks_again}
@@ -24,7 +22,9 @@ use Rattle.reload_rules.proofs.Numbering.{numbering, is_numbering, numbered_same
 use Rattle.reload_rules.proofs.Placed.{reloaded_placed, reloaded_low, reloaded_seated}
 use Rattle.reload_rules.proofs.Room.{with_more}
 use Rattle.reload_rules.proofs.Slotted.{slots_placing, slots_least, slots_low, slots_above, coloured_needs}
-use Rattle.reload_rules.proofs.Whole.{reloaded_keeps, reloaded_no_addr, reloaded_slots, reloaded_size, reloaded_registers}
+use Rattle.reload_rules.proofs.Whole.{reloaded_keeps, reloaded_slots, reloaded_size, reloaded_registers}
+use Rattle.mach_laws.specs.Passes.{IsPassKept}
+use Rattle.mach_laws.proofs.Passes.{pass_then}
 
 module _ (m : Mach) (place : Colouring) (formed : WellFormed m) (well : WellPlaced m) (low : ColoursLow m)
     (colouring : IsProperColouring (IsRegister m) (Joined m) place) where
@@ -32,13 +32,9 @@ module _ (m : Mach) (place : Colouring) (formed : WellFormed m) (well : WellPlac
   of_coloured none =
       let kept = coloured_kept m place formed well colouring low in
       record {
-        keeps = kept.keeps;
-        formed = kept.formed;
-        placed = (kept.placed).well;
+        pass = kept.pass;
         all_placed = λ e. kept.placed;
-        seated = kept.seated;
         colours_low = λ r k c i u. absurd (not_open k ((kept.placed).places k i) u);
-        no_addr = kept.no_addr;
         in_registers = coloured_needs m place formed well colouring none;
         size = λ s h. with_more (other_operands m.code) (kept.size s h);
         slots = kept.slots;
@@ -63,21 +59,30 @@ module _ (m : Mach) (place : Colouring) (formed : WellFormed m) (well : WellPlac
     abbrev top : ℕ
     top = free + other_operands (in_slots place m).code
 
+    of_slots : IsPassKept m (in_slots place m)
+    of_slots =
+        record {
+          keeps = placed_keeps m (to_slots place) formed well (slots_placing m place formed well colouring);
+          formed = formed_there;
+          placed = λ _. well_there;
+          seated = placed_seated m (to_slots place) formed well (slots_placing m place formed well colouring);
+        }
+
+    of_copies : IsPassKept (in_slots place m) (reloaded_by (numbering free (in_slots place m)) (in_slots place m))
+    of_copies =
+        record {
+          keeps = reloaded_keeps m1 s free top formed_there well_there numbers;
+          formed = reloaded_formed m1 s free top formed_there well_there numbers;
+          placed = λ _. reloaded_placed m1 s free top formed_there well_there numbers;
+          seated = reloaded_seated m1 s free top formed_there well_there numbers;
+        }
+
     of_numbered : IsReloadKept m (reloaded_by (numbering free (in_slots place m)) (in_slots place m)) true
     of_numbered =
         record {
-          keeps = keeps_then (placed_keeps m (to_slots place) formed well (slots_placing m place formed well colouring))
-              (reloaded_keeps m1 s free top formed_there well_there numbers);
-          formed = reloaded_formed m1 s free top formed_there well_there numbers;
-          placed = reloaded_placed m1 s free top formed_there well_there numbers;
+          pass = pass_then of_slots of_copies;
           all_placed = λ e. absurd (both_ways true e refl);
-          seated = λ h.
-              reloaded_seated m1 s free top formed_there well_there numbers
-              (placed_seated m (to_slots place) formed well (slots_placing m place formed well colouring) h);
           colours_low = reloaded_low m1 s free top formed_there well_there numbers (slots_low m place formed well colouring low);
-          no_addr = λ h.
-              reloaded_no_addr m1 s free top formed_there well_there numbers
-              (no_addr_before m (to_slots place) well (slots_placing m place formed well colouring) h);
           in_registers = reloaded_registers m1 s free top formed_there well_there numbers;
           size = λ size h.
               let same = placed_others (to_slots place) m.code in

@@ -1,15 +1,12 @@
 -- What a function keeps whose slots are reloaded.
 use Rattle.std.specs.Prelude.{◌≡◌, ℕ, ◌+◌, ◌*◌, Bool, false}
-use Rattle.mach_ir.specs.Formed.{WellFormed}
-use Rattle.mach_ir.specs.Keeps.{Keeps}
-use Rattle.mach_ir.specs.Placed.{WellPlaced, FullyPlaced}
-use Rattle.mach_ir.specs.Seats.{Seated}
+use Rattle.mach_ir.specs.Placed.{FullyPlaced}
 use Rattle.mach_ir.specs.Sizes.{Size, HasSize, OpenAtMost}
-use Rattle.mach_ir.specs.Walks.{NoAddrLive}
 use Rattle.mach_ir.specs.declared.mach.Mach.{Mach}
 use Rattle.pass_rules.specs.Measures.{other_operands}
 use Rattle.colouring_rules.specs.Places.{ColoursLow, SlotsGrow}
 use Rattle.reload_rules.specs.Reloaded.{any_needs}
+use Rattle.mach_laws.specs.Passes.{IsPassKept}
 
 -- so many copies more, each with an operand, a result and a register of its own
 abbrev pub with_copies : (copies : ℕ) → Size → Size
@@ -17,15 +14,10 @@ with_copies n s =
     record s { instrs = s.instrs + n; operands = s.operands + 2 * n; registers = s.registers + n }
 
 pub record IsReloadKept (m q : Mach) (asks : Bool) : Type 0 where
-  -- it does what the first does
-  pub keeps : Keeps m q
-  pub formed : WellFormed q
-  pub placed : WellPlaced q
+  pub pass : IsPassKept m q
   -- each register has a place, where no other round is asked for
   pub all_placed : asks ≡ false → FullyPlaced q
-  pub seated : Seated m → Seated q
   pub colours_low : ColoursLow q
-  pub no_addr : NoAddrLive m → NoAddrLive q
   -- no operand or result of an operation other than a copy is in a slot
   pub in_registers : any_needs q.code ≡ false
   -- at most a copy and a register for each operand and result of another instruction than a copy

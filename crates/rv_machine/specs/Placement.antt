@@ -2,7 +2,7 @@
 use Rattle.std.specs.Prelude.{ℕ, ◌+◌, ◌-◌, ◌*◌, ◌/◌, ◌%◌, Bool, true, false, cond, ◌&&◌, ◌||◌, ◌==◌, nat_le, List, [], ◌∷◌, length, reverse}
 use Rattle.std.specs.List.{list_all}
 use Rattle.rv_machine.specs.Hart.{Placed}
-use Rattle.rv_machine.specs.Places.{half_start}
+use Rattle.rv_machine.specs.Places.{half_start, most_room}
 
 -- ---- one block
 
@@ -57,9 +57,7 @@ abbrev pub are_apart : List Placed → Bool
 are_apart [] = true
 are_apart (b ∷ bs) = list_all (is_apart b) bs && are_apart bs
 
--- A plan is valid block by block: each lies in one half, header and all, and none overlaps another. In the
--- largest heap the halves meet, and a plan drawn for one half may run on into the other. A rule on whole
--- plans, that each must fit its half, would have two forms.
+-- A plan is valid block by block: each lies in one half, header and all, and none overlaps another.
 abbrev pub is_valid : ℕ → List Placed → List ℕ → Bool
 is_valid heap blocks starts =
     (length starts == length blocks) && list_all (is_in_heap heap) (placed_at blocks starts)
@@ -76,8 +74,15 @@ abbrev pub starts_in_order : Bool → ℕ → ℕ → List Placed → List ℕ
 starts_in_order true gap at blocks = spaced gap at blocks
 starts_in_order false gap at blocks = reverse (spaced gap at (reverse blocks))
 
--- the lowest bit has the half, the next one whether serials rise or fall from the half's start on, and the
--- two from the third on the words of the gap before each block
+-- the bytes of blocks that lie one after the other, with a gap before each
+abbrev pub bytes_spaced : ℕ → List Placed → ℕ
+bytes_spaced gap blocks = gap * length blocks + bytes_used blocks
+
+-- The lowest bit has the half, the next one whether serials rise or fall from the half's start on, and the
+-- two from the third on the words of the gap before each block. A plan that would run past the largest half
+-- is no plan: there the halves meet, and it would run on into the other one.
 abbrev pub drawn_plan : ℕ → List Placed → List ℕ
 drawn_plan drawn blocks =
-    starts_in_order (drawn / 2 % 2 == 0) (8 * (drawn / 4 % 4)) (half_start (drawn % 2)) blocks
+    let gap : ℕ = 8 * (drawn / 4 % 4) in
+    cond (nat_le (bytes_spaced gap blocks) most_room)
+    (starts_in_order (drawn / 2 % 2 == 0) gap (half_start (drawn % 2)) blocks) []

@@ -9,7 +9,10 @@ use crate::arithmetic;
 use crate::cause::Cause;
 use crate::machine::Machine;
 use crate::step_end::StepEnd;
-use rv_isa::{Condition, Instr, LoadWidth, StoreWidth, decode};
+use rv_isa::{
+    AluImmOp, AluOp, AluWordOp, Condition, Instr, LoadWidth, ShiftOp, ShiftWordOp, StoreWidth,
+    decode,
+};
 
 impl<'a> Machine<'a> {
     /// Runs the instruction at the program counter. An ECALL is not run: it answers `Service`.
@@ -45,14 +48,8 @@ impl<'a> Machine<'a> {
                 let value = bs_words::add(self.pc(), arithmetic::imm_u(imm));
                 self.set(rd, value, next)
             }
-            Instr::Jal { rd, offset } => {
-                let target = bs_words::add(self.pc(), arithmetic::imm_j(offset));
-                self.jump(rd, target)
-            }
-            Instr::Jalr { rd, rs1, imm } => {
-                let sum = bs_words::add(self.register(rs1), arithmetic::imm_i(imm));
-                self.jump(rd, sum - sum % 2)
-            }
+            Instr::Jal { rd, offset } => self.jal(rd, offset),
+            Instr::Jalr { rd, rs1, imm } => self.jalr(rd, rs1, imm),
             Instr::Branch {
                 condition,
                 rs1,
@@ -71,23 +68,14 @@ impl<'a> Machine<'a> {
                 rs2,
                 imm,
             } => self.store(width, rs1, rs2, imm),
-            Instr::OpImm { op, rd, rs1, imm } => {
-                let value = arithmetic::alu_imm(op, self.register(rs1), imm);
-                self.set(rd, value, next)
-            }
+            Instr::OpImm { op, rd, rs1, imm } => self.op_imm(op, rd, rs1, imm),
             Instr::Shift {
                 op,
                 rd,
                 rs1,
                 amount,
-            } => {
-                let value = arithmetic::shift(op, self.register(rs1), amount);
-                self.set(rd, value, next)
-            }
-            Instr::Op { op, rd, rs1, rs2 } => {
-                let value = arithmetic::alu(op, self.register(rs1), self.register(rs2));
-                self.set(rd, value, next)
-            }
+            } => self.shift(op, rd, rs1, amount),
+            Instr::Op { op, rd, rs1, rs2 } => self.op(op, rd, rs1, rs2),
             Instr::Addiw { rd, rs1, imm } => {
                 let sum = bs_words::add(self.register(rs1), arithmetic::imm_i(imm));
                 self.set(rd, arithmetic::extended(sum), next)
@@ -97,14 +85,8 @@ impl<'a> Machine<'a> {
                 rd,
                 rs1,
                 amount,
-            } => {
-                let value = arithmetic::shift_word(op, self.register(rs1), amount);
-                self.set(rd, value, next)
-            }
-            Instr::OpWord { op, rd, rs1, rs2 } => {
-                let value = arithmetic::alu_word(op, self.register(rs1), self.register(rs2));
-                self.set(rd, value, next)
-            }
+            } => self.shift_word(op, rd, rs1, amount),
+            Instr::OpWord { op, rd, rs1, rs2 } => self.op_word(op, rd, rs1, rs2),
             Instr::Ecall => StepEnd::Service,
         }
     }
@@ -122,6 +104,28 @@ impl<'a> Machine<'a> {
         }
         let next = self.pc() + 4;
         self.set(rd, next, target)
+    }
+
+    fn jal(&mut self, rd: u8, offset: u32) -> StepEnd
+        requires fits { InstrFits (Instr.Jal rd offset) }
+        requires within { self.old.pc < 2 ^ 32 }
+        ensures exact { next_of result self.new
+            ≡ counted_next (executed (Instr.Jal rd offset) self.old) }
+        ensures kept { StaysUnlessRetired result self.old self.new }
+    {
+        let target = bs_words::add(self.pc(), arithmetic::imm_j(offset));
+        self.jump(rd, target)
+    }
+
+    fn jalr(&mut self, rd: u8, rs1: u8, imm: u16) -> StepEnd
+        requires fits { InstrFits (Instr.Jalr rd rs1 imm) }
+        requires within { self.old.pc < 2 ^ 32 }
+        ensures exact { next_of result self.new
+            ≡ counted_next (executed (Instr.Jalr rd rs1 imm) self.old) }
+        ensures kept { StaysUnlessRetired result self.old self.new }
+    {
+        let sum = bs_words::add(self.register(rs1), arithmetic::imm_i(imm));
+        self.jump(rd, sum - sum % 2)
     }
 
     fn branch(&mut self, condition: Condition, rs1: u8, rs2: u8, offset: u16) -> StepEnd
@@ -171,5 +175,65 @@ impl<'a> Machine<'a> {
         }
         let next = self.pc() + 4;
         self.go_to(next)
+    }
+
+    fn op_imm(&mut self, op: AluImmOp, rd: u8, rs1: u8, imm: u16) -> StepEnd
+        requires fits { InstrFits (Instr.OpImm op rd rs1 imm) }
+        requires within { self.old.pc < 2 ^ 32 }
+        ensures exact { next_of result self.new
+            ≡ counted_next (executed (Instr.OpImm op rd rs1 imm) self.old) }
+        ensures kept { StaysUnlessRetired result self.old self.new }
+    {
+        let next = self.pc() + 4;
+        let value = arithmetic::alu_imm(op, self.register(rs1), imm);
+        self.set(rd, value, next)
+    }
+
+    fn shift(&mut self, op: ShiftOp, rd: u8, rs1: u8, amount: u8) -> StepEnd
+        requires fits { InstrFits (Instr.Shift op rd rs1 amount) }
+        requires within { self.old.pc < 2 ^ 32 }
+        ensures exact { next_of result self.new
+            ≡ counted_next (executed (Instr.Shift op rd rs1 amount) self.old) }
+        ensures kept { StaysUnlessRetired result self.old self.new }
+    {
+        let next = self.pc() + 4;
+        let value = arithmetic::shift(op, self.register(rs1), amount);
+        self.set(rd, value, next)
+    }
+
+    fn op(&mut self, op: AluOp, rd: u8, rs1: u8, rs2: u8) -> StepEnd
+        requires fits { InstrFits (Instr.Op op rd rs1 rs2) }
+        requires within { self.old.pc < 2 ^ 32 }
+        ensures exact { next_of result self.new
+            ≡ counted_next (executed (Instr.Op op rd rs1 rs2) self.old) }
+        ensures kept { StaysUnlessRetired result self.old self.new }
+    {
+        let next = self.pc() + 4;
+        let value = arithmetic::alu(op, self.register(rs1), self.register(rs2));
+        self.set(rd, value, next)
+    }
+
+    fn shift_word(&mut self, op: ShiftWordOp, rd: u8, rs1: u8, amount: u8) -> StepEnd
+        requires fits { InstrFits (Instr.ShiftWord op rd rs1 amount) }
+        requires within { self.old.pc < 2 ^ 32 }
+        ensures exact { next_of result self.new
+            ≡ counted_next (executed (Instr.ShiftWord op rd rs1 amount) self.old) }
+        ensures kept { StaysUnlessRetired result self.old self.new }
+    {
+        let next = self.pc() + 4;
+        let value = arithmetic::shift_word(op, self.register(rs1), amount);
+        self.set(rd, value, next)
+    }
+
+    fn op_word(&mut self, op: AluWordOp, rd: u8, rs1: u8, rs2: u8) -> StepEnd
+        requires fits { InstrFits (Instr.OpWord op rd rs1 rs2) }
+        requires within { self.old.pc < 2 ^ 32 }
+        ensures exact { next_of result self.new
+            ≡ counted_next (executed (Instr.OpWord op rd rs1 rs2) self.old) }
+        ensures kept { StaysUnlessRetired result self.old self.new }
+    {
+        let next = self.pc() + 4;
+        let value = arithmetic::alu_word(op, self.register(rs1), self.register(rs2));
+        self.set(rd, value, next)
     }
 }

@@ -3,7 +3,7 @@ use Rattle.std.proofs.Common.{◌≡◌, Bool, true, false, List, refl, ap, ◌�
 use Rattle.mach_ir.specs.declared.mach.Instr.{Instr}
 use Rattle.mach_ir.specs.declared.op.Right.{Right}
 use Rattle.mach_ir.specs.declared.op.Right.TheVariants as right
-use Rattle.selection_rules.specs.Select.{Code, OperandShape, InRegisters, ConstantRight, ConstantLeft, PowerRight, ordered, only_when, unless_left, unless_right, unless_constant}
+use Rattle.selection_rules.specs.Select.{Code, OperandShape, ConstantRight, ConstantLeft, PowerRight, ordered, only_when, unless_left, unless_right, unless_constant}
 use Rattle.selection_code.specs.Shapes.{needs_left, needs_right, is_register_operand}
 
 pub ordered_same : (b : Bool) (l k r q : Code) (next : List Instr) → ((n : List Instr) → l n ≡ k n) → ((n : List Instr) → r n ≡ q n) → ordered b l r next ≡ ordered b k q next
@@ -11,16 +11,13 @@ ordered_same true l k r q next el er = ap l (er next) ∙ el (q next)
 ordered_same false l k r q next el er = ap r (el next) ∙ er (k next)
 
 pub left_needed : (s : OperandShape) (c : Code) (n : List Instr) → only_when (needs_left s) c n ≡ unless_left s c n
-left_needed InRegisters c n = refl
-left_needed (ConstantRight i) c n = refl
 left_needed (ConstantLeft i) c n = refl
-left_needed (PowerRight k) c n = refl
+left_needed s c n = refl
 
 pub right_needed : (s : OperandShape) (c : Code) (n : List Instr) → only_when (needs_right s) c n ≡ unless_right s c n
-right_needed InRegisters c n = refl
 right_needed (ConstantRight i) c n = refl
-right_needed (ConstantLeft i) c n = refl
 right_needed (PowerRight k) c n = refl
+right_needed s c n = refl
 
 pub constant_needed : (r : Right) (c : Code) (n : List Instr) → only_when (is_register_operand r) c n ≡ unless_constant r c n
 constant_needed right.Register c n = refl

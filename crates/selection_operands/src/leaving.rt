@@ -19,7 +19,7 @@ ghost use Rattle.selection_operands.specs.Below.{node_code, MayCall, SelectsExpr
 ghost use Rattle.selection_scope.specs.Room.{HasExpressionRoom, most_numbers, most_tries};
 ghost use Rattle.selection_scope.specs.Scoping.{scoped_names};
 
-use crate::operands::{Below, Operand, filled, one, put_operand, waiting};
+use crate::operands::{Below, Operand, Timing, one, put_operand, put_row};
 use bs_words::{Comp, Name, Ret};
 use cmm_tree::{Expr, Label};
 use selection_code::backwards::Backwards;
@@ -152,7 +152,7 @@ pub fn app<F: Fn(&mut Scope, &mut Backwards, Place, &Expr) -> Result<(), AllocEr
         needed: light,
     };
     put_operand(below, scope, code, &late)?;
-    filled(below, scope, code, row, inner, arguments)?;
+    put_row(below, scope, code, Timing::Deferred, row, inner, arguments)?;
     let early = Operand {
         expr: callee,
         reg: register,
@@ -160,7 +160,7 @@ pub fn app<F: Fn(&mut Scope, &mut Backwards, Place, &Expr) -> Result<(), AllocEr
         needed: is_early(light, callee),
     };
     put_operand(below, scope, code, &early)?;
-    waiting(below, scope, code, row, inner, arguments)
+    put_row(below, scope, code, Timing::Eager, row, inner, arguments)
 }
 
 /// An external call whose arguments are in their seats.
@@ -241,8 +241,8 @@ pub fn extcall<F: Fn(&mut Scope, &mut Backwards, Place, &Expr) -> Result<(), All
     let base = numbers.base;
     code.from_seat(numbers.given, outside.result, node.dest())?;
     put_external(scope, code, outside, numbers, arguments)?;
-    filled(below, scope, code, row, base, arguments)?;
-    waiting(below, scope, code, row, base, arguments)
+    put_row(below, scope, code, Timing::Deferred, row, base, arguments)?;
+    put_row(below, scope, code, Timing::Eager, row, base, arguments)
 }
 
 /// An exit to a handler, whose arguments are in their registers.
@@ -288,8 +288,8 @@ pub fn exit<F: Fn(&mut Scope, &mut Backwards, Place, &Expr) -> Result<(), AllocE
     let row = node.place.base + 1;
     let base = row + arguments.len() as u32;
     put_exit(scope, code, label, row, arguments)?;
-    filled(below, scope, code, row, base, arguments)?;
-    waiting(below, scope, code, row, base, arguments)
+    put_row(below, scope, code, Timing::Deferred, row, base, arguments)?;
+    put_row(below, scope, code, Timing::Eager, row, base, arguments)
 }
 
 /// A raise of a value. The only error is want of memory.

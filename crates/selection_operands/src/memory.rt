@@ -11,7 +11,7 @@ ghost use Rattle.selection_operands.specs.Below.{node_code, MayCall, SelectsExpr
 ghost use Rattle.selection_scope.specs.Room.{HasExpressionRoom, most_numbers, most_tries};
 ghost use Rattle.selection_scope.specs.Scoping.{scoped_names};
 
-use crate::operands::{Below, Operand, both, filled, one, waiting};
+use crate::operands::{Below, Operand, Timing, both, one, put_row};
 use bs_words::{Chunk, Ty};
 use cmm_tree::Expr;
 use mach_ir::Reg;
@@ -238,9 +238,9 @@ pub fn alloc<F: Fn(&mut Scope, &mut Backwards, Place, &Expr) -> Result<(), Alloc
     let word = fresh(row - 1, Ty::Int);
     code.move_to(block, node.dest())?;
     put_cells(scope, code, header, block, row, operands)?;
-    filled(below, scope, code, row, base, operands)?;
+    put_row(below, scope, code, Timing::Deferred, row, base, operands)?;
     code.store(Chunk::Int, HEADER_OFFSET, block, word)?;
     code.constant(header, word)?;
     code.allocate(header, cells, block)?;
-    waiting(below, scope, code, row, base, operands)
+    put_row(below, scope, code, Timing::Eager, row, base, operands)
 }

@@ -4,9 +4,9 @@ ghost use Rattle.cmm_tree.specs.Rows.{expressions_of};
 ghost use Rattle.cmm_tree.specs.View.{expr_view};
 ghost use Rattle.cmm_types.specs.Annotated.{IsAnnotated};
 ghost use Rattle.cmm_types.specs.Lists.{AreAnnotated};
-ghost use Rattle.selection_rules.specs.Select.{ordered, select_waiting, select_filled, width_row};
+ghost use Rattle.selection_rules.specs.Select.{ordered, width_row};
 ghost use Rattle.selection_operands.specs.Below.{selected_code, MayCall, SelectsExpression};
-ghost use Rattle.selection_operands.specs.Operands.{operand_code};
+ghost use Rattle.selection_operands.specs.Operands.{is_due, operand_code, row_code};
 ghost use Rattle.selection_scope.specs.Room.{HasExpressionRoom, indexes_in_row, most_numbers, most_tries};
 ghost use Rattle.selection_scope.specs.Scoping.{scoped_names};
 
@@ -40,6 +40,15 @@ pub struct Operand<'e> {
     pub base: u32,
     /// Whether it needs code: the instruction has no constant in its place.
     pub needed: bool,
+}
+
+/// When an operand of a row gets its value: light addresses wait until the others have theirs.
+#[derive(Clone, Copy)]
+pub enum Timing {
+    /// With those that do not wait.
+    Eager,
+    /// With the light addresses.
+    Deferred,
 }
 
 /// An expression. The only error is want of memory.
@@ -116,52 +125,23 @@ pub fn both<F: Fn(&mut Scope, &mut Backwards, Place, &Expr) -> Result<(), AllocE
     }
 }
 
-/// The operands that do not wait. Their registers have the numbers from `number` on, and their own numbers begin with
-/// `first`. The only error is want of memory.
-pub fn waiting<F: Fn(&mut Scope, &mut Backwards, Place, &Expr) -> Result<(), AllocError>>(
-    below: &Below<'_, F>,
-    scope: &mut Scope,
-    code: &mut Backwards,
-    number: u32,
-    first: u32,
-    exprs: &[Expr],
-) -> Result<(), AllocError>
-    requires callable { MayCall (F.pre below.now.select.now) below.now.first }
-    requires selects { SelectsExpression (F.post below.now.select.now) below.now.first }
-    requires tries { most_tries scope.old.labels ≤ below.now.first }
-    requires begins { below.now.first ≤ first }
-    requires numbers { number + length exprs.now < most_numbers }
-    requires room { first + (width_row (expressions_of exprs.now) + indexes_in_row (expressions_of exprs.now))
-        < most_numbers + length exprs.now }
-    requires typed { AreAnnotated (scoped_names scope.old) exprs.now }
-    ensures code { OnOk result (code.new ≡ select_waiting scope.old.names scope.old.labels
-        number first (expressions_of exprs.now) code.old) }
-    ensures scope { OnOk result (scope.new ≡ scope.old) }
+/// Whether an operand is due then, by whether it is a light address.
+fn is_due(timing: Timing, light: bool) -> bool
+    ensures { result ≡ is_due timing light }
 {
-    let mut reg = number;
-    let mut base = first;
-    let mut rest = exprs;
-    while let [expr, others @ ..] = rest {
-        let waits = is_light_address(scope, expr);
-        let next = Operand {
-            expr,
-            reg: fresh(reg, expr.ty),
-            base,
-            needed: !waits,
-        };
-        put_operand(below, scope, code, &next)?;
-        reg += 1;
-        base = behind(base, expr);
-        rest = others;
+    match timing {
+        Timing::Eager => !light,
+        Timing::Deferred => light,
     }
-    Ok(())
 }
 
-/// The operands that have waited, as light addresses do. The only error is want of memory.
-pub fn filled<F: Fn(&mut Scope, &mut Backwards, Place, &Expr) -> Result<(), AllocError>>(
+/// The operands of a row that get their values then. Their registers have the numbers from `number` on, and their own
+/// numbers begin with `first`. The only error is want of memory.
+pub fn put_row<F: Fn(&mut Scope, &mut Backwards, Place, &Expr) -> Result<(), AllocError>>(
     below: &Below<'_, F>,
     scope: &mut Scope,
     code: &mut Backwards,
+    timing: Timing,
     number: u32,
     first: u32,
     exprs: &[Expr],
@@ -174,20 +154,19 @@ pub fn filled<F: Fn(&mut Scope, &mut Backwards, Place, &Expr) -> Result<(), Allo
     requires room { first + (width_row (expressions_of exprs.now) + indexes_in_row (expressions_of exprs.now))
         < most_numbers + length exprs.now }
     requires typed { AreAnnotated (scoped_names scope.old) exprs.now }
-    ensures code { OnOk result (code.new ≡ select_filled scope.old.names scope.old.labels
-        number first (expressions_of exprs.now) code.old) }
+    ensures code { OnOk result (code.new ≡ row_code timing scope.old number first (expressions_of exprs.now) code.old) }
     ensures scope { OnOk result (scope.new ≡ scope.old) }
 {
     let mut reg = number;
     let mut base = first;
     let mut rest = exprs;
     while let [expr, others @ ..] = rest {
-        let waits = is_light_address(scope, expr);
+        let light = is_light_address(scope, expr);
         let next = Operand {
             expr,
             reg: fresh(reg, expr.ty),
             base,
-            needed: waits,
+            needed: is_due(timing, light),
         };
         put_operand(below, scope, code, &next)?;
         reg += 1;

@@ -1,5 +1,4 @@
 pub mod Played
-pub mod Depth
-pub mod Offsets
+pub mod Bounds
 pub mod Promised
 pub mod Known

@@ -19,8 +19,7 @@ use Rattle.selection_rules.specs.Select.{selected, first_after_colours, comp_of_
 use Rattle.selection_walks.proofs.Known.{left, right, accepted_fits, holds_if, selected_seated, few_numbers, selected_well_formed, selected_allocates, selected_starts, selected_symbols, selected_externals, selected_open_by_tokens, selected_placed, selected_small, selected_no_slot, selected_origin}
 use Rattle.selection_walks.proofs.Keeps.{accepted_no_addr}
 use Rattle.selection_promise.specs.Selects.{IsAccepted, Selects, size_by}
-use Rattle.selection_promise.proofs.Depth.{selected_tries}
-use Rattle.selection_promise.proofs.Offsets.{selected_offsets}
+use Rattle.selection_promise.proofs.Bounds.{selected_offsets, selected_tries}
 use Rattle.selection_promise.proofs.Played.{plays_as}
 
 -- ---- limits

@@ -2,4 +2,3 @@ pub mod Counts
 pub mod Scopes
 pub mod Innermost
 pub mod Lasting
-pub mod Outlines

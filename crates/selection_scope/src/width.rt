@@ -19,11 +19,20 @@ fn capped(len: usize) -> u32
     }
 }
 
+/// The own numbers of a node, and one for each of its parts, after so many others.
+fn with_own(so_far: u32, own: u32, parts: usize) -> u32
+    ensures { result ≡ capped (so_far + (own + parts)) }
+{
+    so_far.saturating_add(own).saturating_add(capped(parts))
+}
+
 /// The numbers of an expression after so many others.
 #[cycle(width)]
 fn with_expr(so_far: u32, expr: &Expr) -> u32
     ensures { result ≡ capped (so_far + width (expr_view expr.now)) }
 {
+    // Many nodes take three numbers of their own.
+    let three = so_far.saturating_add(3);
     match &expr.form {
         Form::Integer(_)
         | Form::Pointer(_)
@@ -36,23 +45,17 @@ fn with_expr(so_far: u32, expr: &Expr) -> u32
             body,
         ),
         Form::Assign { value, .. } => with_expr(so_far.saturating_add(2), value),
-        Form::Operator(_, left, right) => {
-            with_expr(with_expr(so_far.saturating_add(3), left), right)
-        }
+        Form::Operator(_, left, right) => with_expr(with_expr(three, left), right),
         Form::App {
             callee,
             arguments,
             ..
         } => {
-            let own = so_far
-                .saturating_add(3)
-                .saturating_add(capped(arguments.len()));
+            let own = with_own(so_far, 3, arguments.len());
             with_row(with_expr(own, callee), arguments.as_slice())
         }
         Form::Extcall { arguments, .. } => {
-            let own = so_far
-                .saturating_add(2)
-                .saturating_add(capped(arguments.len()));
+            let own = with_own(so_far, 2, arguments.len());
             with_row(own, arguments.as_slice())
         }
         Form::Seq(elements) => with_row(so_far.saturating_add(1), elements.as_slice()),
@@ -65,21 +68,17 @@ fn with_expr(so_far: u32, expr: &Expr) -> u32
             with_handlers(with_expr(own, body), handlers.as_slice())
         }
         Form::Exit { arguments, .. } => with_row(so_far.saturating_add(1), arguments.as_slice()),
-        Form::Alloc { operands, .. } => with_row(so_far.saturating_add(3), operands.as_slice()),
+        Form::Alloc { operands, .. } => with_row(three, operands.as_slice()),
         Form::Load(_, address) => with_expr(so_far.saturating_add(2), address),
-        Form::Store(_, address, value) => {
-            with_expr(with_expr(so_far.saturating_add(3), address), value)
-        }
-        Form::Checkbound(bound, index) => {
-            with_expr(with_expr(so_far.saturating_add(3), bound), index)
-        }
-        Form::Raise(value) => with_expr(so_far.saturating_add(3), value),
+        Form::Store(_, address, value) => with_expr(with_expr(three, address), value),
+        Form::Checkbound(bound, index) => with_expr(with_expr(three, bound), index),
+        Form::Raise(value) => with_expr(three, value),
         Form::Switch {
             selector,
             cases,
             ..
         } => {
-            let own = so_far.saturating_add(3).saturating_add(capped(cases.len()));
+            let own = with_own(so_far, 3, cases.len());
             with_cases(with_expr(own, selector), cases.as_slice())
         }
         Form::Try { body, handler, .. } => {

@@ -8,34 +8,18 @@ ghost use Rattle.sink.specs.Graphs.{destroys_colours, AreLiving, AreOver, IsSink
 use bs_words::List;
 use dataflow::{Flow, Place, bare_place, one_place};
 use liveness::{Backward, numbers_of};
-use mach_ir::{Calling, LiveMap, Mach, MachOp, Mark, Op};
+use mach_ir::{LiveMap, Mach, MachOp};
 use std::alloc::{AllocError, Global};
 
+#[tactic(auto, using(crate::proofs::Held::held_op, crate::proofs::Held::held_mark))]
 /// Whether a register may live over it and is to be in a slot then: a call that returns, or the entry
 /// of a handler.
 pub fn is_held(op: &MachOp) -> bool
     ensures { result ≡ destroys_colours op.now }
 {
     match op {
-        MachOp::Op(Op::Calling(Calling::Call { .. })) => true,
-        MachOp::Op(Op::Calling(Calling::TailCall { .. })) => false,
-        MachOp::Op(Op::Calling(Calling::External { .. })) => false,
-        MachOp::Op(Op::Pure(_)) => false,
-        MachOp::Op(Op::Access(_)) => false,
-        MachOp::Op(Op::Leaving(_)) => false,
-        MachOp::Mark(Mark::Handler { label: _ }) => true,
-        MachOp::Mark(
-            Mark::Exit { .. }
-            | Mark::If { .. }
-            | Mark::Else { .. }
-            | Mark::Switch(_)
-            | Mark::Case { .. }
-            | Mark::Catch
-            | Mark::With { .. }
-            | Mark::Try { .. }
-            | Mark::Leave { .. }
-            | Mark::End { .. },
-        ) => false,
+        MachOp::Op(operation) => op.destroys_everything() && operation.goes_on(),
+        MachOp::Mark(_) => op.destroys_everything(),
     }
 }
 

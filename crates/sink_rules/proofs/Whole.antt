@@ -76,10 +76,12 @@ module _ (m : Mach) (plan : SinkPlan) (formed : WellFormed m) (is : IsSinkPlan m
   laid_kept : IsSinkKept m q plan
   laid_kept =
       record {
-        keeps = still_keeps m plan formed is;
-        formed = still_formed m plan formed is;
-        placed = still_placed m plan formed is;
-        seated = still_seated m plan formed is;
+        pass = record {
+          keeps = still_keeps m plan formed is;
+          formed = still_formed m plan formed is;
+          placed = still_placed m plan formed is;
+          seated = still_seated m plan formed is;
+        };
         params = refl;
         registers = was;
         size = λ s h.

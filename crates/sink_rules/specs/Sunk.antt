@@ -2,10 +2,7 @@
 use Rattle.std.specs.Prelude.{◌≡◌, ◌≢◌, ℕ, ◌+◌, ◌*◌, ◌≤◌, Bool, true, cond, List, [], ◌∷◌, ◌++◌, length, Contains}
 use Rattle.bs_words.specs.declared.types.Comp.TheVariants as comp
 use Rattle.bs_words.specs.declared.types.Loc.TheVariants as loc
-use Rattle.mach_ir.specs.Formed.{WellFormed, AreDistinct}
-use Rattle.mach_ir.specs.Keeps.{Keeps}
-use Rattle.mach_ir.specs.Placed.{WellPlaced}
-use Rattle.mach_ir.specs.Seats.{Seated}
+use Rattle.mach_ir.specs.Formed.{AreDistinct}
 use Rattle.mach_ir.specs.Sizes.{Size, HasSize, OpenAtMost}
 use Rattle.mach_ir.specs.Walks.{Live, Reached, StandsAsInstr, IsRegister}
 use Rattle.mach_ir.specs.declared.op.CopyKind.TheVariants as copy
@@ -20,6 +17,7 @@ use Rattle.mach_laws.specs.Expand.{expand}
 use Rattle.pass_rules.specs.Carried.{IsCarried}
 use Rattle.pass_rules.specs.Measures.{copy_words}
 use Rattle.sink_rules.specs.Walks.{Stale}
+use Rattle.mach_laws.specs.Passes.{IsPassKept}
 
 -- Which registers are moved to themselves, and before which instructions: by how many instructions
 -- come after, and by the register's number.
@@ -76,10 +74,7 @@ pub record IsSinkPlan (m : Mach) (plan : SinkPlan) : Type 0 where
 
 -- What a function keeps with these moves.
 pub record IsSinkKept (m q : Mach) (plan : SinkPlan) : Type 0 where
-  pub keeps : Keeps m q
-  pub formed : WellFormed q
-  pub placed : WellPlaced m → WellPlaced q
-  pub seated : Seated m → Seated q
+  pub pass : IsPassKept m q
   pub params : q.params ≡ m.params
   -- no register is new
   pub registers : (r : Reg) → IsRegister q r → IsRegister m r

@@ -32,7 +32,7 @@ use Rattle.split_rules.specs.Writes.{WriteReaches, from_entry, from_write, past,
 use Rattle.spill_rules.specs.Chosen.{LivesOver, Lost, over, still, IsReloaded, IsSpillChoice, IsSpilled, ParamsPlaced, IsNeededSlot, IsChosenKept}
 use Rattle.spill_rules.specs.Spilled.{SpillPlan, copy_instruction, reload, spill, reloads_of, spills_of, has_operands, has_results, operand_registers, written_results, spilled_instr, spilled, IsSpillPlan, IsSpillKept}
 use Rattle.spill_rules.proofs.Formed.{spilled_formed}
-use Rattle.spill_rules.proofs.Kept.{Which, own, slotted, WasRegister, IsCopiedAt, by_reload, by_spill, was_register}
+use Rattle.spill_rules.proofs.Registers.{Which, own, slotted, WasRegister, IsCopiedAt, by_reload, by_spill, was_register}
 use Rattle.spill_rules.proofs.Placed.{spilled_placed, spilled_seated}
 use Rattle.spill_rules.proofs.Whole.{spilled_keeps, within_bounds, few_reloads, few_spills, cond_few}
 
@@ -116,6 +116,20 @@ module _ (m : Mach) (n : ℕ) where
   lost_over (still l a w g) = lost_over l
 
 -- ---- the plan
+
+module _ (m : Mach) (plan : SpillPlan) (formed : WellFormed m) (placed : WellPlaced m) (is : IsSpillPlan m plan) where
+  -- What a function keeps in which registers are stored and reloaded by a plan.
+  pub kept_by : IsSpillKept m (spilled plan m) plan
+  kept_by =
+      record {
+        pass = record {
+          keeps = spilled_keeps m plan formed placed is;
+          formed = spilled_formed m plan formed placed is;
+          placed = λ _. spilled_placed m plan formed placed is;
+          seated = spilled_seated m plan formed placed is;
+        };
+        size = within_bounds m plan formed placed is;
+      }
 
 module _ (m : Mach) (plan : SpillPlan) (formed : WellFormed m) (params : ParamsPlaced m) (chosen : IsSpillChoice m plan) where
   abbrev AtCode : ℕ → List Instr → Type 0
@@ -225,20 +239,10 @@ module _ (m : Mach) (plan : SpillPlan) (formed : WellFormed m) (params : ParamsP
     twice : (a b c d : ℕ) → a ≡ b + c → b ≤ d → c < d → a < 2 * d
     twice a b c d e le lt = omega (arith, e, le, lt)
 
-    all_kept : IsSpillKept m (spilled plan m) plan
-    all_kept =
-        record {
-          keeps = spilled_keeps m plan formed placed is;
-          formed = spilled_formed m plan formed placed is;
-          placed = spilled_placed m plan formed placed is;
-          seated = spilled_seated m plan formed placed is;
-          size = within_bounds m plan formed placed is;
-        }
-
     pub chosen_kept : IsChosenKept m (spilled plan m) plan
     chosen_kept =
         record {
-          kept = all_kept;
+          kept = kept_by m plan formed placed is;
           slots = λ r i. let w = was_register m plan formed placed is r i in needed r w w.which;
           reloads = λ i k.
               let a = (few_reloads m plan formed placed is k (operand_registers i)).0 in
@@ -249,7 +253,7 @@ module _ (m : Mach) (plan : SpillPlan) (formed : WellFormed m) (params : ParamsP
               let b = cond_few m plan formed placed is (has_results i.op) i.results in
               omega (arith, a, b);
           size = λ s h.
-              all_kept.size s (2 * s.registers) h (omega arith)
+              within_bounds m plan formed placed is s (2 * s.registers) h (omega arith)
               (λ r i.
               twice (plan.slot r.number) chosen.free r.number s.registers (chosen.slots r.number) (chosen.least s.registers h.numbers)
               (h.numbers r i));

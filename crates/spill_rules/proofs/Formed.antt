@@ -23,7 +23,7 @@ use Rattle.mach_laws.proofs.Places.{label_expand, handler_expand, tries_expand, 
 use Rattle.mach_laws.proofs.InPlace.{same_head}
 use Rattle.bs_words.proofs.Lists.{none_in, first_in, in_cons}
 use Rattle.spill_rules.specs.Spilled.{SpillPlan, in_slot, copy_instruction, reload, spill, reloads_of, spills_of, operand_registers, written_results, spilled_instr, spilled, IsSpillPlan}
-use Rattle.spill_rules.proofs.Kept.{Which, own, slotted, was_register, slots_apart}
+use Rattle.spill_rules.proofs.Registers.{Which, own, slotted, was_register, slots_apart}
 use Rattle.spill_rules.proofs.Text.{keeps_marks, copy_formed, copy_no_mark}
 use Rattle.spill_rules.proofs.Whole.{named_in}
 

@@ -1,5 +1,5 @@
 -- What registers hold: what is read and put, what they hold at the entry, and what a copy does.
-use Rattle.std.proofs.Common.{◌≡◌, ℕ, Bool, true, false, cond, ◌⊎◌, ⊎_elim, List, [], ◌∷◌, Option, Some, None, refl, sym, ap, ◌∙◌, subst}
+use Rattle.std.proofs.Common.{◌≡◌, ℕ, Bool, true, false, cond, ⊎_elim, List, [], ◌∷◌, Option, Some, None, refl, sym, ap, ◌∙◌, subst}
 use Rattle.std.proofs.lemmas.Bool.{cases_Bool, eq-eqb, eqb-true, both_ways}
 use Rattle.std.specs.List.{Contains}
 use Rattle.std.specs.Prelude.{nat_eq}
@@ -11,7 +11,7 @@ use Rattle.bs_words.proofs.Lists.{first_in, later_in, head_same}
 use Rattle.mach_ir.specs.Acts.{Around, On, At}
 use Rattle.mach_ir.specs.Formed.{WellFormed}
 use Rattle.mach_ir.specs.Runs.{ActivationSetting, Continues}
-use Rattle.mach_ir.specs.Meaning.{Held, File, assign_register, put_if, put_all, clear_registers, registers_written, with_held, values, past_frame, unless_addr, passes_frame, wrote, on_values, step}
+use Rattle.mach_ir.specs.Meaning.{Held, File, assign_register, put_if, put_all, clear_registers, with_held, values, past_frame, unless_addr, passes_frame, wrote, on_values, step}
 use Rattle.mach_ir.specs.Walks.{AmongRegisters, first, later, goes, raises, Live, read, on, aside, IsRegister, is_param, is_in_code}
 use Rattle.mach_ir.specs.Keeps.{ValsWritten}
 use Rattle.mach_ir.specs.declared.op.CopyKind.{CopyKind}

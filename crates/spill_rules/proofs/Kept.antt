@@ -6,15 +6,14 @@ use Rattle.std.specs.List.{Contains}
 use Rattle.std.specs.Prelude.{nat_eq}
 use Rattle.std.proofs.lemmas.Option.{none-some}
 use Rattle.bs_words.specs.Fits.{fits, type_of_comp}
-use Rattle.bs_words.specs.declared.types.Loc.TheVariants as loc
 use Rattle.bs_words.specs.declared.values.Value.{Value}
 use Rattle.bs_words.proofs.Lists.{none_in, first_in, later_in, in_cons, head_same, tail_same}
-use Rattle.mach_ir.specs.Acts.{Around, Target, On, At, Landing, AtLabel, AtHandler, Replaces}
+use Rattle.mach_ir.specs.Acts.{Around, Target, On, At, Landing, AtLabel, AtHandler}
 use Rattle.mach_ir.specs.Formed.{WellFormed}
 use Rattle.mach_ir.specs.Placed.{WellPlaced}
 use Rattle.mach_ir.specs.Runs.{ActivationSetting, entry_around}
 use Rattle.mach_ir.specs.Meaning.{Held, File, assign_register, put_all, clear_registers, killed, registers_written, values, past_frame, passes_frame, after_label, at_handler, code_at, tries_at, landing_code}
-use Rattle.mach_ir.specs.Walks.{AmongRegisters, first, later, OneOf, targets, may_raise, goes, raises, Live, read, on, aside, LiveAcross, IsRegister, is_param, is_colour, is_in_code, InCode, in_args, in_results, further, StandsAsInstr, Writes}
+use Rattle.mach_ir.specs.Walks.{AmongRegisters, first, later, OneOf, targets, may_raise, goes, raises, Live, read, on, aside, LiveAcross, IsRegister, is_param, is_colour, is_in_code, StandsAsInstr, Writes}
 use Rattle.mach_ir.specs.Keeps.{ValsWritten, OriginsAgree, wrote_unless, MachSimulation}
 use Rattle.mach_ir.specs.declared.op.CopyKind.TheVariants as copy
 use Rattle.mach_ir.specs.declared.reg.Reg.{Reg}
@@ -34,18 +33,11 @@ use Rattle.mach_laws.proofs.Walking.{across_live}
 use Rattle.split_rules.proofs.Known.{values_same, past_same, cleared, not_cleared, put_here, PutsBoth, put_both}
 use Rattle.split_rules.specs.Writes.{from_entry, past, past_raise}
 use Rattle.liveness.proofs.Bounds.{killed_is_colour}
-use Rattle.spill_rules.specs.Spilled.{SpillPlan, in_slot, copy_instruction, reload, spill, reloads_of, spills_of, operand_registers, written_results, spilled_instr, spilled, IsSpillPlan}
+use Rattle.spill_rules.specs.Spilled.{SpillPlan, in_slot, reload, spill, reloads_of, spills_of, operand_registers, written_results, spilled_instr, spilled, IsSpillPlan}
 use Rattle.spill_rules.proofs.Live.{IsStored, WasLive, itself, stored, Stage, Reading, Storing, Laid, main, laid_results, laid_operands, laid_of, is_result, Says, NotThere, stored_unwritten, laid_tries, live_back, live_before, WasAcross, itself_across, stored_across, across_back}
-use Rattle.spill_rules.proofs.Text.{keeps_marks, all_results, operand_in}
+use Rattle.spill_rules.proofs.Registers.{Which, own, slotted, WasRegister, was_register, origin_of, comp_of, slots_apart}
+use Rattle.spill_rules.proofs.Text.{keeps_marks, all_results, operand_in, written_in}
 use Rattle.spill_rules.proofs.Holding.{values_held, FitsIn, put_fits, put_holds, clear_fits, frame_fits, live_register, unwritten_at_entry, fit_at_entry, agree_at_entry, copy_step, vals_copy}
-
--- ---- what is read, and what is in code
-
-pub in_append : {r : Reg} (xs ys : List Instr) → InCode r (xs ++ ys) → InCode r xs ⊎ InCode r ys
-in_append [] ys c = inr c
-in_append (x ∷ xs) ys (in_args c) = inl (in_args c)
-in_append (x ∷ xs) ys (in_results c) = inl (in_results c)
-in_append (x ∷ xs) ys (further c) = ⊎_elim (λ h. inl (further h)) inr (in_append xs ys c)
 
 module _ (m : Mach) (plan : SpillPlan) (formed : WellFormed m) (placed : WellPlaced m) (is : IsSpillPlan m plan) where
   abbrev q : Mach
@@ -63,135 +55,6 @@ module _ (m : Mach) (plan : SpillPlan) (formed : WellFormed m) (placed : WellPla
   abbrev Stored : ℕ → List Instr → Type 0
   Stored = IsStored m plan formed placed is
 
-  -- ---- registers
-
-  -- what a register of the second was
-  pub data Which (w r : Reg) : Type 0 where
-    own : w ≡ r → Which w r
-    slotted : in_slot plan w ≡ r → Which w r
-
-  pub data IsCopiedAt (n : ℕ) : Type 0 where
-    by_reload : (k : ℕ) → plan.reloads k n ≡ true → IsCopiedAt n
-    by_spill : (k : ℕ) → plan.spills k n ≡ true → IsCopiedAt n
-
-  pub record WasRegister (r : Reg) : Type 0 where
-    pub register : Reg
-    pub among : IsRegister m register
-    pub which : Which register r
-    -- only an open register has a slot
-    pub unset : in_slot plan register ≡ r → register.loc ≡ loc.Unset
-    -- and one that is copied somewhere
-    pub copied : in_slot plan register ≡ r → IsCopiedAt register.number
-
-  -- a register of the first is no slot of another
-  not_its_slot : (r : Reg) → IsRegister m r → in_slot plan r ≡ r → r.loc ≡ loc.Unset
-  not_its_slot r i e = absurd (is.fresh r i r.number (ap (λ (x : Reg). x.number) e))
-
-  not_copied : (r : Reg) → IsRegister m r → in_slot plan r ≡ r → IsCopiedAt r.number
-  not_copied r i e = absurd (is.fresh r i r.number (ap (λ (x : Reg). x.number) e))
-
-  itself_was : (r : Reg) → IsRegister m r → WasRegister r
-  itself_was r i =
-      record { register = r; among = i; which = own refl; unset = not_its_slot r i; copied = not_copied r i }
-
-  of_one : (x r : Reg) → Contains (x ∷ []) r → x ≡ r
-  of_one x r c = ⊎_elim (λ e. e) (λ d. absurd (none_in r d)) (in_cons x r [] c)
-
-  in_reloads : (k : ℕ) (rs : List Reg) (r : Reg) → ((w : Reg) → Contains rs w → IsRegister m w) → InCode r (reloads_of plan k rs) → WasRegister r
-  in_reloads k [] r known c = elim c [ ]
-  in_reloads k (w ∷ rs) r known c =
-      by (plan.reloads k w.number) refl (λ h. in_reloads k rs r (λ x d. known x (later_in w x rs d)) h) c
-    where
-      one : plan.reloads k w.number ≡ true → InCode r (reload plan w ∷ reloads_of plan k rs) →
-          (InCode r (reloads_of plan k rs) → WasRegister r) → WasRegister r
-      one t (in_args d) ih =
-          record {
-            register = w;
-            among = known w (first_in w rs);
-            which = slotted (of_one (in_slot plan w) r d);
-            unset = λ e. is.reloads_open w (known w (first_in w rs)) k t;
-            copied = λ e. by_reload k t;
-          }
-      one t (in_results d) ih =
-          record {
-            register = w;
-            among = known w (first_in w rs);
-            which = own (of_one w r d);
-            unset = λ e. is.reloads_open w (known w (first_in w rs)) k t;
-            copied = λ e. by_reload k t;
-          }
-      one t (further d) ih = ih d
-
-      by : (b : Bool) → plan.reloads k w.number ≡ b → (InCode r (reloads_of plan k rs) → WasRegister r) →
-          InCode r (cond b (reload plan w ∷ reloads_of plan k rs) (reloads_of plan k rs)) → WasRegister r
-      by true t ih c = one t c ih
-      by false t ih c = ih c
-
-  in_spills : (k : ℕ) (rs : List Reg) (r : Reg) → ((w : Reg) → Contains rs w → IsRegister m w) → InCode r (spills_of plan k rs) → WasRegister r
-  in_spills k [] r known c = elim c [ ]
-  in_spills k (w ∷ rs) r known c =
-      by (plan.spills k w.number) refl (λ h. in_spills k rs r (λ x d. known x (later_in w x rs d)) h) c
-    where
-      one : plan.spills k w.number ≡ true → InCode r (spill plan w ∷ spills_of plan k rs) →
-          (InCode r (spills_of plan k rs) → WasRegister r) → WasRegister r
-      one t (in_args d) ih =
-          record {
-            register = w;
-            among = known w (first_in w rs);
-            which = own (of_one w r d);
-            unset = λ e. is.spills_open w (known w (first_in w rs)) k t;
-            copied = λ e. by_spill k t;
-          }
-      one t (in_results d) ih =
-          record {
-            register = w;
-            among = known w (first_in w rs);
-            which = slotted (of_one (in_slot plan w) r d);
-            unset = λ e. is.spills_open w (known w (first_in w rs)) k t;
-            copied = λ e. by_spill k t;
-          }
-      one t (further d) ih = ih d
-
-      by : (b : Bool) → plan.spills k w.number ≡ b → (InCode r (spills_of plan k rs) → WasRegister r) →
-          InCode r (cond b (spill plan w ∷ spills_of plan k rs) (spills_of plan k rs)) → WasRegister r
-      by true t ih c = one t c ih
-      by false t ih c = ih c
-
-  cond_in : (b : Bool) (rs : List Reg) (r : Reg) → Contains (cond b rs []) r → Contains rs r
-  cond_in true rs r c = c
-  cond_in false rs r c = absurd (none_in r c)
-
-  was_in : (code : List Instr) (r : Reg) → ((w : Reg) → InCode w code → IsRegister m w) → InCode r (expand f code) → WasRegister r
-  was_in [] r known c = elim c [ ]
-  was_in (i ∷ next) r known c =
-      ⊎_elim
-      (λ h.
-      ⊎_elim (λ g. in_reloads (length next) (operand_registers i) r (λ w d. known w (in_args (operand_in i w d))) g)
-      (λ g. of_main g)
-      (in_append (reloads_of plan (length next) (operand_registers i)) (i ∷ spills_of plan (length next) (written_results i)) h))
-      (λ h. was_in next r (λ w d. known w (further d)) h) (in_append (f (length next) i) (expand f next) c)
-    where
-      of_main : InCode r (i ∷ spills_of plan (length next) (written_results i)) → WasRegister r
-      of_main (in_args d) = itself_was r (known r (in_args d))
-      of_main (in_results d) = itself_was r (known r (in_results d))
-      of_main (further d) = in_spills (length next) (written_results i) r (λ w z. known w (in_results (cond_in _ i.results w z))) d
-
-  pub was_register : (r : Reg) → IsRegister q r → WasRegister r
-  was_register r (is_param c) = itself_was r (is_param c)
-  was_register r (is_colour c) = itself_was r (is_colour c)
-  was_register r (is_in_code c) = was_in m.code r (λ w d. is_in_code d) c
-
-  pub origin_of : {w r : Reg} → Which w r → w.origin ≡ r.origin
-  origin_of (own e) = ap (λ (x : Reg). x.origin) e
-  origin_of (slotted e) = ap (λ (x : Reg). x.origin) e
-
-  pub comp_of : {w r : Reg} → Which w r → w.comp ≡ r.comp
-  comp_of (own e) = ap (λ (x : Reg). x.comp) e
-  comp_of (slotted e) = ap (λ (x : Reg). x.comp) e
-
-  pub slots_apart : (n k : ℕ) → plan.slot n ≡ plan.slot k → n ≡ k
-  slots_apart n k e = sym (is.slot_back n) ∙ ap is.back e ∙ is.slot_back k
-
   -- ---- what registers hold
 
   abbrev NotIn : ℕ → ℕ → List Reg → Type 0
@@ -200,7 +63,7 @@ module _ (m : Mach) (plan : SpillPlan) (formed : WellFormed m) (placed : WellPla
   -- a register of the second, from where it is live in the first
   was_value : (rest : List Instr) → Ending rest m.code → (a b : File) (r : Reg) → ((n : ℕ) → Live m n rest → a n ≡ b n) →
       ((n : ℕ) → plan.slot n ≡ r.number → Live m n rest → Stored n rest → a n ≡ b (plan.slot n)) → (w : Reg) → IsRegister m w →
-      Which w r → Was r.number rest → Live m w.number rest × (a w.number ≡ b r.number)
+      Which m plan formed placed is w r → Was r.number rest → Live m w.number rest × (a w.number ≡ b r.number)
   was_value rest ending a b r own_same slot_same w among (own e) (itself v) =
       let n : w.number ≡ r.number = ap (λ (x : Reg). x.number) e in
       (subst (λ n. Live m n rest) (sym n) v, ap a n ∙ own_same r.number v)
@@ -210,7 +73,7 @@ module _ (m : Mach) (plan : SpillPlan) (formed : WellFormed m) (placed : WellPla
   was_value rest ending a b r own_same slot_same w among (own e) (stored n s v k) =
       absurd (is.fresh w among n (s ∙ sym (ap (λ (x : Reg). x.number) e)))
   was_value rest ending a b r own_same slot_same w among (slotted e) (stored n s v k) =
-      let same : n ≡ w.number = slots_apart n w.number (s ∙ sym (ap (λ (x : Reg). x.number) e)) in
+      let same : n ≡ w.number = slots_apart m plan formed placed is n w.number (s ∙ sym (ap (λ (x : Reg). x.number) e)) in
       (subst (λ n. Live m n rest) same v, ap a (sym same) ∙ slot_same n s v k ∙ ap b s)
 
   is_code : q.code ≡ expand f m.code
@@ -239,15 +102,16 @@ module _ (m : Mach) (plan : SpillPlan) (formed : WellFormed m) (placed : WellPla
     agree_reading i next ys rs us a b y ending laid holds known =
         record {
           agree = λ r k ir ik origin l e h g s t.
-              let w = was_register r ir in
-              let v = was_register k ik in
+              let w = was_register m plan formed placed is r ir in
+              let v = was_register m plan formed placed is k ik in
               let one = here r w l in
               let two = here k v e in
-              holds.agree w.register v.register w.among v.among (origin_of w.which ∙ origin ∙ sym (origin_of v.which)) one.0 two.0 h g
+              holds.agree w.register v.register w.among v.among
+              (origin_of m plan formed placed is w.which ∙ origin ∙ sym (origin_of m plan formed placed is v.which)) one.0 two.0 h g
               (one.1 ∙ s) (two.1 ∙ t);
         }
       where
-        here : (r : Reg) (w : WasRegister r) → Live q r.number ys ⊎ AmongRegisters r.number us →
+        here : (r : Reg) (w : WasRegister m plan formed placed is r) → Live q r.number ys ⊎ AmongRegisters r.number us →
             Live m (w.register).number (i ∷ next) × (a (w.register).number ≡ b r.number)
         here r w l =
             was_value (i ∷ next) ending a b r holds.itself (λ n e v k. holds.slots n v k) w.register w.among w.which
@@ -358,7 +222,7 @@ module _ (m : Mach) (plan : SpillPlan) (formed : WellFormed m) (placed : WellPla
       -- where a register of the second was just written
       abbrev JustWritten : Instr → List Instr → File → File → Around → List Reg → Type 0
       JustWritten i next d e y us =
-          (r : Reg) (w : WasRegister r) (u : Held) → AmongRegisters r.number us → e r.number ≡ Some u →
+          (r : Reg) (w : WasRegister m plan formed placed is r) (u : Held) → AmongRegisters r.number us → e r.number ≡ Some u →
           (Live m (w.register).number next ⊎ AmongRegisters (w.register).number (wrote_unless y.raised (registers_written m i)))
           × (d (w.register).number ≡ e r.number)
 
@@ -368,15 +232,16 @@ module _ (m : Mach) (plan : SpillPlan) (formed : WellFormed m) (placed : WellPla
       agree_storing i next ys rs us d e y ending laid holds agreed just =
           record {
             agree = λ r k ir ik origin l z h g s t.
-                let w = was_register r ir in
-                let v = was_register k ik in
+                let w = was_register m plan formed placed is r ir in
+                let v = was_register m plan formed placed is k ik in
                 let one = here r w h l s in
                 let two = here k v g z t in
-                agreed.agree w.register v.register w.among v.among (origin_of w.which ∙ origin ∙ sym (origin_of v.which)) one.0 two.0 h g
+                agreed.agree w.register v.register w.among v.among
+                (origin_of m plan formed placed is w.which ∙ origin ∙ sym (origin_of m plan formed placed is v.which)) one.0 two.0 h g
                 (one.1 ∙ s) (two.1 ∙ t);
           }
         where
-          of_live : (r : Reg) (w : WasRegister r) → Says m plan formed placed is r.number (Storing i next rs) →
+          of_live : (r : Reg) (w : WasRegister m plan formed placed is r) → Says m plan formed placed is r.number (Storing i next rs) →
               Live m (w.register).number next × (d (w.register).number ≡ e r.number)
           of_live r w (inl (is_result k z0 spilt n)) =
               was_value next (ending_next ending) d e r holds.itself
@@ -389,7 +254,7 @@ module _ (m : Mach) (plan : SpillPlan) (formed : WellFormed m) (placed : WellPla
               was_value next (ending_next ending) d e r holds.itself
               (λ j s v z. holds.slots j v z (subst (λ x. NotIn x (length next) rs) (sym s) g.1)) w.register w.among w.which g.0
 
-          here : (r : Reg) (w : WasRegister r) (u : Held) → Live q r.number ys ⊎ AmongRegisters r.number us → e r.number ≡ Some u →
+          here : (r : Reg) (w : WasRegister m plan formed placed is r) (u : Held) → Live q r.number ys ⊎ AmongRegisters r.number us → e r.number ≡ Some u →
               (Live m (w.register).number next ⊎ AmongRegisters (w.register).number (wrote_unless y.raised (registers_written m i)))
               × (d (w.register).number ≡ e r.number)
           here r w u (inl v) s =
@@ -445,7 +310,7 @@ module _ (m : Mach) (plan : SpillPlan) (formed : WellFormed m) (placed : WellPla
                     ⊎_elim
                     (λ s.
                     let same : plan.slot r.number ≡ plan.slot n = eqb-true (plan.slot r.number) (plan.slot n) s in
-                    ap d (sym (slots_apart r.number n same)) ∙ as_put ∙ sym (put_here (in_slot plan r) h.value e (plan.slot n) same))
+                    ap d (sym (slots_apart m plan formed placed is r.number n same)) ∙ as_put ∙ sym (put_here (in_slot plan r) h.value e (plan.slot n) same))
                     (λ s.
                     let other = λ (z : plan.slot r.number ≡ plan.slot n).
                     both_ways (nat_eq (plan.slot r.number) (plan.slot n)) s (eq-eqb (plan.slot r.number) (plan.slot n) z) in
@@ -462,13 +327,13 @@ module _ (m : Mach) (plan : SpillPlan) (formed : WellFormed m) (placed : WellPla
               of_slot (first e) = e
               of_slot (later z) = elim z [ ]
 
-              by : Which w.register k → plan.slot r.number ≡ k.number →
+              by : Which m plan formed placed is w.register k → plan.slot r.number ≡ k.number →
                   (Live m (w.register).number next ⊎ AmongRegisters (w.register).number (wrote_unless y.raised (registers_written m i)))
                   × (d (w.register).number ≡ e1 k.number)
               by (own a) n = absurd (is.fresh w.register w.among r.number (n ∙ sym (ap (λ (x : Reg). x.number) a)))
               by (slotted a) n =
                   let same : r.number ≡ w.register.number =
-                  slots_apart r.number w.register.number (n ∙ sym (ap (λ (x : Reg). x.number) a)) in (
+                  slots_apart m plan formed placed is r.number w.register.number (n ∙ sym (ap (λ (x : Reg). x.number) a)) in (
                     inl (subst (λ n. Live m n next) same (is.useful i next r (stands_of ending) (known r (first_in r rs)) t)),
                     ap d (sym same) ∙ as_put ∙ sym (put_here (in_slot plan r) h.value e k.number n),
                   )
@@ -539,7 +404,7 @@ module _ (m : Mach) (plan : SpillPlan) (formed : WellFormed m) (placed : WellPla
 
         laid_main : Lay (Storing i next (written_results i)) (post ++ expand f next)
         laid_main =
-            laid_results m plan formed placed is i next (written_results i) (expand f next) (λ r z. cond_in _ i.results r z)
+            laid_results m plan formed placed is i next (written_results i) (expand f next) (λ r z. written_in i r z)
             (laid_of m plan formed placed is next (ending_next ending))
 
         -- a slot is no register of the first
@@ -600,15 +465,17 @@ module _ (m : Mach) (plan : SpillPlan) (formed : WellFormed m) (placed : WellPla
         agree_begins rest us d e y end_rest h none =
             record {
               agree = λ r k ir ik origin l z x u s t.
-                  let w = was_register r ir in
-                  let v = was_register k ik in
+                  let w = was_register m plan formed placed is r ir in
+                  let v = was_register m plan formed placed is k ik in
                   let one = here r w l in
                   let two = here k v z in
-                  h.agree w.register v.register w.among v.among (origin_of w.which ∙ origin ∙ sym (origin_of v.which)) one.0 two.0 x u
+                  h.agree w.register v.register w.among v.among
+                  (origin_of m plan formed placed is w.which ∙ origin ∙ sym (origin_of m plan formed placed is v.which)) one.0 two.0 x u
                   (one.1 ∙ s) (two.1 ∙ t);
             }
           where
-            here : (r : Reg) (w : WasRegister r) → Live q r.number (expand f rest) ⊎ AmongRegisters r.number (wrote_unless y.raised us) →
+            here : (r : Reg) (w : WasRegister m plan formed placed is r) →
+                Live q r.number (expand f rest) ⊎ AmongRegisters r.number (wrote_unless y.raised us) →
                 Live m (w.register).number rest × (d (w.register).number ≡ e r.number)
             here r w (inl v) =
                 was_value rest end_rest d e r h.itself (λ n s v k. h.slots n v k) w.register w.among w.which
@@ -655,7 +522,7 @@ module _ (m : Mach) (plan : SpillPlan) (formed : WellFormed m) (placed : WellPla
                 (split_among r.number i.results (killed m i) there))
                 (among_or_not r.number i.results)
 
-            by : Which w.register r →
+            by : Which m plan formed placed is w.register r →
                 (Live m (w.register).number next ⊎ AmongRegisters (w.register).number (wrote_unless y.raised (registers_written m i)))
                 × (d (w.register).number ≡ p.file r.number)
             by (own e) =
@@ -674,7 +541,7 @@ module _ (m : Mach) (plan : SpillPlan) (formed : WellFormed m) (placed : WellPla
                   (stored_unwritten m plan formed placed is (plan.slot n) n i next next On ending o refl k free);
             } in
             let done = after i next d y ending (λ n z. put_holds limit i.results vs (clear_registers (killed m i) a') d e n z) (fit_after vs d e)
-            (written_results i) (λ r z. cond_in _ i.results r z) p.file begun in
+            (written_results i) (λ r z. written_in i r z) p.file begun in
             general.on
             (λ agreed.
             agree_storing i next (post ++ expand f next) (written_results i) (wrote_unless y.raised (registers_written m i)) d p.file y ending laid_main begun
@@ -775,21 +642,21 @@ module _ (m : Mach) (plan : SpillPlan) (formed : WellFormed m) (placed : WellPla
             record {
               written = λ j ys e frame r one val v none.
                   let head = head_same e in
-                  let w = was_register r one in
+                  let w = was_register m plan formed placed is r one in
                   let there : LiveAcross q r.number i (post ++ expand f next) =
                   subst (λ xs. LiveAcross q r.number i xs) (sym (tail_same e))
                   (subst (λ j. LiveAcross q r.number j ys) (sym head) v) in
                   let x = across_back m plan formed placed is i next ending laid_main there in
                   let g = by r w x in
                   known.written i next refl (subst (λ (j : Instr). passes_frame j.op ≡ true) (sym head) frame) w.register w.among
-                  (comp_of w.which ∙ val) g.0 (g.1 ∙ none);
+                  (comp_of m plan formed placed is w.which ∙ val) g.0 (g.1 ∙ none);
             }
           where
-            by : (r : Reg) (w : WasRegister r) → WasAcross m plan formed placed is r.number i next →
+            by : (r : Reg) (w : WasRegister m plan formed placed is r) → WasAcross m plan formed placed is r.number i next →
                 LiveAcross m (w.register).number i next × (a (w.register).number ≡ b r.number)
             by r w (itself_across v) = own_by w.which
               where
-                own_by : Which w.register r → LiveAcross m (w.register).number i next × (a (w.register).number ≡ b r.number)
+                own_by : Which m plan formed placed is w.register r → LiveAcross m (w.register).number i next × (a (w.register).number ≡ b r.number)
                 own_by (own e) =
                     let n : w.register.number ≡ r.number = ap (λ (x : Reg). x.number) e in
                     (subst (λ n. LiveAcross m n i next) (sym n) v, ap a n ∙ holds.itself r.number (across_live v))
@@ -798,10 +665,10 @@ module _ (m : Mach) (plan : SpillPlan) (formed : WellFormed m) (placed : WellPla
                     absurd (is.fresh u.0 u.1 w.register.number (ap (λ (x : Reg). x.number) e ∙ sym u.2))
             by r w (stored_across n s v k) = slot_by w.which
               where
-                slot_by : Which w.register r → LiveAcross m (w.register).number i next × (a (w.register).number ≡ b r.number)
+                slot_by : Which m plan formed placed is w.register r → LiveAcross m (w.register).number i next × (a (w.register).number ≡ b r.number)
                 slot_by (own e) = absurd (is.fresh w.register w.among n (s ∙ sym (ap (λ (x : Reg). x.number) e)))
                 slot_by (slotted e) =
-                    let same : n ≡ w.register.number = slots_apart n w.register.number (s ∙ sym (ap (λ (x : Reg). x.number) e)) in
+                    let same : n ≡ w.register.number = slots_apart m plan formed placed is n w.register.number (s ∙ sym (ap (λ (x : Reg). x.number) e)) in
                     (subst (λ n. LiveAcross m n i next) same v, ap a (sym same) ∙ holds.slots n (across_live v) k ∙ ap b s)
 
       one : (i : Instr) (next : List Instr) (a b : File) (ending : Ending (i ∷ next) m.code) → Holds (i ∷ next) a b → (y : Around)

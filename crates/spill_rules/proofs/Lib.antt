@@ -1,6 +1,7 @@
 pub mod Text
 pub mod Live
 pub mod Holding
+pub mod Registers
 pub mod Kept
 pub mod Whole
 pub mod Formed

@@ -20,7 +20,7 @@ use Rattle.split_rules.proofs.Whole.{fixed_colours}
 use Rattle.split_rules.specs.Writes.{WriteReaches, from_write, past, past_raise}
 use Rattle.bs_words.proofs.Lists.{none_in, first_in, later_in, in_cons}
 use Rattle.spill_rules.specs.Spilled.{SpillPlan, in_slot, reload, spill, reloads_of, spills_of, operand_registers, written_results, spilled_instr, spilled, IsSpillPlan}
-use Rattle.spill_rules.proofs.Text.{keeps_marks, all_results, operand_in}
+use Rattle.spill_rules.proofs.Text.{keeps_marks, all_results, operand_in, written_in}
 use Rattle.bs_words.proofs.Truths.{not_both}
 
 module _ (m : Mach) (plan : SpillPlan) (formed : WellFormed m) (placed : WellPlaced m) (is : IsSpillPlan m plan) where
@@ -87,10 +87,6 @@ module _ (m : Mach) (plan : SpillPlan) (formed : WellFormed m) (placed : WellPla
       by true e h = reloads r ending (among_of r i.args (known r (first_in r rs))) e h
       by false e h = passes_operand r h
 
-  cond_in : (b : Bool) (rs : List Reg) (r : Reg) → Contains (cond b rs []) r → Contains rs r
-  cond_in true rs r c = c
-  cond_in false rs r c = absurd (none_in r c)
-
   pub laid_of : (rest : List Instr) → Ending rest m.code → Laid (Before rest) (expand f rest)
   laid_of [] ending = laid_end
   laid_of (i ∷ next) ending =
@@ -100,7 +96,7 @@ module _ (m : Mach) (plan : SpillPlan) (formed : WellFormed m) (placed : WellPla
       (laid_operands i next (operand_registers i) (i ∷ (spills_of plan (length next) (written_results i) ++ expand f next)) ending
       (λ r c. operand_in i r c)
       (main ending
-      (laid_results i next (written_results i) (expand f next) (λ r c. cond_in _ i.results r c) (laid_of next (ending_next ending))))))
+      (laid_results i next (written_results i) (expand f next) (λ r c. written_in i r c) (laid_of next (ending_next ending))))))
 
   -- ---- what it says at each stage
 

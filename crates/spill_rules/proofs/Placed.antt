@@ -18,7 +18,7 @@ use Rattle.mach_laws.proofs.Places.{label_expand, ending_next, ending_label, end
 use Rattle.split_rules.proofs.Known.{machine_slot, colour_place}
 use Rattle.spill_rules.specs.Spilled.{SpillPlan, in_slot, written_results, has_results, spilled_instr, spilled, IsSpillPlan}
 use Rattle.spill_rules.proofs.Formed.{IsCopy, is_reload, is_spill, IsMain, was_main}
-use Rattle.spill_rules.proofs.Kept.{Which, own, slotted, WasRegister, was_register}
+use Rattle.spill_rules.proofs.Registers.{Which, own, slotted, WasRegister, was_register}
 use Rattle.spill_rules.proofs.Live.{Storing, Laid, laid_of, laid_results, WasLive, itself, stored, IsResult, is_result, live_back, live_before}
 use Rattle.spill_rules.proofs.Text.{keeps_marks}
 use Rattle.bs_words.proofs.Places.{same_slot}

@@ -202,6 +202,13 @@ operand_in i r c = by (has_operands i.op) c
     by true c = c
     by false c = absurd (none_in r c)
 
+pub written_in : (i : Instr) (r : Reg) → Contains (written_results i) r → Contains i.results r
+written_in i r c = by (has_results i.op) c
+  where
+    by : (b : Bool) → Contains (cond b i.results []) r → Contains i.results r
+    by true c = c
+    by false c = absurd (none_in r c)
+
 -- ---- what a copy is not
 
 pub copy_formed : (kind : CopyKind) (from to : Reg) → IsFormedInstruction (copy_instruction kind from to)

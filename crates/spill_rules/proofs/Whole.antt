@@ -24,7 +24,8 @@ use Rattle.mach_laws.proofs.Grows.{held, instrs_expand, operands_expand, operand
 use Rattle.mach_laws.proofs.Places.{label_expand, handler_expand, ending_label, ending_from_handler}
 use Rattle.mach_laws.proofs.Walking.{across_live}
 use Rattle.spill_rules.specs.Spilled.{SpillPlan, in_slot, copy_instruction, reload, spill, reloads_of, spills_of, has_operands, has_results, operand_registers, written_results, spilled_instr, spilled, IsSpillPlan}
-use Rattle.spill_rules.proofs.Kept.{Which, own, slotted, WasRegister, was_register, origin_of, comp_of, slots_apart, does_spilled}
+use Rattle.spill_rules.proofs.Kept.{does_spilled}
+use Rattle.spill_rules.proofs.Registers.{Which, own, slotted, WasRegister, was_register, origin_of, comp_of, slots_apart}
 use Rattle.spill_rules.proofs.Live.{Stage, Before, Reading, Storing, Laid, begins, reloads, passes_operand, main, spills, passes_result, ends, laid_of, laid_tries, WasAcross, itself_across, stored_across, across_back}
 use Rattle.spill_rules.proofs.Text.{keeps_marks, copy_no_symbol, copy_no_external}
 use Rattle.spill_rules.proofs.Holding.{live_register}

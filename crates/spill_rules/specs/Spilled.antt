@@ -1,10 +1,6 @@
 -- Mach functions in which registers are stored in slots after writes and reloaded before reads.
 use Rattle.std.specs.Prelude.{◌≡◌, ◌≢◌, ℕ, ◌+◌, ◌*◌, ◌<◌, ◌≤◌, Bool, true, false, cond, List, [], ◌∷◌, ◌++◌, length, Contains}
 use Rattle.bs_words.specs.declared.types.Loc.TheVariants as loc
-use Rattle.mach_ir.specs.Formed.{WellFormed}
-use Rattle.mach_ir.specs.Keeps.{Keeps}
-use Rattle.mach_ir.specs.Placed.{WellPlaced}
-use Rattle.mach_ir.specs.Seats.{Seated}
 use Rattle.mach_ir.specs.Sizes.{Size, HasSize}
 use Rattle.mach_ir.specs.Walks.{AmongRegisters, Live, StandsAsInstr, IsRegister}
 use Rattle.mach_ir.specs.declared.op.CopyKind.{CopyKind}
@@ -19,6 +15,7 @@ use Rattle.mach_ir.specs.declared.mach.Instr.{Instr}
 use Rattle.mach_ir.specs.declared.mach.Mach.{Mach}
 use Rattle.mach_laws.specs.Expand.{expand}
 use Rattle.split_rules.specs.Writes.{WriteReaches}
+use Rattle.mach_laws.specs.Passes.{IsPassKept}
 
 -- Which writes of a register are stored, and before which reads it is reloaded: by how many
 -- instructions come after, and by the register's number.
@@ -101,10 +98,7 @@ pub record IsSpillPlan (m : Mach) (plan : SpillPlan) : Type 0 where
 
 -- what a function with spills and reloads keeps
 pub record IsSpillKept (m q : Mach) (plan : SpillPlan) : Type 0 where
-  pub keeps : Keeps m q
-  pub formed : WellFormed q
-  pub placed : WellPlaced q
-  pub seated : Seated m → Seated q
+  pub pass : IsPassKept m q
   -- at most an instruction more for each operand and result, and two operands or results for each of these
   pub size : (s : Size) (registers : ℕ) → HasSize m s → s.registers ≤ registers →
       ((r : Reg) → IsRegister m r → plan.slot r.number < registers) →

@@ -1,19 +1,19 @@
 //! Which writes come to each place.
-ghost use Rattle.std.specs.Prelude.{◌≡◌, ◌<◌, ◌^◌, [], suc, length, IfOk};
+ghost use Rattle.std.specs.Prelude.{◌≡◌, ◌<◌, ◌^◌, suc, length, IfOk};
 ghost use Rattle.bs_words.specs.Contents.{contents};
 ghost use Rattle.mach_ir.specs.Formed.{WellFormed};
 ghost use Rattle.mach_ir.specs.Placed.{WellPlaced};
 ghost use Rattle.mach_ir.specs.Sizes.{number_limit};
 ghost use Rattle.liveness.specs.Labels.{AreLabelsOf};
-ghost use Rattle.liveness.specs.Nodes.{IsLivenessNode, AreLivenessNodes};
+ghost use Rattle.liveness.specs.Nodes.{AreLivenessNodes};
 ghost use Rattle.split.specs.Writes.{AreWrites};
 ghost use Rattle.split_rules.specs.Order.{writes_of};
 ghost use Rattle.split.specs.Reach.{made_at, ended_by, write_uses, IsNodeAt, IsReachingEntry, AreReaching};
 
 use crate::writes::Writes;
 use bs_words::List;
-use dataflow::{Flow, Place, Rows, reaching};
-use liveness::{Backward, Edges, InstructionLabels, edges_of, no_edges, pass_tries};
+use dataflow::{Flow, Place, Rows, bare_place, reaching};
+use liveness::{Backward, Edges, InstructionLabels, edges_of, pass_tries};
 use mach_ir::{Instr, Mach, Reg};
 use std::alloc::{AllocError, Global};
 
@@ -39,19 +39,6 @@ fn ended_by(alloc: Global, writes: &Writes, regs: &[Reg]) -> Result<List<u32>, A
         found.extend_from_slice(writes.members(reg.number))?;
     }
     Ok(List::from_vec(found))
-}
-
-/// The node after the last instruction.
-fn last_node(alloc: Global, mach: &Mach, writes: &Writes) -> Place
-    ensures { IsLivenessNode mach.now (write_uses writes.now) [] result }
-{
-    let Edges { next, aside } = no_edges(alloc, mach);
-    Place {
-        next,
-        aside,
-        reads: List::new(alloc),
-        writes: List::new(alloc),
-    }
 }
 
 /// The node of the instruction that so many others come after, and from which control goes so. It
@@ -109,7 +96,7 @@ fn nodes_of(
     let end = code.len();
     // One for each place, one after the last, and the entry's, which comes to them later.
     let mut nodes = Backward::with_capacity(alloc, end + 2)?;
-    nodes.push(last_node(alloc, mach, writes))?;
+    nodes.push(bare_place(alloc))?;
     let mut tries = Backward::new(alloc);
     let mut left = end;
     while left > 0 {

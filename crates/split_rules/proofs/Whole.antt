@@ -212,10 +212,11 @@ pub split_kept : (m q : Mach) → WellFormed m → WellPlaced m → IsSplit m q 
 split_kept m q formed well split =
     subst (IsSplitKept m) (sym split.is)
     (record {
-      keeps = renamed_keeps m split.names split.naming formed well;
-      formed = renamed_formed m split.names split.naming formed (colour_fixed m split.names split.naming formed well);
-      placed = renamed_placed m split.names split.naming formed well;
-      seated = renamed_seated m split.names split.naming formed well;
-      no_addr = no_addr_before m split.names split.naming (colour_fixed m split.names split.naming formed well);
+      pass = record {
+        keeps = renamed_keeps m split.names split.naming formed well;
+        formed = renamed_formed m split.names split.naming formed (colour_fixed m split.names split.naming formed well);
+        placed = λ _. renamed_placed m split.names split.naming formed well;
+        seated = renamed_seated m split.names split.naming formed well;
+      };
       size = λ s h. renamed_size m split.names split.naming formed well split.dense s h;
     })

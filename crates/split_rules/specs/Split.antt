@@ -1,18 +1,15 @@
 -- What splitting makes of a function.
 use Rattle.std.specs.Prelude.{◌≡◌, ◌≢◌, ◌↔◌, ℕ, ◌+◌, ◌<◌, ◌≤◌, List, ◌∷◌, length}
 use Rattle.bs_words.specs.declared.types.Loc.TheVariants as loc
-use Rattle.mach_ir.specs.Formed.{WellFormed}
-use Rattle.mach_ir.specs.Keeps.{Keeps}
-use Rattle.mach_ir.specs.Placed.{WellPlaced}
-use Rattle.mach_ir.specs.Seats.{Seated}
 use Rattle.mach_ir.specs.Sizes.{Size, HasSize}
-use Rattle.mach_ir.specs.Walks.{AmongRegisters, StandsAsInstr, IsRegister, NoAddrLive}
+use Rattle.mach_ir.specs.Walks.{AmongRegisters, StandsAsInstr, IsRegister}
 use Rattle.mach_ir.specs.declared.reg.Reg.{Reg}
 use Rattle.mach_ir.specs.declared.mach.Instr.{Instr}
 use Rattle.mach_ir.specs.declared.mach.Mach.{Mach}
 use Rattle.split_rules.specs.Order.{IsNumberOfWeb}
 use Rattle.split_rules.specs.Renamed.{Naming, renamed}
 use Rattle.split_rules.specs.Writes.{WriteReaches, Chained, IsWrite}
+use Rattle.mach_laws.specs.Passes.{IsPassKept}
 
 -- What numbers owe for a function to do what it did.
 pub record IsNaming (m : Mach) (names : Naming) : Type 0 where
@@ -83,9 +80,5 @@ split_size parameters s = record s { registers = s.registers + (s.operands + par
 
 -- What a split function keeps.
 pub record IsSplitKept (p q : Mach) : Type 0 where
-  pub keeps : Keeps p q
-  pub formed : WellFormed q
-  pub placed : WellPlaced q
-  pub seated : Seated p → Seated q
-  pub no_addr : NoAddrLive p → NoAddrLive q
+  pub pass : IsPassKept p q
   pub size : (s : Size) → HasSize p s → HasSize q (split_size (length p.params) s)

@@ -351,6 +351,30 @@ impl<'a> Cells<'a> {
         Ok(cell)
     }
 
+    /// A condition, and then one of the two.
+    fn either_of(
+        &mut self,
+        scope: usize,
+        slot: usize,
+        at: u32,
+        condition: &'a Expr,
+        on_true: &'a Expr,
+        on_false: &'a Expr,
+        rest: usize,
+    ) -> Result<usize, AllocError>
+        requires { slot ≤ length (cells self.old) }
+        ensures { IfOk result (λ cell. (s : List Slotted) → IsCellReady (cells self.old) rest →
+            IsScope (cells self.old) scope s → IsAnnotated (names s) condition.now →
+            IsAnnotated (names s) on_true.now → IsAnnotated (names s) on_false.now →
+            AddsCells (cells self.old) (cells self.new) cell (on_one s slot at
+            (expr_view condition.now) ++ (OneOf s slot
+            (expr_view on_true.now ∷ expr_view on_false.now ∷ []) ∷ [])) rest) }
+    {
+        let either = self.branches(scope, slot, on_true, on_false, rest)?;
+        let cell = self.on_one(scope, slot, at, condition, either)?;
+        Ok(cell)
+    }
+
     /// A choice among the cases.
     fn switch(
         &mut self,
@@ -526,6 +550,33 @@ impl<'a> Cells<'a> {
         Ok(cell)
     }
 
+    /// The body of a try, and then what handles a raise out of it.
+    fn tried(
+        &mut self,
+        scope: usize,
+        slot: usize,
+        body: &'a Expr,
+        name_at: u32,
+        name: &'a Name,
+        handler: &'a Expr,
+        rest: usize,
+    ) -> Result<usize, AllocError>
+        requires { slot ≤ length (cells self.old) }
+        ensures { IfOk result (λ cell. (s : List Slotted) → IsCellReady (cells self.old) rest →
+            IsScope (cells self.old) scope s → IsAnnotated (names s) body.now →
+            IsAnnotated (record {
+              name = name.now;
+              type = ty.Val;
+              mutable = false;
+            } ∷ names s) handler.now →
+            AddsCells (cells self.old) (cells self.new) cell (Evaluates s slot
+            (expr_view body.now) ∷ Handles s slot name_at name.now (expr_view handler.now) ∷ []) rest) }
+    {
+        let after_body = self.after_try_body(scope, slot, name_at, name, handler, rest)?;
+        let cell = self.eval(scope, slot, body, after_body)?;
+        Ok(cell)
+    }
+
     /// Bindings of a let, and then its body.
     fn enters(
         &mut self,
@@ -577,9 +628,7 @@ impl<'a> Cells<'a> {
             Form::Operator(_, left, right) => self.on_two(scope, slot, at, left, right, rest),
             Form::Load(_, address) => self.on_one(scope, slot, at, address, rest),
             Form::Store(_, address, value) => self.on_two(scope, slot, at, address, value, rest),
-            Form::Alloc { operands, .. } => {
-                self.alloc(scope, slot, at, operands.as_slice(), rest)
-            }
+            Form::Alloc { operands, .. } => self.alloc(scope, slot, at, operands.as_slice(), rest),
             Form::App {
                 callee,
                 arguments,
@@ -590,23 +639,18 @@ impl<'a> Cells<'a> {
                 arguments,
                 ..
             } => self.extcall(scope, slot, at, *frame, arguments.as_slice(), rest),
-            Form::Checkbound(bound, index) => {
-                self.checkbound(scope, slot, at, bound, index, rest)
-            }
+            Form::Checkbound(bound, index) => self.checkbound(scope, slot, at, bound, index, rest),
             Form::Raise(value) => self.raise_value(scope, slot, at, value, rest),
             Form::Seq(elements) => self.in_order(scope, slot, elements.as_slice(), rest),
             Form::If(condition, on_true, on_false) => {
-                let either = self.branches(scope, slot, on_true, on_false, rest)?;
-                self.on_one(scope, slot, at, condition, either)
+                self.either_of(scope, slot, at, condition, on_true, on_false, rest)
             }
             Form::Switch {
                 selector,
                 cases,
                 ..
             } => self.switch(scope, slot, at, selector, cases.as_slice(), rest),
-            Form::Catch(body, handlers) => {
-                self.catch(scope, slot, body, handlers.as_slice(), rest)
-            }
+            Form::Catch(body, handlers) => self.catch(scope, slot, body, handlers.as_slice(), rest),
             Form::Exit {
                 label,
                 arguments,
@@ -617,10 +661,7 @@ impl<'a> Cells<'a> {
                 name_at,
                 name,
                 handler,
-            } => {
-                let after_body = self.after_try_body(scope, slot, *name_at, name, handler, rest)?;
-                self.eval(scope, slot, body, after_body)
-            }
+            } => self.tried(scope, slot, body, *name_at, name, handler, rest),
         }
     }
 }

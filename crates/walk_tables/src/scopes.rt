@@ -1,16 +1,16 @@
 //! The names in scope, and the slot of each.
 ghost use Rattle.std.specs.Prelude.{◌≡◌, ◌∷◌, ◌&&◌, ◌+◌, ◌≤◌, suc, length, List, Some, IfOk};
 ghost use Rattle.cmm_tree.specs.View.{expr_view, params_view};
-ghost use Rattle.cmm_types.specs.Light.{is_immutable, is_light, is_light_address};
+ghost use Rattle.cmm_types.specs.Light.{is_immutable, is_light_address};
 ghost use Rattle.walk_tables.specs.Walks.{Slotted, names, with_slots};
 ghost use Rattle.walk_tables.specs.Cells.{cells, item_at};
 ghost use Rattle.walk_tables.specs.Sound.{AreItemsSound, IsScope, Opens};
 ghost use Rattle.walk_tables.specs.Found.{found_in};
 
 use crate::items::{Cells, Item};
-use bs_words::{IntOp, Name, Ty};
-use cmm_tree::{Expr, Form, Param};
-use cmm_types::is_light_operator;
+use bs_words::{Name, Ty};
+use cmm_tree::{Expr, Param};
+use cmm_types::NamesInScope;
 use std::alloc::AllocError;
 
 /// What a name in scope stands for.
@@ -22,6 +22,22 @@ pub struct Found {
     pub mutable: bool,
     /// The number of the slot that walks bind it to, from 0 on.
     pub slot: usize,
+}
+
+/// A scope, and the cells that it is among.
+#[derive(Clone, Copy)]
+struct ScopeAt<'c, 'a> {
+    cells: &'c Cells<'a>,
+    scope: usize,
+}
+
+impl NamesInScope for ScopeAt<'_, '_> {
+    ghost HasNames = { λ at in_scope. (s : List Slotted) × AreItemsSound (cells at.cells.now)
+        × IsScope (cells at.cells.now) at.scope s × (names s ≡ in_scope) };
+
+    fn is_immutable(&self, name: &Name) -> bool {
+        self.cells.is_immutable(self.scope, name)
+    }
 }
 
 impl<'a> Cells<'a> {
@@ -142,97 +158,12 @@ impl<'a> Cells<'a> {
         }
     }
 
-    /// Whether it is an integer, a symbol, an immutable name, or an operator over two light expressions.
-    fn is_light(&self, scope: usize, expr: &Expr) -> bool
-        ensures { (s : List Slotted) → AreItemsSound (cells self.now) →
-            IsScope (cells self.now) scope s → result ≡ is_light (names s) (expr_view expr.now) }
-    {
-        match &expr.form {
-            Form::Integer(_) => true,
-            Form::Symbol(_) => true,
-            Form::Name(name) => self.is_immutable(scope, name),
-            Form::Operator(op, left, right) => {
-                let first = self.is_light(scope, left);
-                let second = self.is_light(scope, right);
-                both(is_light_operator(*op), both(first, second))
-            }
-            Form::Pointer(_)
-            | Form::Nothing
-            | Form::Float { .. }
-            | Form::Let(_, _)
-            | Form::Assign { .. }
-            | Form::Load(_, _)
-            | Form::Store(_, _, _)
-            | Form::Alloc { .. }
-            | Form::App { .. }
-            | Form::Extcall { .. }
-            | Form::Checkbound(_, _)
-            | Form::Raise(_)
-            | Form::Seq(_)
-            | Form::If(_, _, _)
-            | Form::Switch { .. }
-            | Form::Catch(_, _)
-            | Form::Exit { .. }
-            | Form::Try { .. } => false,
-        }
-    }
-
     /// Whether it is a light expression whose outermost operator is `+a`.
     pub fn is_light_address(&self, scope: usize, expr: &Expr) -> bool
         ensures { (s : List Slotted) → AreItemsSound (cells self.now) →
             IsScope (cells self.now) scope s →
             result ≡ is_light_address (names s) (expr_view expr.now) }
     {
-        match &expr.form {
-            Form::Operator(op, left, right) => match op {
-                IntOp::AddA => {
-                    let first = self.is_light(scope, left);
-                    let second = self.is_light(scope, right);
-                    both(first, second)
-                }
-                IntOp::Add
-                | IntOp::Sub
-                | IntOp::Mul
-                | IntOp::Mulh
-                | IntOp::Div
-                | IntOp::Mod
-                | IntOp::And
-                | IntOp::Or
-                | IntOp::Xor
-                | IntOp::Shl
-                | IntOp::Shr
-                | IntOp::Sar
-                | IntOp::Cmp(_)
-                | IntOp::CmpU(_)
-                | IntOp::AddV => false,
-            },
-            Form::Integer(_)
-            | Form::Pointer(_)
-            | Form::Symbol(_)
-            | Form::Name(_)
-            | Form::Nothing
-            | Form::Float { .. }
-            | Form::Let(_, _)
-            | Form::Assign { .. }
-            | Form::Load(_, _)
-            | Form::Store(_, _, _)
-            | Form::Alloc { .. }
-            | Form::App { .. }
-            | Form::Extcall { .. }
-            | Form::Checkbound(_, _)
-            | Form::Raise(_)
-            | Form::Seq(_)
-            | Form::If(_, _, _)
-            | Form::Switch { .. }
-            | Form::Catch(_, _)
-            | Form::Exit { .. }
-            | Form::Try { .. } => false,
-        }
+        cmm_types::is_light_address(&ScopeAt { cells: self, scope }, expr)
     }
-}
-
-fn both(one: bool, other: bool) -> bool
-    ensures { result ≡ (one && other) }
-{
-    one && other
 }

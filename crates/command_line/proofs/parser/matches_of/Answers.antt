@@ -4,7 +4,7 @@ use Rattle.clap.specs.Takes.{takes}
 use Rattle.clap.specs.declared.error.kind.ErrorKind.TheVariants.{OutOfMemory}
 use Rattle.command_line.specs.Program.{program}
 use Rattle.command_line.specs.View.{texts}
-use Rattle.command_line.proofs.Walked.{are_taken}
+use Rattle.command_line.proofs.Matched.{are_taken}
 use Rattle.command_line.proofs.parser.matches_of.Goals as goal
 
 pub unreachable-requires : goal.unreachable-requires

@@ -15,8 +15,7 @@ returns-in_err-items-2-clause-bad c = λ e check is.
     let same : IsErrOf {T = List Arg} (Err c.in_err-items-2.field-0.0) ValueText = search rules in c.in_err-items-2.ensures.bad same check.answers is.answers
 
 pub returns-in_err-steps-clause-bad : goal.returns-in_err-steps-clause-bad
-returns-in_err-steps-clause-bad c = λ e check is.
-    let same : IsErrOf {T = ℕ} (Err c.in_err-steps.field-0.0) ValueText = search rules in c.in_err-steps.ensures.bad same check.fuel is.fuel
+returns-in_err-steps-clause-bad c = λ e check is. c.in_err-steps.ensures.bad check.fuel is.fuel
 
 pub entry-requires : goal.entry-requires
 entry-requires c = record { once = c.requires.form.once 0 Plain (lit< tt); stands = c.requires.stands Plain (0, lit< tt, refl) }
@@ -29,3 +28,12 @@ items-requires-2 c = record { once = c.requires.form.once 2 Answers (lit< tt); s
 
 pub steps-requires : goal.steps-requires
 steps-requires c = record { once = c.requires.form.once 3 Fuel (lit< tt); stands = c.requires.stands Fuel (3, lit< tt, refl); left_out = fuel_left_out }
+
+pub returns-in_err-entry-clause-memory : goal.returns-in_err-entry-clause-memory
+returns-in_err-entry-clause-memory c = λ e. (c.in_ok-steps.field-0, c.in_ok-steps.ensures.value)
+
+pub returns-in_err-items-clause-memory : goal.returns-in_err-items-clause-memory
+returns-in_err-items-clause-memory c = λ e. (c.in_ok-steps.field-0, c.in_ok-steps.ensures.value)
+
+pub returns-in_err-items-2-clause-memory : goal.returns-in_err-items-2-clause-memory
+returns-in_err-items-2-clause-memory c = λ e. (c.in_ok-steps.field-0, c.in_ok-steps.ensures.value)

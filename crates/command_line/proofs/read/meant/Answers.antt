@@ -2,12 +2,12 @@ use Rattle.std.proofs.Common.{List, Err, IsErrOf, ℕ, rules, lit<, refl}
 use Rattle.command_line.specs.declared.command.RunWords.{RunWords}
 use Rattle.command_line.specs.declared.command.CheckWords.{CheckWords}
 use Rattle.stages.specs.declared.stage.Stage.{Stage}
-use Rattle.command_line.specs.declared.command.WordsError.TheVariants.{ValueText}
+use Rattle.command_line.specs.declared.command.WordsError.TheVariants.{OutOfMemory, ValueText}
 use Rattle.command_line.specs.declared.form.CommandWord.TheVariants as word
 use Rattle.command_line.specs.declared.form.Slot.TheVariants.{Plain, Jobs}
 use Rattle.command_line.specs.View.{texts, run_view, check_view}
 use Rattle.command_line.specs.Command.{compile, run, check, list}
-use Rattle.command_line.proofs.Unique.{means_at, nothing_at, form_at, stands_at, no_compile, no_run, no_check, no_list}
+use Rattle.command_line.proofs.Unique.{means_at, memory_at, nothing_at, form_at, stands_at, no_compile, no_run, no_check, no_list}
 use Rattle.clap.specs.Matches.{found_of, first_value}
 use Rattle.clap.specs.declared.parser.matches.Found.{Found}
 use Rattle.command_line.specs.Program.{HasText, id_of}
@@ -49,8 +49,7 @@ soak-requires c = record {
 
 pub returns-in_err-jobs-in-Compile-clause-bad : goal.returns-in_err-jobs-in-Compile-clause-bad
 returns-in_err-jobs-in-Compile-clause-bad c = λ e.
-    let same : IsErrOf {T = ℕ} (Err c.in_err-jobs-in-Compile.field-0.0) ValueText = search rules in
-    nothing_at (texts c.args.others.now) c.args.command word.Compile c.in-Compile.is (no_compile (texts c.args.others.now) (c.in_err-jobs-in-Compile.ensures.bad same))
+    nothing_at (texts c.args.others.now) c.args.command word.Compile c.in-Compile.is (no_compile (texts c.args.others.now) c.in_err-jobs-in-Compile.ensures.bad)
 
 pub returns-in_ok-jobs-in-Compile-clause-value : goal.returns-in_ok-jobs-in-Compile-clause-value
 returns-in_ok-jobs-in-Compile-clause-value c =
@@ -76,9 +75,26 @@ returns-in_ok-check-in-Check-clause-value c =
 
 pub returns-in_err-stage-in-List-clause-bad : goal.returns-in_err-stage-in-List-clause-bad
 returns-in_err-stage-in-List-clause-bad c = λ e.
-    let same : IsErrOf {T = Stage} (Err c.in_err-stage-in-List.field-0.0) ValueText = search rules in
-    nothing_at (texts c.args.others.now) c.args.command word.List c.in-List.is (no_list (texts c.args.others.now) (c.in_err-stage-in-List.ensures.bad same))
+    nothing_at (texts c.args.others.now) c.args.command word.List c.in-List.is (no_list (texts c.args.others.now) c.in_err-stage-in-List.ensures.bad)
 
 pub returns-in_ok-stage-in-List-clause-value : goal.returns-in_ok-stage-in-List-clause-value
 returns-in_ok-stage-in-List-clause-value c =
     means_at (texts c.args.others.now) c.args.command word.List _ c.in-List.is (list c.in_ok-stage-in-List.field-0 c.in_ok-stage-in-List.ensures.value)
+
+pub returns-in_err-run-in-Run-clause-memory : goal.returns-in_err-run-in-Run-clause-memory
+returns-in_err-run-in-Run-clause-memory c = λ e.
+    let same : IsErrOf {T = RunWords} (Err c.in_err-run-in-Run.field-0.0) OutOfMemory = search rules in
+    memory_at (texts c.args.others.now) c.args.command word.Run c.in-Run.is (c.in_err-run-in-Run.ensures.memory same)
+
+pub returns-in_err-check-in-Check-clause-memory : goal.returns-in_err-check-in-Check-clause-memory
+returns-in_err-check-in-Check-clause-memory c = λ e.
+    let same : IsErrOf {T = CheckWords} (Err c.in_err-check-in-Check.field-0.0) OutOfMemory = search rules in
+    memory_at (texts c.args.others.now) c.args.command word.Check c.in-Check.is (c.in_err-check-in-Check.ensures.memory same)
+
+pub returns-in_err-soak-in-Soak-clause-bad : goal.returns-in_err-soak-in-Soak-clause-bad
+returns-in_err-soak-in-Soak-clause-bad c = λ e.
+    nothing_at (texts c.args.others.now) c.args.command word.Soak c.in-Soak.is c.in_err-soak-in-Soak.ensures.bad
+
+pub returns-in_ok-soak-in-Soak-clause-value : goal.returns-in_ok-soak-in-Soak-clause-value
+returns-in_ok-soak-in-Soak-clause-value c =
+    means_at (texts c.args.others.now) c.args.command word.Soak _ c.in-Soak.is c.in_ok-soak-in-Soak.ensures.value

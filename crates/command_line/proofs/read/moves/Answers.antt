@@ -10,10 +10,10 @@ use Rattle.command_line.proofs.read.moves.Goals as goal
 
 pub returns-clause-value : goal.returns-clause-value
 returns-clause-value c =
-    sets_value (texts c.args.others.now) Moves IsMoves default_moves c.as_bytes.result.now moves_left_out (subst (IsSlotText (texts c.args.others.now) Moves) (sym c.as_bytes.ensures.value) c.text_for-text.ensures) c.moves.result c.ok_or.result
+    sets_value (texts c.args.others.now) Moves IsMoves default_moves c.as_bytes.result.now moves_left_out (subst (IsSlotText (texts c.args.others.now) Moves) (sym c.as_bytes.ensures.value) c.text_for-text.ensures) c.moves.result c.ok_or.result _
     c.ok_or.ensures.value c.moves.ensures
 
 pub returns-clause-bad : goal.returns-clause-bad
-returns-clause-bad c = λ e.
-    sets_bad (texts c.args.others.now) Moves IsMoves default_moves c.as_bytes.result.now c.requires.once moves_left_out (subst (IsSlotText (texts c.args.others.now) Moves) (sym c.as_bytes.ensures.value) c.text_for-text.ensures) c.moves.result c.ok_or.result
-    c.ok_or.ensures.value c.moves.ensures e
+returns-clause-bad c =
+    sets_bad (texts c.args.others.now) Moves IsMoves default_moves c.as_bytes.result.now c.requires.once moves_left_out (subst (IsSlotText (texts c.args.others.now) Moves) (sym c.as_bytes.ensures.value) c.text_for-text.ensures) c.moves.result c.ok_or.result _
+    c.ok_or.ensures.value c.moves.ensures

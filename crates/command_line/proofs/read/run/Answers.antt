@@ -17,20 +17,16 @@ returns-in_err-items-2-clause-bad c = λ e run is.
     let same : IsErrOf {T = List Arg} (Err c.in_err-items-2.field-0.0) ValueText = search rules in c.in_err-items-2.ensures.bad same run.answers is.answers
 
 pub returns-in_err-steps-clause-bad : goal.returns-in_err-steps-clause-bad
-returns-in_err-steps-clause-bad c = λ e run is.
-    let same : IsErrOf {T = ℕ} (Err c.in_err-steps.field-0.0) ValueText = search rules in c.in_err-steps.ensures.bad same run.steps is.steps
+returns-in_err-steps-clause-bad c = λ e run is. c.in_err-steps.ensures.bad run.steps is.steps
 
 pub returns-in_err-size-clause-bad : goal.returns-in_err-size-clause-bad
-returns-in_err-size-clause-bad c = λ e run is.
-    let same : IsErrOf {T = ℕ} (Err c.in_err-size.field-0.0) ValueText = search rules in c.in_err-size.ensures.bad same run.stack is.stack
+returns-in_err-size-clause-bad c = λ e run is. c.in_err-size.ensures.bad run.stack is.stack
 
 pub returns-in_err-size-2-clause-bad : goal.returns-in_err-size-2-clause-bad
-returns-in_err-size-2-clause-bad c = λ e run is.
-    let same : IsErrOf {T = ℕ} (Err c.in_err-size-2.field-0.0) ValueText = search rules in c.in_err-size-2.ensures.bad same run.heap is.heap
+returns-in_err-size-2-clause-bad c = λ e run is. c.in_err-size-2.ensures.bad run.heap is.heap
 
 pub returns-in_err-moves-clause-bad : goal.returns-in_err-moves-clause-bad
-returns-in_err-moves-clause-bad c = λ e run is.
-    let same : IsErrOf {T = Moves} (Err c.in_err-moves.field-0.0) ValueText = search rules in c.in_err-moves.ensures.bad same run.moves is.moves
+returns-in_err-moves-clause-bad c = λ e run is. c.in_err-moves.ensures.bad run.moves is.moves
 
 pub entry-requires : goal.entry-requires
 entry-requires c = record { once = c.requires.form.once 0 Plain (lit< tt); stands = c.requires.stands Plain (0, lit< tt, refl) }
@@ -52,3 +48,27 @@ size-requires-2 c = record { once = c.requires.form.once 5 Heap (lit< tt); stand
 
 pub moves-requires : goal.moves-requires
 moves-requires c = record { once = c.requires.form.once 6 slot.Moves (lit< tt); stands = c.requires.stands slot.Moves (6, lit< tt, refl) }
+
+pub returns-in_err-entry-clause-memory : goal.returns-in_err-entry-clause-memory
+returns-in_err-entry-clause-memory c = λ e. record {
+  steps = (c.in_ok-steps.field-0, c.in_ok-steps.ensures.value);
+  stack = (c.in_ok-size.field-0, c.in_ok-size.ensures.value);
+  heap = (c.in_ok-size-2.field-0, c.in_ok-size-2.ensures.value);
+  moves = (c.in_ok-moves.field-0, c.in_ok-moves.ensures.value);
+}
+
+pub returns-in_err-items-clause-memory : goal.returns-in_err-items-clause-memory
+returns-in_err-items-clause-memory c = λ e. record {
+  steps = (c.in_ok-steps.field-0, c.in_ok-steps.ensures.value);
+  stack = (c.in_ok-size.field-0, c.in_ok-size.ensures.value);
+  heap = (c.in_ok-size-2.field-0, c.in_ok-size-2.ensures.value);
+  moves = (c.in_ok-moves.field-0, c.in_ok-moves.ensures.value);
+}
+
+pub returns-in_err-items-2-clause-memory : goal.returns-in_err-items-2-clause-memory
+returns-in_err-items-2-clause-memory c = λ e. record {
+  steps = (c.in_ok-steps.field-0, c.in_ok-steps.ensures.value);
+  stack = (c.in_ok-size.field-0, c.in_ok-size.ensures.value);
+  heap = (c.in_ok-size-2.field-0, c.in_ok-size-2.ensures.value);
+  moves = (c.in_ok-moves.field-0, c.in_ok-moves.ensures.value);
+}

@@ -8,10 +8,10 @@ use Rattle.command_line.proofs.read.steps.Goals as goal
 
 pub returns-clause-value : goal.returns-clause-value
 returns-clause-value c =
-    sets_value (texts c.args.others.now) c.args.slot IsSteps default_steps c.as_bytes.result.now c.requires.left_out (subst (IsSlotText (texts c.args.others.now) c.args.slot) (sym c.as_bytes.ensures.value) c.text_for-text.ensures) c.steps.result c.ok_or.result
+    sets_value (texts c.args.others.now) c.args.slot IsSteps default_steps c.as_bytes.result.now c.requires.left_out (subst (IsSlotText (texts c.args.others.now) c.args.slot) (sym c.as_bytes.ensures.value) c.text_for-text.ensures) c.steps.result c.ok_or.result _
     c.ok_or.ensures.value c.steps.ensures
 
 pub returns-clause-bad : goal.returns-clause-bad
-returns-clause-bad c = λ e.
-    sets_bad (texts c.args.others.now) c.args.slot IsSteps default_steps c.as_bytes.result.now c.requires.once c.requires.left_out (subst (IsSlotText (texts c.args.others.now) c.args.slot) (sym c.as_bytes.ensures.value) c.text_for-text.ensures) c.steps.result c.ok_or.result
-    c.ok_or.ensures.value c.steps.ensures e
+returns-clause-bad c =
+    sets_bad (texts c.args.others.now) c.args.slot IsSteps default_steps c.as_bytes.result.now c.requires.once c.requires.left_out (subst (IsSlotText (texts c.args.others.now) c.args.slot) (sym c.as_bytes.ensures.value) c.text_for-text.ensures) c.steps.result c.ok_or.result _
+    c.ok_or.ensures.value c.steps.ensures

@@ -62,3 +62,15 @@ returns-clause-bad c = λ e.
     ∙ named (texts c.args.words.now) form.0 others form.1 form.2 c.args.matches.now c.requires.matches c.in-Some.name.now c.in-Some.ensures.name)
     ∙ c.in-Some-named.ensures) in
     no_command command (texts c.args.words.now) (command_text command) others (form.1 ∙ ap (λ (w : CommandWord). command_text w ∷ others) same) refl (c.meant.ensures.bad e)
+
+pub returns-clause-memory : goal.returns-clause-memory
+returns-clause-memory c = λ e.
+    let form = c.requires.form in
+    let command = c.in-Some-named.command in
+    let others = texts c.args.others.now in
+    let same : form.0 ≡ command =
+    word-unique form.0 command
+    (sym (c.as_bytes.ensures.value
+    ∙ named (texts c.args.words.now) form.0 others form.1 form.2 c.args.matches.now c.requires.matches c.in-Some.name.now c.in-Some.ensures.name)
+    ∙ c.in-Some-named.ensures) in
+    (command, form.1 ∙ ap (λ (w : CommandWord). command_text w ∷ others) same, c.meant.ensures.memory e)

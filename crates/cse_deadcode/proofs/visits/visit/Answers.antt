@@ -11,7 +11,6 @@ flow_back-requires-clause-place c =
 pub returns-clause-visited : goal.returns-clause-visited
 returns-clause-visited c =
     visited c.args.flow.now (goes_at c.args.code.now) _ c.args.p c.flow_back.new.set _ _ _ record {
-      len = c.requires.len;
       within = c.requires.within;
       sizes = c.requires.sizes;
       size = c.flow_back.ensures.size ∙ c.requires.size;

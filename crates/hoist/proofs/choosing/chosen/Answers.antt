@@ -4,7 +4,7 @@ use Rattle.mach_ir.specs.declared.mach.Instr.{Instr}
 use Rattle.hoist.specs.Constants.{makes_wide}
 use Rattle.hoist.specs.Loops.{IsFirstCall, IsCalmWide, AreFlags}
 use Rattle.hoist.specs.Moves.{none_moves, StaysAt}
-use Rattle.hoist.specs.Tables.{table_entry}
+use Rattle.mach_ir.specs.NumberTables.{table_entry}
 use Rattle.hoist.proofs.Flags.{chosen_none, chosen_quiet, chosen_once}
 use Rattle.hoist.proofs.choosing.chosen.Goals as goal
 

@@ -2,7 +2,7 @@ use Rattle.std.proofs.Common.{◌<◌, length, refl, arith}
 use Rattle.std.proofs.lemmas.Option.{slice_get_read}
 use Rattle.hoist.specs.Loops.{flag_at}
 use Rattle.hoist.specs.Moves.{StaysAt}
-use Rattle.hoist.specs.Tables.{table_entry}
+use Rattle.mach_ir.specs.NumberTables.{table_entry}
 use Rattle.hoist.proofs.Reaching.{flags_more}
 use Rattle.hoist.proofs.Flags.{stays_is}
 use Rattle.hoist.proofs.choosing.written_once.Goals as goal

@@ -1,6 +1,6 @@
 use Rattle.hoist.specs.Loops.{AreFlags}
 use Rattle.hoist.specs.Moves.{StaysAt}
-use Rattle.hoist.specs.Tables.{table_entry}
+use Rattle.mach_ir.specs.NumberTables.{table_entry}
 use Rattle.hoist.proofs.choosing.written_once.Given as goal
 
 abbrev pub invariant-loop-place : goal.invariant-loop-place

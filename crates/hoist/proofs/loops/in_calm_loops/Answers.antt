@@ -1,7 +1,7 @@
 use Rattle.std.proofs.Common.{rules, ◌≡◌, ◌∙◌, ◌<◌, max, length, refl, ap, arith}
 use Rattle.std.proofs.lemmas.Option.{slice_get_read}
 use Rattle.hoist.specs.Loops.{IsCalmWide}
-use Rattle.hoist.specs.Tables.{table_entry}
+use Rattle.mach_ir.specs.NumberTables.{table_entry}
 use Rattle.hoist.proofs.Reaching.{reach_more, flags_more, calm_wide_is}
 use Rattle.hoist.proofs.loops.in_calm_loops.Goals as goal
 

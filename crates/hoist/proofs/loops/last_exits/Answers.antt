@@ -2,7 +2,7 @@ use Rattle.std.proofs.Common.{◌∙◌, ◌+◌, refl, sym, ap}
 use Rattle.std.proofs.lemmas.Option.{slice_get_read}
 use Rattle.mach_ir.specs.declared.mach.Instr.{Instr}
 use Rattle.hoist.specs.Loops.{exit_of, end_noted}
-use Rattle.hoist.specs.Tables.{table_entry}
+use Rattle.mach_ir.specs.NumberTables.{table_entry}
 use Rattle.hoist.proofs.Reaching.{ends_more, ends_done}
 use Rattle.hoist.proofs.loops.last_exits.Goals as goal
 

@@ -1,4 +1,4 @@
-use Rattle.hoist.specs.Tables.{table_entry}
+use Rattle.mach_ir.specs.NumberTables.{table_entry}
 use Rattle.hoist.proofs.Reaching.{EndsBefore}
 use Rattle.hoist.proofs.loops.last_exits.Given as goal
 

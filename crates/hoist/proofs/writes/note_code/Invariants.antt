@@ -1,5 +1,5 @@
 use Rattle.std.proofs.Common.{◌≡◌, ℕ, drop}
-use Rattle.hoist.specs.Tables.{table_entry}
+use Rattle.mach_ir.specs.NumberTables.{table_entry}
 use Rattle.hoist.specs.Written.{noted_in}
 use Rattle.hoist.proofs.writes.note_code.Given as goal
 

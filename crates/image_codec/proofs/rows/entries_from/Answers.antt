@@ -1,4 +1,5 @@
 use Rattle.std.proofs.lemmas.Result.{err_from_is_err_and}
+use Rattle.image_form.specs.declared.fault.Stop.TheVariants.{Left}
 use Rattle.image_form.specs.Fields.{entry_at}
 use Rattle.image_form.proofs.Loops.{goes_on, stops_at, is_done}
 use Rattle.image_codec.proofs.rows.entries_from.Goals as goal
@@ -6,7 +7,7 @@ use Rattle.image_codec.proofs.rows.entries_from.Goals as goal
 pub returns-in_err-entry : goal.returns-in_err-entry
 returns-in_err-entry c =
     let p = err_from_is_err_and c.from_residual.result c.from_residual.ensures.1 in
-    rw (p.1, p.2) (stops_at c.in_err-entry.field-0.0 (entry_at c.args.version c.args.size) c.loop.entries.items c.args.count c.loop.counter c.loop.rest.now _ c.loop-test.true (rw c.deref.ensures.value at c.in_err-entry.ensures) c.loop.invariant)
+    rw (p.1, p.2) (stops_at (Left c.in_err-entry.field-0.0.left) (entry_at c.args.version c.args.size) c.loop.entries.items c.args.count c.loop.counter c.loop.rest.now _ c.loop-test.true (rw c.deref.ensures.value at c.in_err-entry.ensures) c.loop.invariant)
 
 pub loop-preserved : goal.loop-preserved
 loop-preserved c =

@@ -8,17 +8,17 @@ use Rattle.prepare.proofs.Stages.{is_last, spill_passed, split_passed, split_roo
 use Rattle.prepare.proofs.passes.+passed_to.Goals as goal
 
 pub propagate-requires : goal.propagate-requires
-propagate-requires t c = record { formed = (combined_cut c.requires.preparable c.in_ok-combined-in-Cse.ensures).stage.formed }
+propagate-requires t c = record { formed = (combined_cut c.requires.preparable c.in_ok-combined-in-Cse.ensures).pass.formed }
 
 pub cse-requires : goal.cse-requires
-cse-requires t c = record { formed = (propagate_cut c.requires.preparable (combined_cut c.requires.preparable c.in_ok-combined-in-Cse.ensures) c.in_ok-read-in-Cse.ensures).stage.formed }
+cse-requires t c = record { formed = (propagate_cut c.requires.preparable (combined_cut c.requires.preparable c.in_ok-combined-in-Cse.ensures) c.in_ok-read-in-Cse.ensures).pass.formed }
 
 pub propagate-requires-in-Cse : goal.propagate-requires-in-Cse
 propagate-requires-in-Cse t c =
     record {
       formed =
           (repeat_cut c.requires.preparable
-          (propagate_cut c.requires.preparable (combined_cut c.requires.preparable c.in_ok-combined-in-Cse.ensures) c.in_ok-read-in-Cse.ensures) c.in_ok-common-in-Cse.ensures).stage.formed;
+          (propagate_cut c.requires.preparable (combined_cut c.requires.preparable c.in_ok-combined-in-Cse.ensures) c.in_ok-read-in-Cse.ensures) c.in_ok-common-in-Cse.ensures).pass.formed;
     }
 
 pub cse-requires-in-Cse : goal.cse-requires-in-Cse
@@ -28,7 +28,7 @@ cse-requires-in-Cse t c =
           (propagate_cut c.requires.preparable
           (repeat_cut c.requires.preparable
           (propagate_cut c.requires.preparable (combined_cut c.requires.preparable c.in_ok-combined-in-Cse.ensures) c.in_ok-read-in-Cse.ensures) c.in_ok-common-in-Cse.ensures)
-          c.in_ok-again-in-Cse.ensures).stage.formed;
+          c.in_ok-again-in-Cse.ensures).pass.formed;
     }
 
 pub drop_dead-requires : goal.drop_dead-requires
@@ -40,12 +40,12 @@ drop_dead-requires t c =
 pub hoist-requires : goal.hoist-requires
 hoist-requires t c =
     let cut = dropped_cut c.requires.preparable c.in_ok-dropped-in-Spill.ensures in
-    record { formed = cut.stage.formed; origins = cut_own c.requires.preparable cut }
+    record { formed = cut.pass.formed; origins = cut_own c.requires.preparable cut }
 
 pub sink-requires : goal.sink-requires
 sink-requires t c =
     let cut = hoist_cut c.requires.preparable (dropped_cut c.requires.preparable c.in_ok-dropped-in-Spill.ensures) c.in_ok-hoisted-in-Spill.ensures in
-    record { formed = cut.stage.formed; countable = cut_countable c.args.mach c.requires.preparable c.requires.room cut }
+    record { formed = cut.pass.formed; countable = cut_countable c.args.mach c.requires.preparable c.requires.room cut }
 
 pub spill-requires : goal.spill-requires
 spill-requires t c =

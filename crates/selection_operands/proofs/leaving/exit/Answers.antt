@@ -14,12 +14,12 @@ returns-clause-code g c =
     let es = expressions_of c.args.arguments.now in
     let regs = regs_of c.args.scope.now.names row es in
     let target = visible_label c.args.scope.now.labels (label_view c.args.label.now) in
-    on_ok_weaker c.waiting.result
+    on_ok_weaker c.put_row-2.result
     (λ h. λ at label_at.
     exit-is c.args.scope.now c.args.node.place (label_view c.args.label.now) c.args.arguments.now row base regs target
-    c.args.code.now c.put_exit.new.code c.filled.new.code c.waiting.new.code at label_at
+    c.args.code.now c.put_exit.new.code c.put_row.new.code c.put_row-2.new.code at label_at
     refl refl refl refl
     c.in_ok-put_exit.ensures
-    c.in_ok-filled.ensures.code
-    (h ∙ ap (λ (s : LexicalScope). select_waiting s.names s.labels row base es c.filled.new.code) c.in_ok-filled.ensures.scope))
-    c.waiting.ensures.code
+    c.in_ok-put_row.ensures.code
+    (h ∙ ap (λ (s : LexicalScope). select_waiting s.names s.labels row base es c.put_row.new.code) c.in_ok-put_row.ensures.scope))
+    c.put_row-2.ensures.code

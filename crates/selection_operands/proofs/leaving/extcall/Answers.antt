@@ -27,15 +27,15 @@ returns-clause-code g c =
     let called : List Reg → List Instr = λ a. emit.external_instruction outside.name.now comps outside.result outside.frame a results ∷ c.from_seat.new.self in
     let moved : c.put_external.new.code ≡ moves_all regs args (called args) =
     c.in_ok-put_external.ensures ∙ ap (λ k. moves_all (regs_of s.names k es) (seats 0 numbers.seated (regs_of s.names k es)) (called (seats 0 numbers.seated (regs_of s.names k es)))) (row-is row count numbers is) in
-    on_ok_weaker c.waiting.result
+    on_ok_weaker c.put_row-2.result
     (λ h. λ at result_at.
     extcall-is s c.args.node.place c.args.node.ty outside.frame outside.name.now c.args.arguments.now outside.result row count numbers.seated numbers.given numbers.base regs args results comps c.dest.result
-    c.args.code.now c.from_seat.new.self (called args) c.put_external.new.code c.filled.new.code c.waiting.new.code at result_at
+    c.args.code.now c.from_seat.new.self (called args) c.put_external.new.code c.put_row.new.code c.put_row-2.new.code at result_at
     refl refl (seated-is row count numbers is) (given-is row count numbers is) (base-is row count numbers is)
     refl refl refl refl (c.requires.ty at result_at) c.dest.ensures
     c.in_ok-from_seat.ensures
     refl
     moved
-    c.in_ok-filled.ensures.code
-    (h ∙ ap (λ (v : LexicalScope). select_waiting v.names v.labels row numbers.base es c.filled.new.code) c.in_ok-filled.ensures.scope))
-    c.waiting.ensures.code
+    c.in_ok-put_row.ensures.code
+    (h ∙ ap (λ (v : LexicalScope). select_waiting v.names v.labels row numbers.base es c.put_row.new.code) c.in_ok-put_row.ensures.scope))
+    c.put_row-2.ensures.code

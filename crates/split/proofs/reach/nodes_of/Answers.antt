@@ -1,7 +1,7 @@
-use Rattle.std.proofs.Common.{◌≡◌, ◌∷◌, ◌∙◌, ◌-◌, ap, length, drop, arith}
+use Rattle.std.proofs.Common.{◌≡◌, ◌∷◌, ◌∙◌, ◌-◌, ap, length, drop, refl, arith}
 use Rattle.std.proofs.lemmas.List.{length-drop}
 use Rattle.mach_ir.specs.Meaning.{tries_at}
-use Rattle.liveness.proofs.Loop.{tries_begun, nodes_begun, code_at_place, tries_more, nodes_more, nodes_done}
+use Rattle.liveness.proofs.Loop.{tries_begun, bare_last, nodes_begun, code_at_place, tries_more, nodes_more, nodes_done}
 use Rattle.split.specs.Reach.{write_uses}
 use Rattle.split.proofs.reach.nodes_of.Goals as goal
 
@@ -11,8 +11,8 @@ loop-left-init c =
     let end : length c.as_slice-code.result.now ≡ length m.code = ap length c.as_slice-code.ensures in
     record {
       within = omega (arith, end);
-      nodes = nodes_begun m (write_uses c.args.writes.now) (length c.as_slice-code.result.now) c.last_node.result c.in_ok-nodes.nodes
-          c.push.new.self end c.last_node.ensures c.in_ok-nodes.ensures c.in_ok-push.ensures;
+      nodes = nodes_begun m (write_uses c.args.writes.now) (length c.as_slice-code.result.now) c.bare_place.result c.in_ok-nodes.nodes
+          c.push.new.self end (bare_last m (write_uses c.args.writes.now) c.bare_place.result refl refl c.bare_place.ensures) c.in_ok-nodes.ensures c.in_ok-push.ensures;
       tries = tries_begun m (length c.as_slice-code.result.now) c.new-tries.result end c.new-tries.ensures;
     }
 

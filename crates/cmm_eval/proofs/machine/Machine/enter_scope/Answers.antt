@@ -32,9 +32,9 @@ returns-in_ok-push-in-Let-clause-meaning c =
     ∙ subst (λ (f : Form). and_then (bindings_from s v.items h w) (λ _ i w. body_of s f tail (length h.names) h.tries i w) ≡ inside s f tail h w) (sym c.in-Let.is)
     (sym (let_is s v b tail h w)))) c.bind_next.ensures.meaning
 
-pub returns-in_ok-push-in-Catch-clause-meaning : goal.returns-in_ok-push-in-Catch-clause-meaning
-returns-in_ok-push-in-Catch-clause-meaning c s =
-    let p = c.in_ok-push-in-Catch.ensures in
+pub returns-in_ok-push_catch-in-Catch-clause-meaning : goal.returns-in_ok-push_catch-in-Catch-clause-meaning
+returns-in_ok-push_catch-in-Catch-clause-meaning c s =
+    let p = c.in_ok-push_catch-in-Catch.ensures in
     let m = c.args.self.now in
     let f = c.args.form.now in
     let tail = c.args.tail in
@@ -47,7 +47,7 @@ returns-in_ok-push-in-Catch-clause-meaning c s =
     let count : vec_len m.here.names ≡ length m.here.names.items = omega (arith, m.here.names.ok.0) in
     let level_is : level ≡ length h.names = c.len-level.ensures ∙ count ∙ bounds_count m.here.names.items in
     let more : turns ≡ suc w.left = add-one m.world.left in
-    stands_pushed_at s m c.push-in-Catch.new.self (record { form = c.args.form; tail = tail; step = step.Catch false turns level tries })
+    stands_pushed_at s m c.push_catch.new.self (record { form = c.args.form; tail = tail; step = step.Catch false turns level tries })
     (evaluated_expression s c.deref.result.now tail) (inside s f tail) p.here p.world p.frames
     (ap (λ (e : Expr). caught s.end turns false (ready_handlers s f tail) level tries (evaluated_expression s e tail h w)) c.deref.ensures
     ∙ ap (λ n. caught s.end n false (ready_handlers s f tail) level tries (evaluated_expression s body tail h w)) more

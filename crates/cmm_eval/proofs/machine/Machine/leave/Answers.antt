@@ -56,10 +56,10 @@ returns-in-Catch-clause-meaning c =
     let x = c.in-Some.handler.now in
     let h = here_view m.here in
     let w = world_view m.world in
-    let p = c.in_ok-push-in-Catch.ensures in
-    let q = c.in_ok-push-in-Catch-2.ensures in
-    let n = c.push.new.self.frames.items in
-    let new = c.push-in-Catch.new.self.frames.items in
+    let p = c.in_ok-push_catch-in-Catch.ensures in
+    let q = c.in_ok-push-in-Catch.ensures in
+    let n = c.push_catch.new.self.frames.items in
+    let new = c.push.new.self.frames.items in
     let ready : ready_for within label (ready_handlers s f tail) ≡ Some (handler_ready s tail x) =
     ap (ready_for within label) (c.handlers_of.ensures s tail)
     ∙ sym (c.handler_for.ensures s tail)

@@ -1,6 +1,5 @@
 use Rattle.std.proofs.lemmas.Result.{IfOk-weaker}
 use Rattle.walk_tables.specs.Walks.{names}
-use Rattle.walk_tables.proofs.Pushed.{then, ready, kept-scope, kept-placed}
 use Rattle.walk_tables.proofs.Shapes.{by-shape, seq-shape, exit-shape, alloc-shape, extcall-shape, app-shape, let-shape, if-shape, switch-shape, catch-shape, try-shape}
 use Rattle.walk_tables.proofs.items.Cells.form.Goals as goal
 
@@ -34,14 +33,11 @@ returns-in-Seq c =
     (λ cell h. λ s r scope typed. by-shape s c.args.slot c.args.expr.now _ _ _ c.in-Seq.is (seq-shape (names s) c.args.expr.now.at c.in-Seq.elements c.as_slice-in-Seq.result.now c.as_slice-in-Seq.ensures.value) typed (λ q. h s r scope q))
     c.in_order.ensures
 
-pub returns-in_ok-either-in-If : goal.returns-in_ok-either-in-If
-returns-in_ok-either-in-If c =
-    IfOk-weaker c.on_one-in-If.result _ _
-    (λ cell h. λ s r scope typed. by-shape s c.args.slot c.args.expr.now _ _ _ c.in-If.is (if-shape (names s) c.args.expr.now.at c.in-If.condition c.in-If.on_true c.in-If.on_false c.deref-in-If-3.result.now c.deref-in-If.result.now c.deref-in-If-2.result.now c.deref-in-If-3.ensures c.deref-in-If.ensures c.deref-in-If-2.ensures) typed
-    (λ q.
-    let e = c.in_ok-either-in-If.ensures.adds s r scope q.1 q.2 in
-    then (h s (ready e) (kept-scope e.extends scope) q.0) e))
-    c.on_one-in-If.ensures
+pub returns-in-If : goal.returns-in-If
+returns-in-If c =
+    IfOk-weaker c.either_of.result _ _
+    (λ cell h. λ s r scope typed. by-shape s c.args.slot c.args.expr.now _ _ _ c.in-If.is (if-shape (names s) c.args.expr.now.at c.in-If.condition c.in-If.on_true c.in-If.on_false c.deref-in-If.result.now c.deref-in-If-2.result.now c.deref-in-If-3.result.now c.deref-in-If.ensures c.deref-in-If-2.ensures c.deref-in-If-3.ensures) typed (λ q. h s r scope q.0 q.1 q.2))
+    c.either_of.ensures
 
 pub returns-in-Switch : goal.returns-in-Switch
 returns-in-Switch c =
@@ -61,11 +57,8 @@ returns-in-Exit c =
     (λ cell h. λ s r scope typed. by-shape s c.args.slot c.args.expr.now _ _ _ c.in-Exit.is (exit-shape (names s) c.args.expr.now.at c.in-Exit.label_at c.in-Exit.label c.in-Exit.arguments c.as_slice-in-Exit.result.now c.as_slice-in-Exit.ensures.value) typed (λ q. h s r scope q))
     c.exits.ensures
 
-pub returns-in_ok-after_body-in-Try : goal.returns-in_ok-after_body-in-Try
-returns-in_ok-after_body-in-Try c =
-    IfOk-weaker c.eval.result _ _
-    (λ cell h. λ s r scope typed. by-shape s c.args.slot c.args.expr.now _ _ _ c.in-Try.is (try-shape (names s) c.args.expr.now.at c.in-Try.name_at c.in-Try.name c.in-Try.body c.in-Try.handler c.deref-in-Try-2.result.now c.deref-in-Try.result.now c.deref-in-Try-2.ensures c.deref-in-Try.ensures) typed
-    (λ q.
-    let b = c.in_ok-after_body-in-Try.ensures s r scope q.1 in
-    then (h s (ready b) (kept-scope b.extends scope) q.0 (kept-placed b.extends c.requires)) b))
-    c.eval.ensures
+pub returns-in-Try : goal.returns-in-Try
+returns-in-Try c =
+    IfOk-weaker c.tried.result _ _
+    (λ cell h. λ s r scope typed. by-shape s c.args.slot c.args.expr.now _ _ _ c.in-Try.is (try-shape (names s) c.args.expr.now.at c.in-Try.name_at c.in-Try.name c.in-Try.body c.in-Try.handler c.deref-in-Try.result.now c.deref-in-Try-2.result.now c.deref-in-Try.ensures c.deref-in-Try-2.ensures) typed (λ q. h s r scope q.0 q.1))
+    c.tried.ensures

@@ -2,11 +2,11 @@ use Rattle.std.proofs.Common.{◌≡◌, suc, ◌+◌, ◌-◌, ◌∷◌, List,
 use Rattle.cmm_tree.specs.Rows.{expressions_of}
 use Rattle.cmm_tree.specs.declared.expr.Expr.{Expr}
 use Rattle.cmm_types.specs.Lists.{AreAnnotated}
-use Rattle.selection_rules.specs.Select.{select_filled}
-use Rattle.selection_operands.proofs.Waiting.{filled-more, first-of}
+use Rattle.selection_operands.proofs.Waiting.{row-more, first-of}
+use Rattle.selection_operands.specs.Operands.{row_code}
 use Rattle.selection_operands.proofs.Rooms.{row-first, row-room-first}
 use Rattle.selection_scope.specs.Scoping.{LexicalScope, scoped_names}
-use Rattle.selection_operands.proofs.operands.filled.Goals as goal
+use Rattle.selection_operands.proofs.operands.put_row.Goals as goal
 
 pub loop-rest-preserved : goal.loop-rest-preserved
 loop-rest-preserved g c =
@@ -19,7 +19,7 @@ loop-rest-preserved g c =
     let number = reg + 1 in
     let behind = c.behind-base.result in
     let made = c.put_operand.new.code in
-    let light = c.is_light_address-waits.result in
+    let timing = c.args.timing in
     let whole : e ∷ others ≡ rest = first-of rest e c.in-len1-up.len_at_least c.expr-item.is in
     let P : List Expr → Type 0 = λ l. AreAnnotated (scoped_names s) l in
     let typed : P (e ∷ others) = subst P (sym whole) c.loop-rest.invariant.typed in
@@ -27,10 +27,10 @@ loop-rest-preserved g c =
     let next : number ≡ suc reg = omega arith in
     record {
       code =
-          sym (ap (λ (v : LexicalScope). select_filled v.names v.labels number behind (expressions_of others) made) c.loop-rest.invariant.scope)
-          ∙ filled-more s number behind reg base c.fresh.result light e others c.loop-rest.code made next c.behind-base.ensures c.is_light_address-waits.ensures typed.0 c.fresh.ensures c.in_ok-put_operand.ensures.code
-          ∙ ap (λ l. select_filled s.names s.labels reg base (expressions_of l) c.loop-rest.code) whole
-          ∙ ap (λ (v : LexicalScope). select_filled v.names v.labels reg base (expressions_of rest) c.loop-rest.code) c.loop-rest.invariant.scope
+          sym (ap (λ (v : LexicalScope). row_code timing v number behind (expressions_of others) made) c.loop-rest.invariant.scope)
+          ∙ row-more timing s number behind reg base c.fresh.result c.is_light_address-light.result c.is_due.result e others c.loop-rest.code made next c.behind-base.ensures c.is_light_address-light.ensures c.is_due.ensures typed.0 c.fresh.ensures c.in_ok-put_operand.ensures.code
+          ∙ ap (λ l. row_code timing s reg base (expressions_of l) c.loop-rest.code) whole
+          ∙ ap (λ (v : LexicalScope). row_code timing v reg base (expressions_of rest) c.loop-rest.code) c.loop-rest.invariant.scope
           ∙ c.loop-rest.invariant.code;
       reg = omega (arith, c.loop-rest.invariant.reg, ap length whole);
       begins = omega (arith, c.loop-rest.invariant.begins, c.behind-base.ensures);

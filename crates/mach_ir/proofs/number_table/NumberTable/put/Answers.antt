@@ -3,7 +3,7 @@ use Rattle.std.specs.Prelude.{nat_eq, vec_len}
 use Rattle.std.proofs.lemmas.Bool.{cases_lt}
 use Rattle.std.proofs.lemmas.Bool.Decides.{eqb_tells}
 use Rattle.std.proofs.lemmas.List.{get_or_append_left, get_or_push, get_or_past, length-append, length-replicate, take_all}
-use Rattle.hoist.proofs.table.Table.put.Goals as goal
+use Rattle.mach_ir.proofs.number_table.NumberTable.put.Goals as goal
 
 zeros : (k n : ℕ) → get_or {A = ℕ} (replicate k 0) n 0 ≡ 0
 zeros zero n = refl

@@ -1,22 +1,22 @@
-//! A table by number.
+//! Tables by the numbers of registers, of labels or of places.
 ghost use Rattle.std.specs.Prelude.{◌≡◌, ℕ, cond, nat_eq, IfOk};
-ghost use Rattle.hoist.specs.Tables.{table_entry};
+ghost use Rattle.mach_ir.specs.NumberTables.{table_entry};
 
 use std::alloc::{AllocError, Global};
 
 /// For each number what was put there last, 0 where nothing was. The table is one longer than the greatest
 /// number, so the numbers should be dense, as those of labels and of registers are.
 #[derive(Drop)]
-pub struct Table {
+pub struct NumberTable {
     entries: Vec<usize>,
 }
 
-impl Table {
+impl NumberTable {
     /// Nothing was put. It takes no memory.
-    pub fn new(alloc: Global) -> Table
+    pub fn new(alloc: Global) -> NumberTable
         ensures { (n : ℕ) → table_entry result n ≡ 0 }
     {
-        Table {
+        NumberTable {
             entries: Vec::new(alloc),
         }
     }

@@ -3,13 +3,14 @@ use Rattle.cmm_tree.specs.Rows.{expressions_of}
 use Rattle.cmm_types.specs.Lists.{AreAnnotated}
 use Rattle.selection_scope.specs.Room.{indexes_in_row, most_numbers}
 use Rattle.selection_scope.specs.Scoping.{scoped_names}
-use Rattle.selection_rules.specs.Select.{select_filled, width_row}
-use Rattle.selection_operands.proofs.operands.filled.Given as goal
+use Rattle.selection_rules.specs.Select.{width_row}
+use Rattle.selection_operands.specs.Operands.{row_code}
+use Rattle.selection_operands.proofs.operands.put_row.Given as goal
 
 abbrev pub invariant-loop-rest : goal.invariant-loop-rest
 invariant-loop-rest g l =
     record {
-      code : select_filled l.initial.scope.names l.initial.scope.labels l.reg l.base (expressions_of l.rest) l.code ≡ select_filled l.initial.scope.names l.initial.scope.labels l.fn.number l.fn.first (expressions_of l.fn.exprs) l.initial.code;
+      code : row_code l.fn.timing l.initial.scope l.reg l.base (expressions_of l.rest) l.code ≡ row_code l.fn.timing l.initial.scope l.fn.number l.fn.first (expressions_of l.fn.exprs) l.initial.code;
       scope : l.scope ≡ l.initial.scope;
       reg : l.reg + length l.rest ≡ l.fn.number + length l.fn.exprs;
       begins : l.fn.first ≤ l.base;
