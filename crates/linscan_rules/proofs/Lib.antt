@@ -3,3 +3,4 @@ pub mod Rows
 pub mod Sharing
 pub mod Contract
 pub mod Calls
+pub mod Tables

@@ -44,12 +44,12 @@ pub record Blocks (fs : List FixedInterval) (x : OpenInterval) (c : ℕ) : Type 
   pub colour : fixed.colour ≡ c
   pub meets : FixedMeets fixed x
 
-in_is : (c : ℕ) (l : Loc) → has_colour c l ≡ true → l ≡ loc.Machine c
+pub in_is : (c : ℕ) (l : Loc) → has_colour c l ≡ true → l ≡ loc.Machine c
 in_is c loc.Unset e = absurd (true≢false (sym e))
 in_is c (loc.Machine n) e = ap loc.Machine (eqb-true n c e)
 in_is c (loc.Slot n) e = absurd (true≢false (sym e))
 
-is_in_it : (c : ℕ) (l : Loc) → l ≡ loc.Machine c → has_colour c l ≡ true
+pub is_in_it : (c : ℕ) (l : Loc) → l ≡ loc.Machine c → has_colour c l ≡ true
 is_in_it c l e = subst (λ k. has_colour c k ≡ true) (sym e) (eq-eqb c c refl)
 
 pub record Holds (place : Colouring) (rs : List OpenInterval) (x : OpenInterval) (c : ℕ) : Type 0 where
@@ -109,7 +109,7 @@ pub record Gives (closed : ClosedColours) (place : Colouring) (rs : List OpenInt
   pub alive : x.from ≤ g.row.to
   pub open_colour : closed x g.colour ≡ false
 
-not_true : (b : Bool) → not b ≡ true → b ≡ false
+pub not_true : (b : Bool) → not b ≡ true → b ≡ false
 not_true true e = absurd (true≢false (sym e))
 not_true false e = refl
 

@@ -11,15 +11,16 @@
 
 pub mod interval;
 
-pub use interval::{Interval, Intervals};
-
 ghost use Rattle.std.specs.Prelude.{◌≡◌, ℕ, true, List, [], ◌∷◌, drop, Contains};
+ghost use Rattle.bs_words.specs.Contents.{contents};
 ghost use Rattle.bs_words.specs.declared.types.Loc.TheVariants as loc;
 ghost use Rattle.linscan_rules.specs.Contract.{NoNeedlessSlotByIntervals};
 ghost use Rattle.linscan_rules.specs.Ranges.{IsAtPlace, IsInterval, Overlap};
 ghost use Rattle.linscan_rules.specs.Rows.{AreByStart, IsFixedOver, IsSettled, AreScanRows};
 ghost use Rattle.linscan_rules.specs.Scan.{OpenInterval, FixedInterval, ClosedColours, scanned};
-ghost use Rattle.mach_ir.specs.Graph.{InGraph, JoinedIn};
+ghost use Rattle.linscan_rules.specs.Table.{IsIntervalsOf, IsScannable};
+ghost use Rattle.linscan_rules.specs.declared.interval.Intervals.{Intervals};
+ghost use Rattle.mach_ir.specs.Graph.{InGraph, JoinedIn, IsGraph};
 ghost use Rattle.mach_ir.specs.Meaning.{Everything, destroyed_by};
 ghost use Rattle.mach_ir.specs.Placed.{Colouring, HasColourRegisters, IsProperColouring, colour_numbers};
 ghost use Rattle.mach_ir.specs.Walks.{AmongRegisters, IsRegister, Joined};
@@ -27,6 +28,8 @@ ghost use Rattle.mach_ir.specs.declared.graph.Graph.{Graph};
 ghost use Rattle.mach_ir.specs.declared.mach.Instr.{Instr};
 ghost use Rattle.mach_ir.specs.declared.mach.Mach.{Mach};
 ghost use Rattle.mach_ir.specs.declared.reg.Reg.{Reg};
+
+pub use interval::{Interval, Intervals};
 
 /// Law: registers that the graph joins have intervals that overlap.
 pub fn joined_registers_overlap()
@@ -84,4 +87,17 @@ pub fn scanned_graphs_are_coloured()
         AreScanRows (InGraph g) (JoinedIn g) (IsInterval m) closed intervals start rows →
         NoNeedlessSlotByIntervals (InGraph g) (IsInterval m)
         (scanned colour_numbers closed [] start rows) }
+{}
+
+/// Law: a function has one table of intervals.
+pub fn intervals_tables_are_one()
+    ensures { (m : Mach) (s t : Intervals) → IsIntervalsOf m s → IsIntervalsOf m t →
+        contents s.list ≡ contents t.list }
+{}
+
+/// Law: the graph and the intervals of a function may be scanned: joined registers have intervals
+/// that overlap.
+pub fn functions_are_scannable()
+    ensures { (m : Mach) (g : Graph) (t : Intervals) → HasColourRegisters m → IsGraph m g →
+        IsIntervalsOf m t → IsScannable g t }
 {}
