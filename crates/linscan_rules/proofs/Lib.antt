@@ -4,3 +4,4 @@ pub mod Sharing
 pub mod Contract
 pub mod Calls
 pub mod Tables
+pub mod Graphs

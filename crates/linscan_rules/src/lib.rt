@@ -18,12 +18,13 @@ ghost use Rattle.linscan_rules.specs.Contract.{NoNeedlessSlotByIntervals};
 ghost use Rattle.linscan_rules.specs.Ranges.{IsAtPlace, IsInterval, Overlap};
 ghost use Rattle.linscan_rules.specs.Rows.{AreByStart, IsFixedOver, IsSettled, AreScanRows};
 ghost use Rattle.linscan_rules.specs.Scan.{OpenInterval, FixedInterval, ClosedColours, scanned};
-ghost use Rattle.linscan_rules.specs.Table.{IsIntervalsOf, IsScannable};
+ghost use Rattle.linscan_rules.specs.Table.{IntervalIn, IsIntervalsOf, IsScannable, IsScannedBy};
 ghost use Rattle.linscan_rules.specs.declared.interval.Intervals.{Intervals};
-ghost use Rattle.mach_ir.specs.Graph.{InGraph, JoinedIn, IsGraph};
+ghost use Rattle.mach_ir.specs.Graph.{InGraph, JoinedIn, IsColourable, IsGraph, coloured_location};
 ghost use Rattle.mach_ir.specs.Meaning.{Everything, destroyed_by};
 ghost use Rattle.mach_ir.specs.Placed.{Colouring, HasColourRegisters, IsProperColouring, colour_numbers};
 ghost use Rattle.mach_ir.specs.Walks.{AmongRegisters, IsRegister, Joined};
+ghost use Rattle.mach_ir.specs.declared.graph.Colours.{Colours};
 ghost use Rattle.mach_ir.specs.declared.graph.Graph.{Graph};
 ghost use Rattle.mach_ir.specs.declared.mach.Instr.{Instr};
 ghost use Rattle.mach_ir.specs.declared.mach.Mach.{Mach};
@@ -100,4 +101,18 @@ pub fn intervals_tables_are_one()
 pub fn functions_are_scannable()
     ensures { (m : Mach) (g : Graph) (t : Intervals) → HasColourRegisters m → IsGraph m g →
         IsIntervalsOf m t → IsScannable g t }
+{}
+
+/// Law: what scanning gives is a proper colouring with no needless slot by intervals.
+pub fn scanned_graphs_are_right()
+    ensures colouring { (g : Graph) (t : Intervals) (c : Colours) → IsColourable g → IsScannable g t →
+        IsScannedBy g t c → IsProperColouring (InGraph g) (JoinedIn g) (coloured_location c) }
+    ensures full { (g : Graph) (t : Intervals) (c : Colours) → IsColourable g → IsScannable g t →
+        IsScannedBy g t c → NoNeedlessSlotByIntervals (InGraph g) (IntervalIn t) (coloured_location c) }
+{}
+
+/// Law: scanning a graph gives one colouring.
+pub fn scans_are_one()
+    ensures { (g : Graph) (t : Intervals) (c d : Colours) → IsScannedBy g t c → IsScannedBy g t d →
+        (n : ℕ) → coloured_location c n ≡ coloured_location d n }
 {}
