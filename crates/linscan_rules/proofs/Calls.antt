@@ -15,11 +15,11 @@ use Rattle.mach_ir.specs.declared.mach.MachOp.TheVariants as mach
 use Rattle.mach_ir.specs.declared.reg.Reg.{Reg}
 use Rattle.mach_ir.specs.declared.mach.Instr.{Instr}
 use Rattle.mach_ir.specs.declared.mach.Mach.{Mach}
-use Rattle.linscan_rules.specs.Intervals.{IsAtPlace, reads, writes}
+use Rattle.linscan_rules.specs.Ranges.{IsAtPlace, reads, writes}
 use Rattle.linscan_rules.proofs.Scan.{IsIn, is_first, is_later}
 use Rattle.linscan_rules.proofs.Rows.{in_of}
 
-among_left : (n : ℕ) (rs qs : List Reg) → AmongRegisters n rs → AmongRegisters n (rs ++ qs)
+pub among_left : (n : ℕ) (rs qs : List Reg) → AmongRegisters n rs → AmongRegisters n (rs ++ qs)
 among_left n _ qs (first e) = first e
 among_left n _ qs (later {rs = rs} a) = later (among_left n rs qs a)
 
@@ -27,7 +27,7 @@ among_right : (n : ℕ) (rs qs : List Reg) → AmongRegisters n qs → AmongRegi
 among_right n [] qs a = a
 among_right n (r ∷ rs) qs a = later (among_right n rs qs a)
 
-among_it : (r : Reg) (rs : List Reg) → IsIn r rs → AmongRegisters r.number rs
+pub among_it : (r : Reg) (rs : List Reg) → IsIn r rs → AmongRegisters r.number rs
 among_it r _ is_first = first refl
 among_it r _ (is_later {xs = xs} z) = later (among_it r xs z)
 

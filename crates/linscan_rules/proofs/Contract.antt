@@ -5,8 +5,9 @@ use Rattle.bs_words.specs.declared.types.Loc.TheVariants as loc
 use Rattle.mach_ir.specs.Placed.{Colouring, colour_numbers, HasColourOrSlot, in_colour, in_slot, MayShare, IsProperColouring, placed_by}
 use Rattle.mach_ir.specs.declared.reg.Reg.{Reg}
 use Rattle.linscan_rules.specs.Contract.{Overlaps, NoNeedlessSlotByIntervals}
-use Rattle.linscan_rules.specs.Rows.{AreRows}
-use Rattle.linscan_rules.specs.Scan.{Row, FixedInterval, with_place, Closed, Giver, put_in_slot as to_slot, given_up, placed_next, last_giver, first_without, is_closed_or_held, scan_one, scanned}
+use Rattle.linscan_rules.specs.Rows.{AreScanRows}
+use Rattle.colouring.specs.Chosen.{colouring_with}
+use Rattle.linscan_rules.specs.Scan.{OpenInterval, FixedInterval, ClosedColours, Giver, put_in_slot as to_slot, given_up, placed_next, last_giver, first_without, is_closed_or_held, scan_one, scanned}
 use Rattle.linscan_rules.proofs.Scan.{IsIn, is_first, is_later, gives, Full, by_fixed, by_row, Settled, all_of, put_there, scanned_settled, none_settled}
 use Rattle.linscan_rules.proofs.Rows.{in_of, contains_of, in_all, Known, known}
 
@@ -20,7 +21,7 @@ unset_machine : (n : ℕ) → loc.Unset ≡ loc.Machine n → ⊥
 unset_machine n e = cc
 
 -- what is no row's number keeps its place
-kept_one : (closed : Closed) (done : List Row) (place : Colouring) (x : Row) (n : ℕ) → (n ≡ x.number → ⊥) → ((r : Row) → IsIn r done → r.number ≡ n → ⊥) →
+kept_one : (closed : ClosedColours) (done : List OpenInterval) (place : Colouring) (x : OpenInterval) (n : ℕ) → (n ≡ x.number → ⊥) → ((r : OpenInterval) → IsIn r done → r.number ≡ n → ⊥) →
     scan_one colour_numbers closed done place x n ≡ place n
 kept_one closed done place x n out fresh = by (first_without (is_closed_or_held closed done place x) colour_numbers)
   where
@@ -28,7 +29,7 @@ kept_one closed done place x n out fresh = by (first_without (is_closed_or_held 
     up None e = put_there place x.number (loc.Slot x.origin) n out
     up (Some g) e = choose _
       where
-        choose : (b : Bool) → cond b (with_place (to_slot place g.row) x.number (loc.Machine g.colour)) (to_slot place x) n ≡ place n
+        choose : (b : Bool) → cond b (colouring_with (to_slot place g.row) x.number (loc.Machine g.colour)) (to_slot place x) n ≡ place n
         choose true =
             put_there (to_slot place g.row) x.number (loc.Machine g.colour) n out
             ∙ put_there place g.row.number (loc.Slot g.row.origin) n (λ q. fresh g.row (gives closed place done x g e).among (sym q))
@@ -38,19 +39,19 @@ kept_one closed done place x n out fresh = by (first_without (is_closed_or_held 
     by None = up (last_giver closed place done x) refl
     by (Some c) = put_there place x.number (loc.Machine c) n out
 
-kept : (closed : Closed) (done : List Row) (place : Colouring) (xs : List Row) (n : ℕ) → ((r : Row) → IsIn r (all_of done xs) → r.number ≡ n → ⊥) →
+kept : (closed : ClosedColours) (done : List OpenInterval) (place : Colouring) (xs : List OpenInterval) (n : ℕ) → ((r : OpenInterval) → IsIn r (all_of done xs) → r.number ≡ n → ⊥) →
     scanned colour_numbers closed done place xs n ≡ place n
 kept closed done place [] n fresh = refl
 kept closed done place (x ∷ xs) n fresh =
     kept closed (x ∷ done) (scan_one colour_numbers closed done place x) xs n fresh
     ∙ kept_one closed done place x n (λ e. fresh x (in_all (x ∷ done) xs x is_first) (sym e)) (λ r z e. fresh r (in_all (x ∷ done) xs r (is_later z)) e)
 
-module _ (IsOne : Reg → Type 0) (AreJoined : ℕ → ℕ → Type 0) (Interval : ℕ → ℕ → ℕ → Type 0) (closed : Closed) (fs : List FixedInterval) (start : Colouring) (rows : List Row)
+module _ (IsOne : Reg → Type 0) (AreJoined : ℕ → ℕ → Type 0) (Interval : ℕ → ℕ → ℕ → Type 0) (closed : ClosedColours) (fs : List FixedInterval) (start : Colouring) (rows : List OpenInterval)
     (are : Known IsOne AreJoined Interval closed fs start rows) where
   abbrev P : Colouring
   P = scanned colour_numbers closed [] start rows
 
-  abbrev All : List Row
+  abbrev All : List OpenInterval
   All = all_of [] rows
 
   settled : Settled colour_numbers closed fs All P
@@ -60,7 +61,7 @@ module _ (IsOne : Reg → Type 0) (AreJoined : ℕ → ℕ → Type 0) (Interval
   stays r i e = kept closed [] start rows r.number (λ x z q. are.no_row r i e x z q) ∙ are.begins r i e
 
   abbrev Told : Reg → Type 0
-  Told r = ((r.loc ≡ loc.Unset) × ((x : Row) × IsIn x All × (x.number ≡ r.number) × (x.origin ≡ r.origin))) ⊎ ((r.loc ≢ loc.Unset) × HasColourOrSlot r)
+  Told r = ((r.loc ≡ loc.Unset) × ((x : OpenInterval) × IsIn x All × (x.number ≡ r.number) × (x.origin ≡ r.origin))) ⊎ ((r.loc ≢ loc.Unset) × HasColourOrSlot r)
 
   set : (r : Reg) → HasColourOrSlot r → r.loc ≢ loc.Unset
   set r (in_colour n c e) u = unset_machine n (sym u ∙ e)
@@ -72,7 +73,7 @@ module _ (IsOne : Reg → Type 0) (AreJoined : ℕ → ℕ → Type 0) (Interval
   told : (r : Reg) → IsOne r → Told r
   told r i = ⊎_elim (λ e. inl (e, are.open_row r i e)) (λ p. inr (set r p, p)) (are.agree.places r i)
 
-  at_row : (r : Reg) (x : Row) → x.number ≡ r.number → P x.number ≡ P r.number
+  at_row : (r : Reg) (x : OpenInterval) → x.number ≡ r.number → P x.number ≡ P r.number
   at_row r x e = ap P e
 
   places : (r : Reg) → IsOne r → HasColourOrSlot (placed_by P r)
@@ -89,7 +90,7 @@ module _ (IsOne : Reg → Type 0) (AreJoined : ℕ → ℕ → Type 0) (Interval
       by (inr y) = fixed_one y.1 (stays r i y.0)
 
   -- a row and a fixed register that it is joined with
-  row_fixed : (r q : Reg) (x : Row) → IsOne q → IsIn x All → x.number ≡ r.number → x.origin ≡ r.origin → q.loc ≢ loc.Unset → HasColourOrSlot q → AreJoined r.number q.number →
+  row_fixed : (r q : Reg) (x : OpenInterval) → IsOne q → IsIn x All → x.number ≡ r.number → x.origin ≡ r.origin → q.loc ≢ loc.Unset → HasColourOrSlot q → AreJoined r.number q.number →
       P r.number ≡ P q.number → (r.origin ≡ q.origin) × (P r.number ≡ loc.Slot r.origin)
   row_fixed r q x j z e o set_q placed joined same =
       ⊎_elim (λ c. absurd (by_colour c.0 (at_row r x e ∙ same ∙ stays q j set_q) c.2)) (λ s. by_slot placed (sym (at_row r x e) ∙ s ∙ ap loc.Slot o)) (settled.chosen x z)
@@ -102,7 +103,7 @@ module _ (IsOne : Reg → Type 0) (AreJoined : ℕ → ℕ → Type 0) (Interval
       by_slot (in_colour n c l) s = absurd (machine_slot n r.origin (sym l ∙ sym (stays q j set_q) ∙ sym same ∙ s))
       by_slot (in_slot l) s = (same_slot r.origin q.origin (sym s ∙ same ∙ stays q j set_q ∙ l), s)
 
-  rows_apart : (r q : Reg) (x y : Row) → IsIn x All → IsIn y All → x.number ≡ r.number → y.number ≡ q.number → x.origin ≡ r.origin → y.origin ≡ q.origin → AreJoined r.number q.number →
+  rows_apart : (r q : Reg) (x y : OpenInterval) → IsIn x All → IsIn y All → x.number ≡ r.number → y.number ≡ q.number → x.origin ≡ r.origin → y.origin ≡ q.origin → AreJoined r.number q.number →
       P r.number ≡ P q.number → (r.origin ≡ q.origin) × (P r.number ≡ loc.Slot r.origin)
   rows_apart r q x y z w e f o u joined same =
       ⊎_elim (λ c. absurd (in_colours c.0 c.2)) (λ s. ⊎_elim (λ c. absurd (machine_slot c.0 x.origin (sym c.2 ∙ sym both ∙ s)))
@@ -150,7 +151,7 @@ module _ (IsOne : Reg → Type 0) (AreJoined : ℕ → ℕ → Type 0) (Interval
             by r x y.1 y.2 n (settled.full x y.1 k (at_row r x y.2 ∙ s) n (in_of n colour_numbers c));
       }
     where
-      by : (r : Reg) (x : Row) → IsIn x All → x.number ≡ r.number → (n : ℕ) → Full fs All P x n → (q : Reg) × IsOne q × Overlaps Interval r.number q.number × (P q.number ≡ loc.Machine n)
+      by : (r : Reg) (x : OpenInterval) → IsIn x All → x.number ≡ r.number → (n : ℕ) → Full fs All P x n → (q : Reg) × IsOne q × Overlaps Interval r.number q.number × (P q.number ≡ loc.Machine n)
       by r x z e n (by_fixed f w same m) =
           let h = are.fixed f w in
           let own = (are.is_row x z).3 in
@@ -187,8 +188,8 @@ module _ (IsOne : Reg → Type 0) (AreJoined : ℕ → ℕ → Type 0) (Interval
 
 -- ---- of what is known of rows
 
-module _ (IsOne : Reg → Type 0) (AreJoined : ℕ → ℕ → Type 0) (Interval : ℕ → ℕ → ℕ → Type 0) (closed : Closed) (fs : List FixedInterval) (start : Colouring) (rows : List Row)
-    (are : AreRows IsOne AreJoined Interval closed fs start rows) where
+module _ (IsOne : Reg → Type 0) (AreJoined : ℕ → ℕ → Type 0) (Interval : ℕ → ℕ → ℕ → Type 0) (closed : ClosedColours) (fs : List FixedInterval) (start : Colouring) (rows : List OpenInterval)
+    (are : AreScanRows IsOne AreJoined Interval closed fs start rows) where
   abbrev told_rows : Known IsOne AreJoined Interval closed fs start rows
   told_rows = known IsOne AreJoined Interval closed fs start rows are
 

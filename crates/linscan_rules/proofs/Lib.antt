@@ -1,5 +1,7 @@
 pub mod Scan
 pub mod Rows
-pub mod Intervals
+pub mod Sharing
 pub mod Contract
 pub mod Calls
+pub mod Tables
+pub mod Graphs

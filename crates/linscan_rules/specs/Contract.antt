@@ -3,7 +3,7 @@ use Rattle.std.specs.Prelude.{◌≡◌, ℕ, Contains}
 use Rattle.bs_words.specs.declared.types.Loc.TheVariants as loc
 use Rattle.mach_ir.specs.Placed.{Colouring, colour_numbers}
 use Rattle.mach_ir.specs.declared.reg.Reg.{Reg}
-use Rattle.linscan_rules.specs.Intervals.{Overlap}
+use Rattle.linscan_rules.specs.Ranges.{Overlap}
 
 -- Both have intervals, and these share a place. `Interval n from to` is the interval of the
 -- register of that number.

@@ -1,4 +1,5 @@
 pub mod Scan
-pub mod Intervals
+pub mod Ranges
 pub mod Rows
 pub mod Contract
+pub mod Table

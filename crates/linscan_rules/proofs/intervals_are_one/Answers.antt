@@ -1,4 +1,4 @@
-use Rattle.linscan_rules.proofs.Intervals.{interval_once}
+use Rattle.linscan_rules.proofs.Sharing.{interval_once}
 use Rattle.linscan_rules.proofs.intervals_are_one.Goals as goal
 
 pub returns : goal.returns

@@ -1,4 +1,4 @@
-use Rattle.linscan_rules.proofs.Intervals.{joined_overlap}
+use Rattle.linscan_rules.proofs.Sharing.{joined_overlap}
 use Rattle.linscan_rules.proofs.joined_registers_overlap.Goals as goal
 
 pub returns : goal.returns

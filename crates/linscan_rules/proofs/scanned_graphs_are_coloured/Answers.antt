@@ -1,5 +1,5 @@
 use Rattle.mach_ir.specs.Graph.{InGraph, JoinedIn}
-use Rattle.linscan_rules.specs.Intervals.{IsInterval}
+use Rattle.linscan_rules.specs.Ranges.{IsInterval}
 use Rattle.linscan_rules.proofs.Contract.{rows_coloured, rows_full}
 use Rattle.linscan_rules.proofs.scanned_graphs_are_coloured.Goals as goal
 

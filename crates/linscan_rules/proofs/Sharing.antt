@@ -3,7 +3,7 @@ use Rattle.std.proofs.Common.{◌≡◌, ℕ, suc, List, [], ◌∷◌, drop, re
 use Rattle.mach_ir.specs.Walks.{Live, read, on, aside, StandsAsInstr, here, below, Meets, at_write, at_params, Joined, one_way, other_way}
 use Rattle.mach_ir.specs.declared.mach.Instr.{Instr}
 use Rattle.mach_ir.specs.declared.mach.Mach.{Mach}
-use Rattle.linscan_rules.specs.Intervals.{IsAtPlace, at_entry, writes, before, after, IsInterval, Overlap}
+use Rattle.linscan_rules.specs.Ranges.{IsAtPlace, at_entry, writes, before, after, IsInterval, Overlap}
 
 -- the number of a place
 pub record IsPlace (i : Instr) (next code : List Instr) : Type 0 where
