@@ -17,7 +17,8 @@ from pathlib import Path
 HERE = Path(__file__).resolve().parent
 RUNTIME = HERE.parent / "examples/runtime"
 ROUNDS, RUNS = 3, 30
-GCC = ["riscv64-linux-gnu-gcc", "-std=gnu11", "-march=rv64imafd", "-mabi=lp64d", "-ffixed-s10", "-ffixed-s11"]  # 4-byte words
+# Instructions have 4 bytes, as cmmc's; a loop stays in the program where gcc knows a function of the C library for it.
+GCC = ["riscv64-linux-gnu-gcc", "-std=gnu11", "-march=rv64imafd", "-mabi=lp64d", "-fno-tree-loop-distribute-patterns"]
 ROOM = ["--stack=4194304", "--heap=4194304"]
 
 PROGRAMS = [
@@ -52,9 +53,9 @@ def harness(folder, level):
         objects.append(f"{folder}/{source}{level}.o")
         subprocess.run([*GCC, *options, "-w", "-c", str(HERE / f"{source}.c"), "-o", objects[-1]], check=True)
     subprocess.run(["riscv64-linux-gnu-gcc", "-static", *objects, "-o", f"{folder}/gcc{level}"], check=True)
-    own = {line.split()[-1] for line in listed("nm", *objects[:2]) if " T " in line or " t " in line}
-    placed = [line.split() for line in listed("nm", "-S", f"{folder}/gcc{level}")]
-    spans = [(int(row[0], 16), int(row[1], 16)) for row in placed if len(row) == 4 and row[3] in own]
+    own = {line.split()[-1] for line in listed("nm", *objects[:2]) if " T " in line}
+    placed = [line.split() for line in listed("nm", "-S", f"{folder}/gcc{level}") if " T " in line]
+    spans = [(int(row[0], 16), int(row[1], 16)) for row in placed if row[-1] in own]
     return f"{folder}/gcc{level}", min(at for at, _ in spans), max(at + size for at, size in spans)
 
 

@@ -114,7 +114,7 @@ static uint64_t copied(struct collection *c, uint64_t start, uint64_t block) {
         c->full = true; /* the run ends, so it does not matter what is done with the others */
         return start;
     }
-    memcpy(word_at(header), word_at(start - 8), bytes);
+    for (uint64_t at = 0; at < bytes; at += 8) *word_at(header + at) = *word_at(start - 8 + at);
     c->to->blocks[c->used / 8] = block;
     c->used += bytes;
     return header + 8;

@@ -51,6 +51,27 @@ BENCHMARKS = [
     ("misc.cmm", "main --args=20000"),
 ]
 
+# Programs that allocate far more than their heap holds, and hold little of it at a time.
+KEEP = b"""
+(function "boom" (n:int) (letmut i int n (while (> i 0) (alloc 1024 1) (assign i (- i 1))) (raise 3)))
+(function "keep" (n:int) (let p (alloc 2048 85 11) (try (app "boom" n int) with e (load val (+a p 8)))))
+"""
+ROUNDS = b"""
+(function "list" (n:int)
+  (letmut (l val 1 i int n) (while (> i 0) (assign l (alloc 2048 (+ (<< i 1) 1) l)) (assign i (- i 1))) l))
+(function "sum" (l:val s:int) (if (== l 1) s (app "sum" (load val (+a l 8)) (+ s (>>s (load int l) 1)) int)))
+(function "rounds" (n:int)
+  (letmut (s int 0 i int n)
+    (while (> i 0) (assign s (+ s (app "sum" (app "list" 100 val) 0 int))) (assign i (- i 1)))
+    s))
+"""
+SMALL_HEAPS = [
+    (KEEP, "keep --args=1000000 --heap=32", ["none", "timer:50"], "returned 11\n"),
+    (KEEP, "keep --args=20000 --heap=32", ["every"], "returned 11\n"),
+    (ROUNDS, "rounds --args=20000 --heap=2400", ["none", "timer:50"], "returned 101000000\n"),
+    (ROUNDS, "rounds --args=100 --heap=2400", ["every"], "returned 505000\n"),
+]
+
 # What no image, unknown names and so on give: the words, what is changed in the image, the status, the line.
 BAD_INPUT = [
     ("keeps --args=1 --args=2", None, 2, "runtime: U1 Words"),
@@ -64,10 +85,7 @@ BAD_INPUT = [
     ("keeps --args=1", lambda image: image[:8] + b"\3" + image[9:], 4, "runtime: G3 Version at 8"),
     ("keeps --args=1", lambda image: image[:-1], 4, "runtime: G1 Truncated at "),
     ("keeps --args=1", lambda image: image + b"\0", 4, "runtime: G6 Trailing at "),
-    ("keeps --args=-1 --heap=0 --moves=every", None, 0, "heap out"),
-    ("keeps --args=-1 --stack=0", None, 0, "stack out"),
 ]
-
 
 
 def section(name, body):
@@ -87,7 +105,6 @@ BAD_ROOT = (
     + section(b"DATA", bytes(8)) + section(b"SYMS", numbers(0)) + section(b"ROOT", numbers(0)) + section(b"EXTC", numbers(0))
     + section(b"DESC", numbers(1, 44) + b"\x10\0" + b"\1\0" + b"\x15\0")
 )
-BAD_INPUT.append(("m", lambda image: BAD_ROOT, 0, "stopped BadRoot"))
 
 
 def stop(reason):
@@ -133,10 +150,10 @@ class Trial:
         return outcome([self.cmmc, "run", *words, f"--moves={moves}"], image)
 
     def compare(self, name, words, image, wanted):
-        """One entry under all moves of the runtime. The answer is how many runs there were."""
+        """One entry under all moves of the runtime; wanted is one of some outcomes. The answer is how many runs there were."""
         for moves in MOVES:
             got = self.by_runtime(words, image, moves)
-            if got != wanted:
+            if got not in wanted:
                 self.differ += 1
                 print(f"{name}: {' '.join(words)} --moves={moves}\n  wanted {wanted}\n  got    {got}")
         return len(MOVES)
@@ -147,8 +164,8 @@ class Trial:
         for file, line in rows:
             words = line.split()
             image = self.image((ROOT / folder / file).read_bytes())
-            wanted = self.by_cmmc(words, image)
-            if self.by_cmmc(words, image, "every") != wanted:
+            wanted = {self.by_cmmc(words, image), self.by_cmmc(words, image, "every")}
+            if len(wanted) != 1:
                 print(f"{file}: {line}: `cmmc run` has two outcomes")
                 self.differ += 1
             runs += self.compare(file, words, image, wanted)
@@ -156,7 +173,7 @@ class Trial:
 
     def table(self, name):
         """Texts of a table of rows. What is wanted stands there; it was made apart from `cmmc`."""
-        entries, counted, freed, runs = {}, 0, 0, 0
+        entries, counted, small, runs = {}, 0, 0, 0
         for given, words, _, wanted in rows_of(name, "image "):
             if counts_instructions(words):
                 counted += 1
@@ -164,17 +181,18 @@ class Trial:
                 entries.setdefault((given, words), set()).add(wanted)
         for (given, words), outcomes in entries.items():
             image = self.image(given.encode())
-            if any(printed.endswith("heap out\n") for _, printed in outcomes):
-                # `cmmc run` keeps all blocks, and the runtime frees dead ones: wanted is the outcome in an ample heap
-                freed += 1
+            if any(word.startswith("--heap=") for word in words):
+                # `cmmc run` keeps dead blocks, and the runtime frees them, so it may end as in an ample heap
+                small += 1
                 ample = [word for word in words if not word.startswith("--heap=")] + ["--heap=67108864"]
-                outcomes = {self.by_cmmc(ample, image)}
-            if len(outcomes) != 1:
+                outcomes |= {self.by_cmmc(words, image, "every"), self.by_cmmc(ample, image)}
+            elif len(outcomes) != 1:
                 self.differ += 1
                 print(f"{name}: {' '.join(words)}: several outcomes are wanted")
-            runs += self.compare(name, words, image, outcomes.pop())
+            runs += self.compare(name, words, image, outcomes)
         print(f"table `{name}`: {len(set(given for given, _ in entries))} texts, {len(entries)} entries, {runs} runs; "
-              f"left out: {counted} rows that count instructions; in an ample heap: {freed} that end in heap out", flush=True)
+              f"{small} entries may end in heap out or as in an ample heap; left out: rows that count instructions, {counted}",
+              flush=True)
 
     def images(self):
         """Images of both versions, made by hand. Where blocks lie is the runtime's own matter: addresses of the heap are not
@@ -196,15 +214,38 @@ class Trial:
         print(f"table `images`: {versions[1]} runs of images of version 1, {versions[2]} of version 2; "
               f"left out: {left} that count instructions or run out of a heap that keeps dead blocks", flush=True)
 
+    def small_heaps(self):
+        """What the collector frees is used again: the blocks of these runs never fit their heaps together."""
+        runs = 0
+        for text, line, all_moves, wanted in SMALL_HEAPS:
+            image, words = self.image(text), line.split()
+            if self.by_cmmc(words, image, "every") != (0, "heap out\n"):
+                print(f"{line}: `cmmc run` has heap enough")
+                self.differ += 1
+            for moves in all_moves:
+                got = self.by_runtime(words, image, moves)
+                runs += 1
+                if got != (0, wanted):
+                    self.differ += 1
+                    print(f"{line} --moves={moves}\n  wanted {(0, wanted)}\n  got    {got}")
+        print(f"small heaps: {runs} runs that `cmmc run` ends in heap out", flush=True)
+
     def bad_input(self):
         image = self.image((ROOT / "examples/alloc_try.cmm").read_bytes())
         for line, change, status, wanted in BAD_INPUT:
-            given = image if change is None else change(image)
-            got = outcome([self.qemu, str(HERE / "runtime"), *line.split()], given)
-            if got[0] != status or not got[1].startswith(wanted) or got[1].count("\n") != 1:
-                self.differ += 1
-                print(f"bad input: {line}\n  wanted {(status, wanted)}\n  got    {got}")
-        print(f"bad input: {len(BAD_INPUT)} cases", flush=True)
+            self.one_line(line, image if change is None else change(image), status, wanted)
+        self.one_line("m", BAD_ROOT, 0, "stopped BadRoot")
+        frame_call = self.image((ROOT / "examples/frame_call.cmm").read_bytes())
+        self.one_line("kept --args=5 --answers=0,9 --heap=0", frame_call, 0, "heap out")
+        deep = self.image((ROOT / "bench/list.cmm").read_bytes())
+        self.one_line("main --args=5000 --stack=64", deep, 0, "stack out")
+        print(f"bad input: {len(BAD_INPUT) + 3} cases", flush=True)
+
+    def one_line(self, line, image, status, wanted):
+        got = outcome([self.qemu, str(HERE / "runtime"), *line.split()], image)
+        if got[0] != status or not got[1].startswith(wanted) or got[1].count("\n") != 1:
+            self.differ += 1
+            print(f"bad input: {line}\n  wanted {(status, wanted)}\n  got    {got}")
 
     def changed_images(self):
         """Each byte of an image is changed in turn, and the image is cut before it."""
@@ -277,6 +318,7 @@ def main():
     trial = Trial(cmmc, qemu)
     trial.files("examples", "examples", EXAMPLES)
     trial.bad_input()
+    trial.small_heaps()
     trial.table("compiled")
     trial.table("operators")
     trial.images()
