@@ -117,39 +117,20 @@ static const uint8_t *read_types(struct reader *r, uint8_t *count, uint8_t great
 
 /* ---- sections */
 
-static bool fits_table(const struct image *image, uint32_t length) {
-    (void)image;
-    return length <= TABLE_LIMIT;
-}
-
-static bool fits_code(const struct image *image, uint32_t length) {
-    for (uint32_t i = 0; i < image->functions_count; i++) {
-        const struct function *f = &image->functions[i];
-        if (f->offset + 4 * (uint64_t)f->words > length) return false;
-    }
-    return length % 4 == 0 && length >= 16 && length <= CODE_LIMIT;
-}
-
-static bool fits_data(const struct image *image, uint32_t length) {
-    (void)image;
-    return length >= 8 && length <= DATA_LIMIT;
-}
-
-/* The section's name, the length of its body, and whether the body is there. */
-static uint32_t section(struct reader *r, const char *name, const struct image *image,
-                        bool (*fits)(const struct image *, uint32_t)) {
+/* The section's name, the length of its body in bounds, and whether the body is there. */
+static uint32_t section(struct reader *r, const char *name, uint64_t least, uint32_t most, uint32_t multiple) {
     size_t at = r->at;
     if (memcmp(outer(r, 4), name, 4) != 0) refuse(4, "G4 Section at %zu", at);
     uint32_t length = number(outer(r, 4), 4);
-    if (!fits(image, length)) bad_table(r->at - 4);
+    if (length < least || length > most || length % multiple != 0) bad_table(r->at - 4);
     if (r->length - r->at < length) truncated(r);
     r->end = r->at + length;
     return length;
 }
 
 /* How many rows a table has. No room is made for rows that its body cannot hold. */
-static uint32_t rows(struct reader *r, const char *name, const struct image *image, size_t least) {
-    section(r, name, image, fits_table);
+static uint32_t rows(struct reader *r, const char *name, size_t least) {
+    section(r, name, 0, TABLE_LIMIT, 1);
     uint32_t count = u32(r);
     size_t most = (r->end - r->at) / least + 1;
     return count < most ? count : (uint32_t)most;
@@ -159,31 +140,33 @@ static void end_table(const struct reader *r) {
     if (r->at != r->end) bad_table(r->at);
 }
 
-static void read_functions(struct reader *r, struct image *image) {
-    uint32_t count = rows(r, "FUNC", image, 17);
-    uint64_t least = 0;
+/* The answer is where the last function ends. Code lies apart and in order, though a function may have no words. */
+static uint64_t read_functions(struct reader *r, struct image *image) {
+    uint32_t count = rows(r, "FUNC", 17);
+    uint64_t end = 0;
     struct set names = new_set(count);
     image->functions = memory(count, sizeof *image->functions);
     for (uint32_t i = 0; i < count; i++) {
         struct function *f = &image->functions[i];
         f->name = read_name(r, &names);
         f->offset = u32(r);
-        want(r, 4, f->offset % 4 == 0 && f->offset >= least);
+        want(r, 4, f->offset % 4 == 0 && f->offset >= end && (i == 0 || f->offset > f[-1].offset));
         f->words = u32(r);
         uint32_t frame = u32(r);
         want(r, 4, frame % 16 == 0);
         f->types = read_types(r, &f->parameters, ADDR);
         f->result = u8(r);
         want(r, 1, f->result <= NONE && f->result != ADDR);
-        least = f->offset + (f->words == 0 ? 4 : 4 * (uint64_t)f->words); /* offsets rise, though a function may be empty */
+        end = f->offset + 4 * (uint64_t)f->words;
     }
     image->functions_count = count;
     free(names.slots);
     end_table(r);
+    return end;
 }
 
 static void read_symbols(struct reader *r, struct image *image) {
-    uint32_t count = rows(r, "SYMS", image, 7), least = 0;
+    uint32_t count = rows(r, "SYMS", 7), least = 0;
     struct set names = new_set((size_t)count + image->functions_count); /* a symbol is no function either */
     for (uint32_t i = 0; i < image->functions_count; i++) insert(&names, image->functions[i].name);
     image->symbols = memory(count, sizeof *image->symbols);
@@ -200,7 +183,7 @@ static void read_symbols(struct reader *r, struct image *image) {
 }
 
 static void read_roots(struct reader *r, struct image *image) {
-    uint32_t count = rows(r, "ROOT", image, 4);
+    uint32_t count = rows(r, "ROOT", 4);
     uint64_t least = 0;
     image->roots = memory(count, sizeof *image->roots);
     for (uint32_t i = 0; i < count; i++) {
@@ -213,7 +196,7 @@ static void read_roots(struct reader *r, struct image *image) {
 }
 
 static void read_externals(struct reader *r, struct image *image) {
-    uint32_t count = rows(r, "EXTC", image, 5);
+    uint32_t count = rows(r, "EXTC", 5);
     struct set entries = new_set(count);
     image->externals = memory(count, sizeof *image->externals);
     for (uint32_t i = 0; i < count; i++) {
@@ -240,7 +223,7 @@ static bool fits_entry(uint32_t entry, uint32_t size) {
 
 static void read_descriptors(struct reader *r, struct image *image) {
     unsigned width = image->version == 1 ? 2 : 4;
-    uint32_t count = rows(r, "DESC", image, 4 + 2 * width);
+    uint32_t count = rows(r, "DESC", 4 + 2 * width);
     uint32_t *entries = memory((r->end - r->at) / width, sizeof *entries), least = FIRST_RETURN;
     image->descriptors = memory(count, sizeof *image->descriptors);
     for (uint32_t i = 0; i < count; i++) {
@@ -267,10 +250,10 @@ void read_image(struct image *image, const uint8_t *bytes, size_t length) {
     if (memcmp(outer(&r, 8), "CMMRV64\n", 8) != 0) refuse(4, "G2 Magic at 0");
     image->version = number(outer(&r, 4), 4);
     if (image->version != 1 && image->version != 2) refuse(4, "G3 Version at 8");
-    read_functions(&r, image);
-    image->code_bytes = section(&r, "CODE", image, fits_code);
+    uint64_t functions_end = read_functions(&r, image);
+    image->code_bytes = section(&r, "CODE", functions_end > 16 ? functions_end : 16, CODE_LIMIT, 4);
     image->code = outer(&r, image->code_bytes);
-    image->data_bytes = section(&r, "DATA", image, fits_data);
+    image->data_bytes = section(&r, "DATA", 8, DATA_LIMIT, 1);
     image->data = outer(&r, image->data_bytes);
     read_symbols(&r, image);
     read_roots(&r, image);

@@ -58,10 +58,17 @@ static void put_call(char *line, const struct external *e, const uint64_t *regis
 
 static void print_end(enum end end, const uint64_t *registers) {
     static const char *const text[] = {
-        [RETURNED] = "returned",         [RAISED] = "raised",           [STACK_OUT] = "stack out",
-        [HEAP_OUT] = "heap out",         [BAD_FETCH] = "stopped BadFetch", [BAD_WORD] = "stopped BadWord",
-        [BAD_ACCESS] = "stopped BadAccess", [BAD_SERVICE] = "stopped BadService", [BAD_REQUEST] = "stopped BadRequest",
-        [BAD_FRAME] = "stopped BadFrame",   [BAD_ROOT] = "stopped BadRoot",
+        [RETURNED] = "returned",
+        [RAISED] = "raised",
+        [STACK_OUT] = "stack out",
+        [HEAP_OUT] = "heap out",
+        [BAD_FETCH] = "stopped BadFetch",
+        [BAD_WORD] = "stopped BadWord",
+        [BAD_ACCESS] = "stopped BadAccess",
+        [BAD_SERVICE] = "stopped BadService",
+        [BAD_REQUEST] = "stopped BadRequest",
+        [BAD_FRAME] = "stopped BadFrame",
+        [BAD_ROOT] = "stopped BadRoot",
     };
     char value[LINE] = "";
     enum type type = end == RAISED ? VAL : end == RETURNED ? machine.run->entry->result : NONE;
