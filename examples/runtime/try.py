@@ -247,6 +247,16 @@ class Trial:
             self.differ += 1
             print(f"bad input: {line}\n  wanted {(status, wanted)}\n  got    {got}")
 
+    def document(self):
+        """The C that docs/runtime.md shows stands so in the sources."""
+        sources = "".join(path.read_text() for path in sorted(HERE.glob("*.[ch]")) + [HERE / "Makefile"])
+        shown = re.findall(r"^```(?:c|make)\n(.*?)^```$", (ROOT / "docs/runtime.md").read_text(), re.MULTILINE | re.DOTALL)
+        for piece in shown:
+            if piece not in sources:
+                self.differ += 1
+                print(f"docs/runtime.md shows what no source has:\n{piece}")
+        print(f"docs/runtime.md: {len(shown)} pieces of C", flush=True)
+
     def changed_images(self):
         """Each byte of an image is changed in turn, and the image is cut before it."""
         image = self.image((ROOT / "examples/frame_call.cmm").read_bytes())
@@ -316,6 +326,7 @@ def main():
     cmmc = tool(sys.argv[1] if len(sys.argv) > 1 else os.environ.get("CMMC", "cmmc"))
     subprocess.run(["make", "-s", "-C", str(HERE)], check=True)
     trial = Trial(cmmc, qemu)
+    trial.document()
     trial.files("examples", "examples", EXAMPLES)
     trial.bad_input()
     trial.small_heaps()
