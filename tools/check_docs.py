@@ -15,7 +15,8 @@ Of each Markdown file that git knows, or that is new and not ignored:
   crate in proved.md; NAME (`PATH`) and `NAME` in `PATH` in that file; and each other name in backticks that has an
   underscore or is in CamelCase stands somewhere in the crates;
 - tables: columns of crates name crates; a table of all crates has them in the order of crates.txt; the lists of
-  architecture.md have each once, after what it uses, and what a crate rests on is there and below it;
+  architecture.md have each once, after what it uses, and what a crate rests on is there and below it; a crate may be
+  described in proved.md in place of the second list;
 - the README, or a page that it leads to, links each page; commands.md has each text of examples/;
 - outputs: each fenced block of the kind `console` is what its commands print. A line `$ COMMAND` is run by bash at the
   top folder, with `cmmc` on the path (one that ends in a backslash goes on), one shell for a document; the lines up to
@@ -399,7 +400,7 @@ def check_proved():
     crates = []
     for start, lines in paragraphs(outside):
         joined = " ".join(l.strip() for l in lines)
-        head = re.match(r"^- ((?:`[a-z0-9_]+`(?:, )?)+)(: |$)", joined)
+        head = re.match(r"^- ((?:`[a-z0-9_]+`(?:, )?)+)(?: \((?:code|rules|rows)\))?(: |$)", joined)
         texts = []
         if head:
             crates = [c for c in TICKED.findall(head.group(1)) if c in CRATES]
@@ -498,7 +499,22 @@ def check_tables():
         if name not in seen:
             find(document, begin + 1, f"crate `{name}` is not in the list")
     check_order(document, "stands", seen)
-    # what each takes and gives
+    # what each takes and gives: there, or in proved.md beside what is proved of it
+    described = check_described(document, outside, begin, {})
+    described.update(check_described("docs/proved.md", blocks(read("docs/proved.md"))[0], 0, described))
+    for name in CRATES:
+        if name not in described:
+            find(document, begin + 1, f"crate `{name}` is not described")
+    for name in CRATES:
+        if f"crates/{name}" not in ALL_PATHS:
+            find("crates.txt", 1, f"crate `{name}` has no folder")
+    for path in {p.split("/")[1] for p in ALL_FILES if p.startswith("crates/")}:
+        if path not in CRATES:
+            find("crates.txt", 1, f"folder crates/{path} is no crate")
+
+
+def check_described(document, outside, begin, before):
+    """The crates that a page describes, each as `- `CRATE` (KIND): ..`, with the line; none of them is in `before`."""
     described = {}
     for start, lines in paragraphs(outside):
         if start <= begin or not lines[0].startswith("- "):
@@ -511,7 +527,7 @@ def check_tables():
         for name in names:
             if name not in CRATES:
                 find(document, start, f"`{name}` is no crate of crates.txt")
-            if name in described:
+            if name in described or name in before:
                 find(document, start, f"crate `{name}` is described twice")
             described[name] = start
         rests = re.search(r"Rests on (.*?)\.(?:\s|$)", joined)
@@ -526,16 +542,8 @@ def check_tables():
                     elif used in CRATES and name in BELOW and not any(
                             used in BELOW[n] for n in names if n in BELOW):
                         find(document, start, f"crate `{name}` does not use `{used}`")
-    for name in CRATES:
-        if name not in described:
-            find(document, begin + 1, f"crate `{name}` is not described")
     check_order(document, "is described", described)
-    for name in CRATES:
-        if f"crates/{name}" not in ALL_PATHS:
-            find("crates.txt", 1, f"crate `{name}` has no folder")
-    for path in {p.split("/")[1] for p in ALL_FILES if p.startswith("crates/")}:
-        if path not in CRATES:
-            find("crates.txt", 1, f"folder crates/{path} is no crate")
+    return described
 
 
 # ---- outputs
