@@ -1,7 +1,8 @@
 //! What `cmmc` and the layers below it say to each line of standard input, in tables.
 //!
-//! A line `= NAME` begins a table and prints nothing. The lines after it are the table's rows: `Subject` has the names, and
-//! what the rows of each table are about. The wanted lines of each table were made apart from this program.
+//! A line `= NAME` begins a table, and is printed again, so that the lines of each table can be told apart. The lines after
+//! it are the table's rows: `Subject` has the names, and what the rows of each table are about. The wanted lines of each
+//! table were made apart from this program.
 #![tactic(auto)]
 
 mod answers;
@@ -30,6 +31,8 @@ fn main(rt: HostRuntime) -> Result<()> {
                 left.end(&mut out)?;
                 subject = Subject::of(name)?;
                 table = Table::new(&rt, &top, alloc);
+                out.write_all(line.as_bytes())?;
+                out.write_all(b"\n")?;
             }
             None => left.take(&rt, &mut table, &mut out, subject, line.as_str())?,
         }
