@@ -1,5 +1,5 @@
 //! The registers whose places are open, in the order in which they are scanned.
-ghost use Rattle.std.specs.Prelude.{◌≡◌, ◌<◌, ◌++◌, ◌∷◌, ℕ, [], List, None, Contains, IfOk, IfSome, OnOk};
+ghost use Rattle.std.specs.Prelude.{◌≡◌, ◌<◌, ◌++◌, ◌∷◌, ℕ, [], List, None, IfOk, IfSome, OnOk};
 ghost use Rattle.std.specs.List.Sorted.{IsPermutation, IsSortedBy, IsStableBy};
 ghost use Rattle.bs_words.specs.declared.types.Loc.TheVariants as loc;
 ghost use Rattle.mach_ir.specs.Graph.{IsOrdered};

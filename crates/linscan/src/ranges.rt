@@ -1,5 +1,5 @@
 //! Where registers are seen, by their numbers.
-ghost use Rattle.std.specs.Prelude.{◌≡◌, ◌<◌, ℕ, true, None, All, length, slice_index_or, IfOk};
+ghost use Rattle.std.specs.Prelude.{◌≡◌, ◌<◌, ℕ, true, None, All, length, IfOk};
 ghost use Rattle.bs_bits.specs.Set.{has};
 ghost use Rattle.bs_words.specs.Contents.{contents};
 ghost use Rattle.linscan_rules.specs.Table.{AreByRegister};
