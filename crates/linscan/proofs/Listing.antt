@@ -8,12 +8,11 @@ use Rattle.std.proofs.lemmas.List.Quantifiers.{all_pairs_push}
 use Rattle.bs_words.specs.Contents.{contents}
 use Rattle.bs_words.proofs.Lists.{none_in, first_in, in_cons}
 use Rattle.mach_ir.specs.declared.mach.Mach.{Mach}
-use Rattle.linscan_rules.specs.Ranges.{IsAtPlace}
 use Rattle.linscan_rules.specs.Table.{IsIntervalsOf}
 use Rattle.linscan_rules.specs.declared.interval.Interval.{Interval}
 use Rattle.linscan_rules.specs.declared.interval.Intervals.{Intervals}
 use Rattle.linscan.specs.Listed.{AreRangesOf, AreRowsBelow}
-use Rattle.linscan.specs.Seen.{RangeTable, range_at, IsWithin, IsEnd, begins, ends}
+use Rattle.linscan.specs.Seen.{RangeTable, range_at, IsWithin, begins, ends}
 use Rattle.linscan.specs.declared.ranges.Range.{Range}
 
 abbrev Row : ℕ → Range → Interval

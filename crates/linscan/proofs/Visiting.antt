@@ -26,7 +26,7 @@ use Rattle.mach_laws.proofs.Walking.{among_numbers, in_numbers, place_is, ending
 use Rattle.liveness.proofs.Bounds.{killed_is_colour}
 use Rattle.linscan_rules.specs.Ranges.{IsAtPlace, at_entry, reads, writes, before, after}
 use Rattle.linscan.specs.Listed.{AreRangesOf}
-use Rattle.linscan.specs.Seen.{RangeTable, range_at, IsWithin, IsEnd, begins, ends, Widens, AreSights, AreMembersSeen, SeenAfter, IsSeen, is_read, is_written, is_live, is_live_after}
+use Rattle.linscan.specs.Seen.{RangeTable, range_at, IsWithin, IsEnd, begins, ends, Widens, AreSights, IsSeen, is_read, is_written, is_live, is_live_after}
 
 -- ---- the node of an instruction
 

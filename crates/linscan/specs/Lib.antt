@@ -1,2 +1,4 @@
+pub mod Held
 pub mod Listed
+pub mod Order
 pub mod Seen

@@ -1,11 +1,14 @@
 //! Where registers are seen, by their numbers.
-ghost use Rattle.std.specs.Prelude.{◌≡◌, ◌<◌, ℕ, true, None, All, length, slice_index_or, IfOk};
+ghost use Rattle.std.specs.Prelude.{◌≡◌, ◌<◌, ℕ, true, None, All, length, IfOk};
 ghost use Rattle.bs_bits.specs.Set.{has};
 ghost use Rattle.bs_words.specs.Contents.{contents};
+ghost use Rattle.linscan_rules.specs.Table.{AreByRegister};
+ghost use Rattle.linscan.specs.Order.{HasIntervals};
 ghost use Rattle.linscan.specs.Seen.{Widens, IsSight, AreSights, AreMembersSeen, AreBelow, SeenAfter, IsSeen, range_at, widened};
 
 use bs_bits::Bits;
 use dataflow::{Place, Rows};
+use linscan_rules::Intervals;
 use std::alloc::{AllocError, Global};
 use std::marker::Model;
 
@@ -59,6 +62,23 @@ impl Ranges {
         let mut items = Vec::with_capacity(alloc, size as usize)?;
         for _number in 0..size {
             items.push(None)?;
+        }
+        Ok(Ranges { items })
+    }
+
+    /// The ranges of a table of intervals. The only error is want of memory.
+    pub fn of_intervals(alloc: Global, intervals: &Intervals) -> Result<Self, AllocError>
+        requires { AreByRegister intervals.now }
+        ensures { IfOk result (HasIntervals (contents intervals.now.list)) }
+    {
+        let mut items = Vec::new(alloc);
+        for interval in intervals.list.as_slice() {
+            let range = Range {
+                from: interval.from,
+                to: interval.to,
+            };
+            items.resize(interval.register as usize, None)?;
+            items.push(Some(range))?;
         }
         Ok(Ranges { items })
     }

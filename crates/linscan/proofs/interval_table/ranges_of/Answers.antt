@@ -1,6 +1,4 @@
-use Rattle.std.proofs.Common.{◌<◌, suc, length, sym, subst, ap, ◌∙◌, arith}
-use Rattle.mach_ir.specs.Sizes.{number_limit}
-use Rattle.liveness.proofs.Counting.{places_fit}
+use Rattle.std.proofs.Common.{ap, ◌∙◌, arith}
 use Rattle.linscan.proofs.Visiting.{node_at_place, live_below, params_below, reads_below, writes_below, places_below, ranges_begun, ranges_more, ranges_all}
 use Rattle.mach_laws.specs.Graph.{numbers_of_registers}
 use Rattle.linscan.proofs.interval_table.ranges_of.Goals as goal
