@@ -1,12 +1,13 @@
 //! What may be chosen.
 
 /// How registers get their places (OCaml's `asmcomp/asmgen.ml`, its flag `-linscan`).
-/// What is made of a function is indexed by it, and the laws hold for every choice. There is one value
-/// today; a second is a second case in `Chooses` of `reg_rounds_rules`.
+/// What is made of a function is indexed by it, and the laws hold for every choice.
 #[derive(Clone, Copy, Drop)]
 pub enum Alloc {
     /// By colouring the graph of interference.
     Colour,
+    /// By linear scan: one register after the other, by where their intervals begin.
+    Linear,
 }
 
 /// In which order the lines of a straight run stand.

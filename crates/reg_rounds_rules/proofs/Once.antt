@@ -1,11 +1,19 @@
 -- Allocation makes one function of each: a function has one graph, for that a choice takes places that are one, and by these
 -- reloading makes one function and one answer.
-use Rattle.std.proofs.Common.{◌≡◌, ⊎_elim, ℕ, ◌<◌, ◌≤◌, Bool, true, false, refl, sym, subst, arith}
+use Rattle.std.proofs.Common.{◌≡◌, ⊎_elim, ℕ, ◌<◌, ◌≤◌, Bool, true, false, List, refl, sym, subst, arith}
+use Rattle.std.specs.List.{Contains}
+use Rattle.bs_words.specs.Contents.{contents}
 use Rattle.std.proofs.lemmas.Bool.{cases_lt, true≢false}
 use mathlib.Core.Path.{fun_ext}
 use Rattle.choices.specs.declared.choices.Alloc.{Alloc}
-use Rattle.choices.specs.declared.choices.Alloc.TheVariants.{Colour}
+use Rattle.choices.specs.declared.choices.Alloc.TheVariants.{Colour, Linear}
 use Rattle.colouring.proofs.Ordered.{one_colouring}
+use Rattle.linscan_rules.specs.Scan.{OpenInterval}
+use Rattle.linscan_rules.specs.Table.{IsOpenInterval, IsScannedBy}
+use Rattle.linscan_rules.specs.declared.interval.Interval.{Interval}
+use Rattle.linscan_rules.specs.declared.interval.Intervals.{Intervals}
+use Rattle.linscan_rules.proofs.Graphs.{scan_once}
+use Rattle.linscan_rules.proofs.Tables.{table_once}
 use Rattle.mach_ir.specs.Graph.{coloured_location}
 use Rattle.mach_ir.specs.Placed.{Colouring}
 use Rattle.mach_ir.specs.declared.graph.Colours.{Colours}
@@ -13,12 +21,44 @@ use Rattle.mach_ir.specs.declared.graph.Graph.{Graph}
 use Rattle.mach_ir.specs.declared.mach.Mach.{Mach}
 use Rattle.reload_rules.specs.Reloaded.{IsFree, IsReloadedBy}
 use Rattle.reload_rules.proofs.Together.{one_reloaded}
-use Rattle.reg_rounds_rules.specs.Rounds.{Chooses, IsRound, RoundsAsked, none_yet, one_more, EndsRounds, asks_no_more, gives_up, IsRegisterAllocated}
+use Rattle.reg_rounds_rules.specs.Rounds.{Chooses, IsLinearScan, IsRound, RoundsAsked, none_yet, one_more, EndsRounds, asks_no_more, gives_up, IsRegisterAllocated}
 use Rattle.reg_rounds_rules.proofs.Graphs.{graph_once}
+
+-- What a table leads to depends on what it holds alone.
+open_by : (g : Graph) (s t : Intervals) → contents s.list ≡ contents t.list → (x : OpenInterval) → IsOpenInterval g s x → IsOpenInterval g t x
+open_by g s t same x o = record {
+  reg = o.reg;
+  among = o.among;
+  is_open = o.is_open;
+  number = o.number;
+  origin = o.origin;
+  interval = subst (λ (list : List Interval). Contains list (record { register = x.number; from = x.from; to = x.to })) same o.interval;
+}
+
+scanned_by : (g : Graph) (s t : Intervals) (c : Colours) → contents s.list ≡ contents t.list → IsScannedBy g s c → IsScannedBy g t c
+scanned_by g s t c same by = record {
+  rows = by.rows;
+  ordered =
+      record {
+        exact =
+            λ x. (
+              λ among. open_by g s t same x (((by.ordered).exact x).0 among),
+              λ o. ((by.ordered).exact x).1 (open_by g t s (sym same) x o),
+            );
+        sorted = (by.ordered).sorted;
+      };
+  places = by.places;
+}
+
+one_scan : (m : Mach) (g : Graph) (c d : Colours) → IsLinearScan m g c → IsLinearScan m g d → (n : ℕ) → coloured_location c n ≡ coloured_location d n
+one_scan m g c d one two =
+    let same : contents (two.intervals).list ≡ contents (one.intervals).list = table_once m two.intervals one.intervals two.of_function one.of_function in
+    scan_once g one.intervals c d one.scanned (scanned_by g two.intervals one.intervals d same two.scanned)
 
 -- What is chosen for a graph is one.
 chosen_once : (alloc : Alloc) (fresh : ℕ) (m : Mach) (g : Graph) (c d : Colours) → Chooses alloc fresh m g c → Chooses alloc fresh m g d → coloured_location c ≡ coloured_location d
 chosen_once Colour fresh m g c d by_c by_d = fun_ext (one_colouring fresh g c d by_c.1 by_d.1)
+chosen_once Linear fresh m g c d by_c by_d = fun_ext (one_scan m g c d by_c by_d)
 
 module _ {alloc : Alloc} {fresh : ℕ} where
   same_place : {m q k : Mach} {a b : Bool} (r : IsRound alloc fresh m q a) (s : IsRound alloc fresh m k b) → coloured_location r.colours ≡ coloured_location s.colours

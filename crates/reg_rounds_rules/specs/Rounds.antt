@@ -2,8 +2,12 @@
 -- slots is reloaded, and the last resort.
 use Rattle.std.specs.Prelude.{◌≡◌, ℕ, suc, ◌+◌, ◌*◌, ◌<◌, ◌≤◌, Bool, true, false, length}
 use Rattle.choices.specs.declared.choices.Alloc.{Alloc}
-use Rattle.choices.specs.declared.choices.Alloc.TheVariants.{Colour}
+use Rattle.choices.specs.declared.choices.Alloc.TheVariants.{Colour, Linear}
 use Rattle.colouring.specs.Chosen.{IsGreedyColouring}
+use Rattle.linscan_rules.specs.Contract.{NoNeedlessSlotByIntervals}
+use Rattle.linscan_rules.specs.Ranges.{IsInterval}
+use Rattle.linscan_rules.specs.Table.{IsIntervalsOf, IsScannedBy}
+use Rattle.linscan_rules.specs.declared.interval.Intervals.{Intervals}
 use Rattle.mach_ir.specs.Formed.{WellFormed}
 use Rattle.mach_ir.specs.Graph.{InGraph, JoinedIn, IsGraph, coloured_location}
 use Rattle.mach_ir.specs.Keeps.{Keeps}
@@ -18,11 +22,20 @@ use Rattle.colouring_rules.specs.Places.{rest_in_slots}
 use Rattle.reload_rules.specs.Kept.{with_copies}
 use Rattle.reload_rules.specs.Reloaded.{IsFree, IsReloadedBy}
 
+-- What linear scan takes: the places to which the intervals of the function lead. None is in a slot
+-- needlessly, by intervals.
+pub record IsLinearScan (m : Mach) (g : Graph) (c : Colours) : Type 0 where
+  pub intervals : Intervals
+  pub of_function : IsIntervalsOf m intervals
+  pub no_needless : NoNeedlessSlotByIntervals (InGraph g) (IsInterval m) (coloured_location c)
+  pub scanned : IsScannedBy g intervals c
+
 -- Which places a choice takes for the graph of a function, where registers of this number on are those
 -- of reloads. Colouring puts none into a slot for which a colour is left, and its order settles the rest.
 abbrev pub Chooses : Alloc → ℕ → Mach → Graph → Colours → Type 0
 Chooses Colour fresh m g c =
     NoNeedlessSlot (InGraph g) (JoinedIn g) (coloured_location c) × IsGreedyColouring fresh g c
+Chooses Linear fresh m g c = IsLinearScan m g c
 
 -- One round: the graph of a function, places for its registers, what reloading makes of the function by
 -- these, and whether it asks for another round. Registers of this number on are those of reloads.
