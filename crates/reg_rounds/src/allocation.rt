@@ -1,6 +1,6 @@
 //! Register allocation, whole.
 ghost use Rattle.std.specs.Prelude.{IfOk};
-ghost use Rattle.choices.specs.declared.choices.Alloc.TheVariants.{Colour};
+ghost use Rattle.choices.specs.declared.choices.Alloc.TheVariants.{Colour, Linear};
 ghost use Rattle.mach_ir.specs.Formed.{WellFormed};
 ghost use Rattle.mach_ir.specs.Placed.{WellPlaced};
 ghost use Rattle.mach_ir.specs.Sizes.{HasRoom};
@@ -9,10 +9,10 @@ ghost use Rattle.colouring_rules.specs.Places.{ColoursLow};
 ghost use Rattle.reload_rules.specs.Kept.{with_copies};
 ghost use Rattle.reg_rounds_rules.specs.Rounds.{IsRound, IsAllocatedIn, allocated_size};
 
+use crate::choosing::chosen_places;
 use crate::copies::copy;
 use crate::slots::rest_in_slots;
 use choices::Alloc;
-use colouring::colour;
 use interfere::graph;
 use liveness::{LiveFlow, first_free, live_flow};
 use mach_ir::Mach;
@@ -45,14 +45,15 @@ fn round(alloc: Global, mach: Mach, by: Alloc, fresh: u32) -> Result<(Mach, bool
 {
     let LiveFlow { flow, live } = live_flow(alloc, &mach)?;
     let graph = graph(alloc, &mach, &live, &flow)?;
-    let colours = match by {
-        Alloc::Colour => colour(alloc, &graph, fresh)?,
-    };
+    let colours = chosen_places(alloc, &mach, &live, &flow, &graph, by, fresh)?;
     reload(alloc, mach, &colours)
 }
 
 /// A place for each register of a function by the choice, in how many rounds, and whether it gave up.
-fn rounds(alloc: Global, mach: Mach, by: Alloc) -> Result<Allocated, AllocError>
+///
+/// The time is that of the rounds, each of them that of liveness, of the graph and of choosing places by it.
+/// The only error is want of memory.
+pub fn allocate_by(alloc: Global, mach: Mach, by: Alloc) -> Result<Allocated, AllocError>
     requires formed { WellFormed mach }
     requires placed { WellPlaced mach }
     requires low { ColoursLow mach }
@@ -80,10 +81,7 @@ fn rounds(alloc: Global, mach: Mach, by: Alloc) -> Result<Allocated, AllocError>
     })
 }
 
-/// A place for each register of a function by colouring, in how many rounds, and whether it gave up.
-///
-/// The time is that of the rounds, each of them that of liveness, of the graph and of its colouring. The
-/// only error is want of memory.
+/// `allocate_by`, by colouring.
 pub fn allocate(alloc: Global, mach: Mach) -> Result<Allocated, AllocError>
     requires formed { WellFormed mach }
     requires placed { WellPlaced mach }
@@ -91,5 +89,16 @@ pub fn allocate(alloc: Global, mach: Mach) -> Result<Allocated, AllocError>
     requires room { HasRoom allocated_size mach }
     ensures { IfOk result (λ made. IsAllocatedIn Colour mach made.mach made.rounds made.rest) }
 {
-    rounds(alloc, mach, Alloc::Colour)
+    allocate_by(alloc, mach, Alloc::Colour)
+}
+
+/// `allocate_by`, by linear scan.
+pub fn allocate_linear(alloc: Global, mach: Mach) -> Result<Allocated, AllocError>
+    requires formed { WellFormed mach }
+    requires placed { WellPlaced mach }
+    requires low { ColoursLow mach }
+    requires room { HasRoom allocated_size mach }
+    ensures { IfOk result (λ made. IsAllocatedIn Linear mach made.mach made.rounds made.rest) }
+{
+    allocate_by(alloc, mach, Alloc::Linear)
 }

@@ -1,5 +1,5 @@
 use Rattle.mach_ir.specs.Graph.{coloured_location}
-use Rattle.mach_laws.proofs.Colouring.{colourable, colouring_of}
+use Rattle.mach_laws.proofs.Colouring.{colouring_of}
 use Rattle.pass_rules.specs.Measures.{other_operands}
 use Rattle.reload_rules.proofs.Room.{room_counts}
 use Rattle.reg_rounds.proofs.allocation.round.Goals as goal
@@ -10,8 +10,8 @@ live_flow-requires c = record { countable = room_counts (other_operands c.args.m
 pub graph-requires-clause-countable : goal.graph-requires-clause-countable
 graph-requires-clause-countable c = room_counts (other_operands c.args.mach.code) c.requires.room
 
-pub colour-requires : goal.colour-requires
-colour-requires c = colourable c.args.mach c.in_ok-graph.graph c.in_ok-graph.ensures c.requires.placed
+pub chosen_places-requires-clause-countable : goal.chosen_places-requires-clause-countable
+chosen_places-requires-clause-countable c = room_counts (other_operands c.args.mach.code) c.requires.room
 
 pub reload-requires-clause-colouring : goal.reload-requires-clause-colouring
 reload-requires-clause-colouring c =

@@ -4,7 +4,7 @@ use Rattle.reg_rounds_rules.proofs.Kept.{still_formed, still_placed, still_room}
 use Rattle.colouring_rules.specs.Places.{rest_in_slots}
 use Rattle.reload_rules.proofs.Room.{room_counts}
 use Rattle.reg_rounds.proofs.Turns.{next_asked, no_other, given_up}
-use Rattle.reg_rounds.proofs.allocation.rounds.Goals as goal
+use Rattle.reg_rounds.proofs.allocation.allocate_by.Goals as goal
 
 pub first_free-fresh-requires : goal.first_free-fresh-requires
 first_free-fresh-requires c =
