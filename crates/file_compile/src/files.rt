@@ -109,18 +109,12 @@ fn all_pieces<R: Threads + Sync, G: Gate + Sync>(
     map_in_halves(rt, alloc, tokens.as_slice(), jobs, &pieces_at)
 }
 
-/// The image of a checked file by what is chosen: each function through all passes, and then all of them, with the
-/// static data, the external calls and the frame descriptors.
+/// The image of a checked file: each function through all passes, and then all of them, with the static data, the
+/// external calls and the frame descriptors.
 ///
 /// Functions are lent in halves of their tokens to both sides of a join, each half with its part of the jobs, down to
-/// single functions or one job, and the gate hears of each. By one choice a file is made into one image only
-/// (`files_are_made_once`), so the image is the same for every number of jobs and every gate.
-///
-/// # Errors
-///
-/// `TooLarge` exactly where a section of that image passes its limit, with the first such section and its
-/// bytes. `OutOfMemory` where memory runs out.
-pub fn compile_by<R: Threads + Sync, G: Gate + Sync>(
+/// single functions or one job, and the gate hears of each.
+fn image_by<R: Threads + Sync, G: Gate + Sync>(
     rt: &R,
     alloc: Global,
     checked: &Checked,
@@ -147,8 +141,43 @@ pub fn compile_by<R: Threads + Sync, G: Gate + Sync>(
     assemble(rt, alloc, pieces.as_slice(), checked.typed(), &placed, jobs)
 }
 
-/// The image of a checked file by the defaults, as `compile_by` makes it. Runs of it do what the file means, it asks
-/// for allocations only in need, it is as small as the file asks, and its frame descriptors are exact.
+/// The image of a checked file by what is chosen: each function through all passes, and then all of them, with the
+/// static data, the external calls and the frame descriptors.
+///
+/// Runs of it do what the file means, it asks for allocations only in need, it is as small as the file asks, and its
+/// frame descriptors are exact. By one choice a file is made into one image only
+/// (`files_are_made_once`), so the image is the same for every number of jobs and every gate.
+///
+/// # Errors
+///
+/// `TooLarge` exactly where a section of that image passes its limit, with the first such section and its
+/// bytes. `OutOfMemory` where memory runs out.
+pub fn compile_by<R: Threads + Sync, G: Gate + Sync>(
+    rt: &R,
+    alloc: Global,
+    checked: &Checked,
+    choices: Choices,
+    jobs: u32,
+    gate: &G,
+) -> Result<Image, BuildError>
+    requires some_jobs { 1 ≤ jobs }
+    requires few_jobs { jobs ≤ 64 }
+    requires accepted { IsAcceptedFile (file_view checked.now) }
+    ensures made { IfOk result (λ image.
+        AreTablesMadeFor choices (file_view checked.now) (tables image)) }
+    ensures is_image { IfOk result IsImage }
+    ensures promised { IfOk result (λ image.
+        IsPromised choices (file_view checked.now) (tables image)) }
+    ensures fits { IfOk result (λ image. first_too_large (tables image) ≡ None) }
+    ensures large { (large : Large)
+        → result ≡ Err (BuildError.TooLarge large)
+        → (t : Tables)
+        × (AreTablesMadeFor choices (file_view checked.now) t × (first_too_large t ≡ Some large)) }
+{
+    image_by(rt, alloc, checked, choices, jobs, gate)
+}
+
+/// The image of a checked file by the defaults, as `compile_by` makes it.
 pub fn compile<R: Threads + Sync, G: Gate + Sync>(
     rt: &R,
     alloc: Global,

@@ -5,38 +5,20 @@ ghost use Rattle.cmm_types.specs.Typing.{IsFunctionAnnotated};
 ghost use Rattle.file_promise.specs.Known.{IsFunctionMade, in_order};
 ghost use Rattle.file_compile.specs.Accepted.{IsAcceptedFunction};
 ghost use Rattle.file_compile.specs.Listed.{IsAllocatedFor, IsLinearFor};
-ghost use Rattle.mach_ir.specs.Formed.{WellFormed};
-ghost use Rattle.mach_ir.specs.Placed.{WellPlaced};
-ghost use Rattle.mach_ir.specs.Sizes.{HasRoom};
-ghost use Rattle.colouring_rules.specs.Places.{ColoursLow};
-ghost use Rattle.reg_rounds.specs.Known.{IsAllocatedIn, allocated_size};
 
-use choices::{Alloc, Choices, Order};
+use choices::{Choices, Order};
 use cmm_tree::Function;
 use frame_tables::descriptors;
 use lin_ir::Lin;
 use lin_pass::linear;
 use mach_ir::Mach;
 use prepare::passed_to;
-use reg_rounds::{Allocated, allocate};
+use reg_rounds::{Allocated, allocate_by};
 use rv_emit::emit;
 use rv_pieces::Pieces;
 use selection::select_function;
 use stages::Stage;
 use std::alloc::{AllocError, Global};
-
-/// A place for each register of a function, by the choice.
-fn allocate_by(alloc: Global, mach: Mach, by: Alloc) -> Result<Allocated, AllocError>
-    requires formed { WellFormed mach }
-    requires placed { WellPlaced mach }
-    requires low { ColoursLow mach }
-    requires room { HasRoom allocated_size mach }
-    ensures { IfOk result (λ made. IsAllocatedIn by mach made.mach made.rounds made.rest) }
-{
-    match by {
-        Alloc::Colour => allocate(alloc, mach),
-    }
-}
 
 /// Lines in the order that is chosen.
 fn ordered(lin: Lin, order: Order) -> Lin
