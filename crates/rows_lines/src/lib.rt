@@ -1,8 +1,8 @@
 //! Lines of a table for the top call, and what `cmmc` says to each.
 //!
 //! A line has the words of a command, a bar, and what the command reads. That is a text; or, after `image`, a text whose
-//! image is read; or, after `bytes`, hexadecimal digits; or `same`, for what the line before read. Before the words it
-//! may be said which reads and writes fail (`read-fails=0`, `out-fails=1`, `err-fails=0`), which writes take nothing
+//! image is read, which options and a bar may stand before; or, after `bytes`, hexadecimal digits; or `same`, for what the
+//! line before read. Before the words it may be said which reads and writes fail (`read-fails=0`, `out-fails=1`, `err-fails=0`), which writes take nothing
 //! (`out-sticks=1`, `err-sticks=0`), and the most bytes of one read or write (`piece=4`).
 //!
 //! Each answer is the status, what went to out, in hexadecimal digits where it is an image, and what went to err, with
@@ -121,8 +121,14 @@ impl<'a, R: Threads + Sync, T: Top> Table<'a, R, T> {
         let Some(text) = input.strip_prefix("image ") else {
             return input.as_bytes().to_vec(self.alloc);
         };
-        let answer = self.answer_of("compile", text.as_bytes(), Watch::Open)?;
-        Ok(answer.out)
+        let mut compile = Line::of(self.alloc, "compile")?;
+        let Some((options, text)) = text.split_once(" | ") else {
+            return Ok(self.answered(compile, text.as_bytes(), Watch::Open)?.out);
+        };
+        for option in options.split(' ') {
+            compile.add(self.alloc, option)?;
+        }
+        Ok(self.answered(compile, text.as_bytes(), Watch::Open)?.out)
     }
 
     /// What the program answers to a line that reads these bytes.

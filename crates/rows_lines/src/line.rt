@@ -30,7 +30,7 @@ impl Line {
     }
 
     /// Takes the next word in.
-    fn add(&mut self, alloc: Global, word: &str) -> Result<(), AllocError> {
+    pub fn add(&mut self, alloc: Global, word: &str) -> Result<(), AllocError> {
         let (name, digits) = word.split_once('=').unwrap_or(("", word));
         let number = number_of(digits);
         let pushed = match name {
