@@ -3,3 +3,4 @@ pub mod Once
 pub mod Made
 pub mod Promise
 pub mod Known
+pub mod Agree

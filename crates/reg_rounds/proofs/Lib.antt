@@ -1,2 +1,3 @@
 pub mod Turns
+pub mod Scanned
 pub mod Known
