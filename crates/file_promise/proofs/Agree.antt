@@ -1,17 +1,20 @@
 -- Two correct images of one file do the same: both do what the text means.
-use Rattle.std.proofs.Common.{◌≡◌, ℕ, List, sym, ◌∙◌, refl}
+use Rattle.std.proofs.Common.{◌≡◌, ℕ, sym, subst, ◌∙◌}
 use Rattle.cmm_meaning.specs.Run.{Outcome, Returned, Raised, Asks, More, Improper, IsProper, Run}
 use Rattle.correctness.specs.Correct.{EndsAlike, IsGiven, Forwards}
 use Rattle.rv_machine.specs.Run.{Seen}
 use Rattle.rv_machine.specs.Services.{End}
 use Rattle.file_promise.specs.Agree.{AreRunsAlike, ComeToTheSame, AgreeOn}
 
+one_end : (outcome : Outcome) (e k : End) → IsProper outcome → EndsAlike outcome e → EndsAlike outcome k → e ≡ k
+one_end (Returned value) e k proper a b = a ∙ sym b
+one_end (Raised value) e k proper a b = a ∙ sym b
+one_end (Asks call) e k proper a b = a ∙ sym b
+one_end More e k proper a b = a ∙ sym b
+one_end (Improper kind) e k proper a b = absurd proper
+
 same_end : (outcome other : Outcome) (e k : End) → outcome ≡ other → IsProper outcome → EndsAlike outcome e → EndsAlike other k → e ≡ k
-same_end (Returned value) _ e k refl proper a b = a ∙ sym b
-same_end (Raised value) _ e k refl proper a b = a ∙ sym b
-same_end (Asks call) _ e k refl proper a b = a ∙ sym b
-same_end More _ e k refl proper a b = a ∙ sym b
-same_end (Improper kind) _ e k refl proper a b = absurd proper
+same_end outcome other e k same proper a b = one_end outcome e k proper a (subst (λ (o : Outcome). EndsAlike o k) (sym same) b)
 
 pub agree : (run other_run : ℕ → Run) (machine other : ℕ → Seen) (stack heap words other_words : ℕ) → Forwards run machine stack heap words →
     Forwards other_run other stack heap other_words → AgreeOn run other_run machine other stack heap

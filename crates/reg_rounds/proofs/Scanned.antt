@@ -1,5 +1,6 @@
 -- What linear scan takes, of what scanning promises.
-use Rattle.std.proofs.Common.{ℕ}
+use Rattle.std.proofs.Common.{ℕ, Result, Ok, Err}
+use Rattle.std.specs.Prelude.{IfOk}
 use Rattle.mach_ir.specs.Graph.{InGraph, coloured_location}
 use Rattle.mach_ir.specs.declared.graph.Colours.{Colours}
 use Rattle.mach_ir.specs.declared.graph.Graph.{Graph}
@@ -10,7 +11,7 @@ use Rattle.linscan_rules.specs.Table.{IntervalIn, IsIntervalsOf, IsScannedBy}
 use Rattle.linscan_rules.specs.declared.interval.Intervals.{Intervals}
 use Rattle.reg_rounds_rules.specs.Rounds.{IsLinearScan}
 
-module _ (m : Mach) (g : Graph) (t : Intervals) (c : Colours) (of : IsIntervalsOf m t) where
+module _ (m : Mach) (g : Graph) (t : Intervals) (of : IsIntervalsOf m t) where
   of_function : (n k : ℕ) → Overlaps (IntervalIn t) n k → Overlaps (IsInterval m) n k
   of_function n k o = record {
     from = o.from;
@@ -22,8 +23,8 @@ module _ (m : Mach) (g : Graph) (t : Intervals) (c : Colours) (of : IsIntervalsO
     overlap = o.overlap;
   }
 
-  pub scan_taken : NoNeedlessSlotByIntervals (InGraph g) (IntervalIn t) (coloured_location c) → IsScannedBy g t c → IsLinearScan m g c
-  scan_taken full by = record {
+  taken : (c : Colours) → NoNeedlessSlotByIntervals (InGraph g) (IntervalIn t) (coloured_location c) → IsScannedBy g t c → IsLinearScan m g c
+  taken c full by = record {
     intervals = t;
     of_function = of;
     no_needless =
@@ -32,3 +33,8 @@ module _ (m : Mach) (g : Graph) (t : Intervals) (c : Colours) (of : IsIntervalsO
         };
     scanned = by;
   }
+
+  pub scan_taken : {E : Type 0} (r : Result Colours E) → IfOk r (λ (c : Colours). NoNeedlessSlotByIntervals (InGraph g) (IntervalIn t) (coloured_location c)) →
+      IfOk r (IsScannedBy g t) → IfOk r (IsLinearScan m g)
+  scan_taken (Ok c) full by = taken c full by
+  scan_taken (Err e) full by = tt

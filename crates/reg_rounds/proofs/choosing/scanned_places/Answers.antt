@@ -9,3 +9,7 @@ scan-requires-clause-colourable c = colourable c.args.mach.now c.args.graph.now 
 pub scan-requires-clause-scannable : goal.scan-requires-clause-scannable
 scan-requires-clause-scannable c =
     scannable c.args.mach.now c.args.graph.now c.in_ok-intervals.intervals (c.requires.placed).colours c.requires.graph c.in_ok-intervals.ensures
+
+pub returns-clause-taken : goal.returns-clause-taken
+returns-clause-taken c =
+    scan_taken c.args.mach.now c.args.graph.now c.in_ok-intervals.intervals c.in_ok-intervals.ensures c.scan.result c.scan.ensures.full c.scan.ensures.value
