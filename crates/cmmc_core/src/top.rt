@@ -76,7 +76,9 @@ fn dispatch<R: Threads + Sync, S: Source, K: Sink, E: Sink, G: Gate + Sync>(
         result }
 {
     match read_words(alloc, words) {
-        Ok(Command::Compile { choices, jobs }) => match compile_source(rt, alloc, choices, jobs, source, gate) {
+        Ok(Command::Compile { choices, jobs }) => match compile_source(
+            rt, alloc, choices, jobs, source, gate,
+        ) {
             Ok(bytes) => match write_all(out, bytes.as_slice()) {
                 Ok(()) => WRITTEN,
                 Err(_) => WRITE_FAULT,
