@@ -75,25 +75,25 @@ module _ (source out : Side) (text : List ℕ) (known : source.before ≡ Some t
       let h = read_same source text known _ (AsksForCall check) file is_file c unfit_of r in
       call_unfit check h.0.file h.1.entry h.1.args h.1.answers h.1.call h.0.unfit
 
-  fits_of : (lines : List ℕ) (t : List ℕ) → IsCheckOf check t lines → (file : FileTree) × (IsFileOf t file × Fits file)
+  fits_of : (lines : List ℕ) (t : List ℕ) → IsCheckOf check t lines → (file : FileTree) × (IsFileOf t file × Fits check.choices file)
   fits_of lines t h = (h.file, (h.is_file, (h.image, (h.made.made, h.fits))))
 
-  passed_of : (large : Large) (t : List ℕ) → IsTooLargeToCheck check t large → (file : FileTree) × (IsFileOf t file × IsPassed file)
+  passed_of : (large : Large) (t : List ℕ) → IsTooLargeToCheck check t large → (file : FileTree) × (IsFileOf t file × IsPassed check.choices file)
   passed_of large t h = (h.file, (h.is_file, record { large = large; passes = (h.image, (h.made.made, h.passes)); not_roomy = h.not_roomy }))
 
-  image_end : (status : ℕ) → OrNoMemory status (CheckEnd check source out status) → ImageEnd text (AsksForCall check) (AsksForCall check) out status
+  image_end : (status : ℕ) → OrNoMemory status (CheckEnd check source out status) → ImageEnd check.choices text (AsksForCall check) (AsksForCall check) out status
   image_end status (inl z) = no_memory z
-  image_end status (inr (answered lines z r)) = output z (λ file is_file c. file_has source text known _ Fits file is_file (fits_of lines) r)
+  image_end status (inr (answered lines z r)) = output z (λ file is_file c. file_has source text known _ (Fits check.choices) file is_file (fits_of lines) r)
   image_end status (inr (unanswered line (fault g r))) = unasked (λ file is_file c. no_fault source text known file g is_file r)
   image_end status (inr (unanswered line (no_entry r))) = unasked (λ file is_file c. unnamed file is_file c r)
   image_end status (inr (unanswered line (unfit r))) = unasked (λ file is_file c. misfits file is_file c r)
   image_end status (inr (unanswered line (too_large large r))) =
-      passed refl (λ file is_file c. (c, file_has source text known _ IsPassed file is_file (passed_of large) r))
+      passed refl (λ file is_file c. (c, file_has source text known _ (IsPassed check.choices) file is_file (passed_of large) r))
 
   pub check-complete : (status : ℕ) → OrNoMemory status (CheckEnd check source out status) → CheckComplete check text out status
   check-complete status e = record {
     fault = fault_end status e;
     no_entry = entry_end status e;
     unfit = unfit_end status e;
-    image = image-complete text (AsksForCall check) (AsksForCall check) (λ file c. c) out status (image_end status e);
+    image = image-complete check.choices text (AsksForCall check) (AsksForCall check) (λ file c. c) out status (image_end status e);
   }

@@ -21,10 +21,10 @@ module _ (words : List (List ℕ)) (e : Effects) (status : ℕ) (ends : CommandE
   Ends-complete = record {
     no_command = λ not reported. no_command_end words e.source e.out status (told words e status ends reported) not;
     no_value = λ not reported. no_value_end words e.source e.out status (told words e status ends reported) not;
-    compile = λ is calm reported text known. compile-complete e.source e.out text known status (end_of (CompileCommand is.0) is.1 (λ h. calm) reported);
+    compile = λ choices is calm reported text known. compile-complete e.source e.out text known choices status (end_of (CompileCommand choices is.0) is.1 (λ h. calm) reported);
     run = λ run is calm reported bytes known. run-complete e.source e.out bytes known run status (end_of (RunCommand run) is (λ h. calm) reported);
     check = λ check is calm reported text known. check-complete e.source e.out text known check status (end_of (CheckCommand check) is (λ h. calm) reported);
-    list = λ stage is calm reported text known. list-complete e.source e.out text known stage status (end_of (ListCommand stage) is (λ h. calm) reported);
+    list = λ choices stage is calm reported text known. list-complete e.source e.out text known choices stage status (end_of (ListCommand choices stage) is (λ h. calm) reported);
     soak = λ seed functions is reported.
         soak-complete seed functions (command_within words (SoakCommand seed functions) is).2 e.out status (end_of (SoakCommand seed functions) is (λ h rose. h) reported);
   }

@@ -1,5 +1,6 @@
 -- How `soak` ends: the text that is drawn has one file, and no fault.
 use Rattle.std.proofs.Common.{◌≡◌, ◌⊎◌, ℕ, ◌≤◌, subst, inl, inr}
+use Rattle.choices.specs.Defaults.{defaults}
 use Rattle.cmm_front.proofs.OneFile.{one_file}
 use Rattle.cmm_front.specs.FileOf.{IsFileOf}
 use Rattle.cmm_tree.specs.Tree.{FileTree}
@@ -21,17 +22,17 @@ module _ (seed functions : ℕ) (few : functions ≤ 1000) (out : Side) where
   accepted_end status (inr (reported lines z h)) = inl (has_output out status z)
   accepted_end status (inr (unreported large z h)) = inr z
 
-  image_end : (status : ℕ) → OrNoMemory status (SoakEnd seed functions out status) → ImageEnd (soak_text seed functions) Every Every out status
+  image_end : (status : ℕ) → OrNoMemory status (SoakEnd seed functions out status) → ImageEnd defaults (soak_text seed functions) Every Every out status
   image_end status (inl z) = no_memory z
   image_end status (inr (reported lines z h)) =
       let i = h.trial.is_image in
-      output z (λ file is_file sized. same_file Fits i.file file i.is_file is_file (h.image, (i.made.made, i.fits)))
+      output z (λ file is_file sized. same_file (Fits defaults) i.file file i.is_file is_file (h.image, (i.made.made, i.fits)))
   image_end status (inr (unreported large z h)) =
-      let of = large_of large (soak_text seed functions) h in
-      passed z (λ file is_file ask. (tt, same_file IsPassed of.0 file of.1.0 is_file of.1.1))
+      let of = large_of defaults large (soak_text seed functions) h in
+      passed z (λ file is_file ask. (tt, same_file (IsPassed defaults) of.0 file of.1.0 is_file of.1.1))
 
   pub soak-complete : (status : ℕ) → OrNoMemory status (SoakEnd seed functions out status) → SoakComplete seed functions out status
   soak-complete status e = record {
     accepted = accepted_end status e;
-    image = image-complete (soak_text seed functions) Every Every (λ file sized. tt) out status (image_end status e);
+    image = image-complete defaults (soak_text seed functions) Every Every (λ file sized. tt) out status (image_end status e);
   }

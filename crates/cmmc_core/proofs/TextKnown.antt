@@ -3,6 +3,7 @@ use Rattle.std.proofs.Common.{◌≡◌, ℕ, ◌+◌, ◌≤◌, List, Option, 
 use Rattle.bs_fault.specs.Limits.{longest_text}
 use Rattle.bs_fault.specs.declared.fault.Fault.{Fault}
 use Rattle.bs_fault.specs.declared.large.Large.{Large}
+use Rattle.choices.specs.declared.choices.Choices.{Choices}
 use Rattle.cmm_front.proofs.OneFile.{one_file, file_or_fault}
 use Rattle.cmm_front.proofs.Readings.{is_read}
 use Rattle.cmm_front.specs.FileOf.{IsFileOf, HasFault}
@@ -11,7 +12,6 @@ use Rattle.cmm_tree.specs.Tree.{FileTree}
 use Rattle.correctness.specs.Bounds.{IsRoomy}
 use Rattle.image_form.specs.Tables.{Tables}
 use Rattle.rv_layout_rules.specs.TooLarge.{first_too_large}
-use Rattle.choices.specs.Defaults.{defaults}
 use Rattle.commands.specs.Known.{AreTablesMadeFor}
 use Rattle.commands.proofs.Known.{bytes_of, made_for_once}
 use Rattle.commands.specs.Compile.{ReadsText}
@@ -20,25 +20,25 @@ use Rattle.commands.proofs.Reading.{all, too_long, IsRead-known}
 
 -- ---- images of files
 
--- the image that is made for the file fits
-abbrev pub Fits : FileTree → Type 0
-Fits file = (image : Tables) × (AreTablesMadeFor defaults file image × (first_too_large image ≡ None))
+-- the image that is made for the file by what is chosen fits
+abbrev pub Fits : Choices → FileTree → Type 0
+Fits choices file = (image : Tables) × (AreTablesMadeFor choices file image × (first_too_large image ≡ None))
 
 -- or this section of it is the first to pass its limit
-abbrev pub Passes : Large → FileTree → Type 0
-Passes large file = (image : Tables) × (AreTablesMadeFor defaults file image × (first_too_large image ≡ Some large))
+abbrev pub Passes : Choices → Large → FileTree → Type 0
+Passes choices large file = (image : Tables) × (AreTablesMadeFor choices file image × (first_too_large image ≡ Some large))
 
 pub some_none : {A : Type 0} (o : Option A) (x : A) → o ≡ Some x → o ≡ None → ⊥
 some_none o x s n = let e : Some x ≡ None = sym s ∙ n in cc
 
 -- so does some section of it, and then the file is not roomy
-pub record IsPassed (file : FileTree) : Type 0 where
+pub record IsPassed (choices : Choices) (file : FileTree) : Type 0 where
   pub large : Large
-  pub passes : Passes large file
+  pub passes : Passes choices large file
   pub not_roomy : IsRoomy file → ⊥
 
 -- one image is made for a file: it does not do both
-pub not_both : (file : FileTree) (large : Large) → Fits file → Passes large file → ⊥
+pub not_both : {choices : Choices} (file : FileTree) (large : Large) → Fits choices file → Passes choices large file → ⊥
 not_both file large fits passes =
     let fit : Tables → Type 0 = λ t. first_too_large t ≡ None in
     some_none (first_too_large passes.0) large passes.1.1 (subst fit (made_for_once file fits.0 passes.0 fits.1.0 passes.1.0) fits.1.1)

@@ -3,6 +3,8 @@
 use Rattle.std.specs.Prelude.{⊤, ◌≡◌, ◌⊎◌, ℕ, List, Some, None}
 use Rattle.bs_fault.specs.declared.fault.Fault.{Fault}
 use Rattle.bs_fault.specs.declared.large.Large.{Large}
+use Rattle.choices.specs.declared.choices.Choices.{Choices}
+use Rattle.choices.specs.Defaults.{defaults}
 use Rattle.cmm_front.specs.FileOf.{IsFileOf, HasFault}
 use Rattle.cmm_tree.specs.Tree.{FileTree}
 use Rattle.command_line.specs.Command.{IsCommand, AsksToCompile, CommandTree, RunCommand, CheckCommand, ListCommand, SoakCommand, RunTree, CheckTree}
@@ -11,7 +13,6 @@ use Rattle.correctness.specs.Bounds.{IsRoomy}
 use Rattle.stages.specs.Image.{IsOfImage}
 use Rattle.image_form.specs.Tables.{Tables, Func}
 use Rattle.rv_layout_rules.specs.TooLarge.{first_too_large}
-use Rattle.choices.specs.Defaults.{defaults}
 use Rattle.commands.specs.Known.{AreTablesMadeFor, NamesNone, HasUnfit, IsCall}
 use Rattle.rv_machine.specs.Loading.{func_named, words_of_args}
 use Rattle.stages.specs.declared.stage.Stage.{Stage}
@@ -34,12 +35,12 @@ HasOutput out status = Is 0 status ⊎ (Rose out × (status ≡ 6))
 
 -- ---- texts
 
--- What a command comes to by the image that is made for the text's file, where it is asked of that
--- file. Where the command needs an image that fits (`IsSized`), and it does not, the status is 8.
+-- What a command comes to by the image that is made for the text's file by what is chosen, where it is
+-- asked of that file. Where the command needs an image that fits (`IsSized`), and it does not, the status is 8.
 -- That a text without a fault gives 0, 8, 9 or 6 is said for itself (`accepted`): clauses over the image
 -- that is made do not say that there is one.
 pub record ImageComplete
-    (text : List ℕ) (IsAsked IsSized : FileTree → Type 0) (out : Side) (status : ℕ)
+    (choices : Choices) (text : List ℕ) (IsAsked IsSized : FileTree → Type 0) (out : Side) (status : ℕ)
     : Type 0 where
   -- there is an output, or the image of the file must fit, and a section of it passes its limit
   pub accepted : (file : FileTree)
@@ -50,7 +51,7 @@ pub record ImageComplete
   pub fits : (file : FileTree) (image : Tables)
       → IsFileOf text file
       → IsAsked file
-      → AreTablesMadeFor defaults file image
+      → AreTablesMadeFor choices file image
       → first_too_large image ≡ None
       → HasOutput out status
   pub roomy : (file : FileTree)
@@ -61,7 +62,7 @@ pub record ImageComplete
   pub too_large : (file : FileTree) (image : Tables) (large : Large)
       → IsFileOf text file
       → IsSized file
-      → AreTablesMadeFor defaults file image
+      → AreTablesMadeFor choices file image
       → first_too_large image ≡ Some large
       → Is 8 status
 
@@ -70,10 +71,10 @@ abbrev pub Every : FileTree → Type 0
 Every file = ⊤
 
 -- What `compile` comes to on a text that the source is known to hold.
-pub record CompileComplete (text : List ℕ) (out : Side) (status : ℕ) : Type 0 where
+pub record CompileComplete (choices : Choices) (text : List ℕ) (out : Side) (status : ℕ) : Type 0 where
   pub fault : (told : Fault) → HasFault text told → Is 3 status
   -- a text without a fault is compiled, or a section of its image passes its limit
-  pub image : ImageComplete text Every Every out status
+  pub image : ImageComplete choices text Every Every out status
 
 -- What `run` comes to on bytes that the source is known to hold.
 pub record RunComplete (run : RunTree) (bytes : List ℕ) (out : Side) (status : ℕ) : Type 0 where
@@ -116,19 +117,19 @@ pub record CheckComplete (check : CheckTree) (text : List ℕ) (out : Side) (sta
       → Is 2 status
   pub unfit : (file : FileTree) → IsFileOf text file → HasUnfit check file → Is 2 status
   -- a call that suits is run, whatever becomes of the run
-  pub image : ImageComplete text (AsksForCall check) (AsksForCall check) out status
+  pub image : ImageComplete check.choices text (AsksForCall check) (AsksForCall check) out status
 
 -- What `list` comes to on a text that the source is known to hold.
-pub record ListComplete (stage : Stage) (text : List ℕ) (out : Side) (status : ℕ) : Type 0 where
+pub record ListComplete (choices : Choices) (stage : Stage) (text : List ℕ) (out : Side) (status : ℕ) : Type 0 where
   pub fault : (told : Fault) → HasFault text told → Is 3 status
   -- a text without a fault is listed; only a stage of the image asks that it fits
-  pub image : ImageComplete text Every (λ file. IsOfImage stage) out status
+  pub image : ImageComplete choices text Every (λ file. IsOfImage stage) out status
 
--- What `soak` comes to. The text that is drawn has no fault.
+-- What `soak` comes to. The text that is drawn has no fault. None of the words chooses.
 pub record SoakComplete (seed functions : ℕ) (out : Side) (status : ℕ) : Type 0 where
   -- it is tried, whatever becomes of the runs, or a section of its image passes its limit
   pub accepted : HasOutput out status ⊎ (status ≡ 8)
-  pub image : ImageComplete (soak_text seed functions) Every Every out status
+  pub image : ImageComplete defaults (soak_text seed functions) Every Every out status
 
 -- The words and what the source is known to hold give the status, but for want of memory. A fault of
 -- out matters only where there is an output, and one of the source only where it is read.
@@ -138,12 +139,13 @@ pub record Complete (words : List (List ℕ)) (e : Effects) (status : ℕ) : Typ
   pub no_value : ((command : CommandTree) → IsCommand words command → ⊥)
       → HasNotRisen e.err
       → Is 2 status
-  pub compile : AsksToCompile words
+  pub compile : (choices : Choices)
+      → AsksToCompile words choices
       → HasNotRisen e.source
       → HasNotRisen e.err
       → (text : List ℕ)
       → e.source.before ≡ Some text
-      → CompileComplete text e.out status
+      → CompileComplete choices text e.out status
   pub run : (run : RunTree)
       → IsCommand words (RunCommand run)
       → HasNotRisen e.source
@@ -158,13 +160,13 @@ pub record Complete (words : List (List ℕ)) (e : Effects) (status : ℕ) : Typ
       → (text : List ℕ)
       → e.source.before ≡ Some text
       → CheckComplete check text e.out status
-  pub list : (stage : Stage)
-      → IsCommand words (ListCommand stage)
+  pub list : (choices : Choices) (stage : Stage)
+      → IsCommand words (ListCommand choices stage)
       → HasNotRisen e.source
       → HasNotRisen e.err
       → (text : List ℕ)
       → e.source.before ≡ Some text
-      → ListComplete stage text e.out status
+      → ListComplete choices stage text e.out status
   pub soak : (seed functions : ℕ)
       → IsCommand words (SoakCommand seed functions)
       → HasNotRisen e.err

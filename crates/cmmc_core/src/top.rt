@@ -30,6 +30,8 @@ use std::thread::Threads;
 ///   last function, by the meaning of the text, and on the machine where nothing moves and where
 ///   the seed draws what moves.
 ///
+/// `compile`, `check` and `list` go by what their words choose, `soak` by the defaults.
+///
 /// At `compile`, `check` and `soak` the gate hears of each function that is compiled.
 ///
 /// The statuses are 0 where the output was written whole, 2 where the words are no command or do
@@ -74,7 +76,9 @@ fn dispatch<R: Threads + Sync, S: Source, K: Sink, E: Sink, G: Gate + Sync>(
         result }
 {
     match read_words(alloc, words) {
-        Ok(Command::Compile { jobs }) => match compile_source(rt, alloc, jobs, source, gate) {
+        Ok(Command::Compile { choices, jobs }) => match compile_source(
+            rt, alloc, choices, jobs, source, gate,
+        ) {
             Ok(bytes) => match write_all(out, bytes.as_slice()) {
                 Ok(()) => WRITTEN,
                 Err(_) => WRITE_FAULT,
@@ -83,7 +87,7 @@ fn dispatch<R: Threads + Sync, S: Source, K: Sink, E: Sink, G: Gate + Sync>(
             Err(Refusal::Text(why)) => tell_refusal(alloc, err, &why),
         },
         Ok(Command::Check(words)) => check(rt, alloc, &words, source, out, err, gate),
-        Ok(Command::List(stage)) => list(rt, alloc, stage, source, out, err),
+        Ok(Command::List(choices, stage)) => list(rt, alloc, choices, stage, source, out, err),
         Ok(Command::Soak { seed, functions }) => {
             soak(rt, alloc, seed, functions, out, err, gate)
         }

@@ -6,12 +6,14 @@ use Rattle.command_line.specs.declared.form.CommandWord.TheVariants as word
 use Rattle.command_line.specs.declared.form.Slot.{Slot}
 use Rattle.command_line.specs.declared.form.Slot.TheVariants.{Plain, Args, Answers, Steps, Stack, Heap, Fuel, Jobs, Functions}
 use Rattle.command_line.specs.declared.form.Slot.TheVariants as slot
+use Rattle.choices.specs.Defaults.{defaults}
+use Rattle.choices.specs.declared.choices.Choices.{Choices}
 use Rattle.stages.specs.declared.stage.Stage.{Stage}
 use Rattle.command_line.specs.declared.command.Moves.{Moves}
 use Rattle.command_line.specs.declared.command.Moves.TheVariants.{Never}
 use Rattle.rv_machine.specs.Places.{most_room}
 use Rattle.bs_words.specs.Symbol.{IsSymbol}
-use Rattle.command_line.specs.Values.{IsSteps, IsSize, IsMoves, IsItems, IsCounted, IsSeed, IsStage, most_steps, most_jobs, most_functions}
+use Rattle.command_line.specs.Values.{IsSteps, IsSize, IsMoves, IsItems, IsCounted, IsSeed, IsStage, IsAlloc, most_steps, most_jobs, most_functions}
 use Rattle.command_line.specs.Words.{command_text, IsForm, GivesSlot}
 
 -- What a run is to do.
@@ -30,13 +32,14 @@ pub record CheckTree : Type 0 where
   pub args : List Arg
   pub answers : List Arg
   pub fuel : ℕ
+  pub choices : Choices
 
 -- A command with its values.
 pub data CommandTree : Type 0 where
-  CompileCommand : (jobs : ℕ) → CommandTree
+  CompileCommand : (choices : Choices) (jobs : ℕ) → CommandTree
   RunCommand : (run : RunTree) → CommandTree
   CheckCommand : (check : CheckTree) → CommandTree
-  ListCommand : (stage : Stage) → CommandTree
+  ListCommand : (choices : Choices) (stage : Stage) → CommandTree
   SoakCommand : (seed functions : ℕ) → CommandTree
 
 -- what holds where no option says otherwise: so many instructions, or units of fuel
@@ -68,6 +71,11 @@ pub data Sets {X : Type 0} (others : List (List ℕ)) (slot : Slot) (Reads : Lis
       → x ≡ default
       → Sets others slot Reads default x
 
+-- The words set what is chosen; of the order of lines they say nothing.
+pub record SetsChoices (others : List (List ℕ)) (choices : Choices) : Type 0 where
+  pub alloc : Sets others slot.Alloc IsAlloc (defaults).alloc choices.alloc
+  pub order : choices.order ≡ (defaults).order
+
 -- The words after `run` are this run.
 pub record IsRun (others : List (List ℕ)) (run : RunTree) : Type 0 where
   pub entry : GivesSlot others Plain run.entry
@@ -86,31 +94,39 @@ pub record IsCheck (others : List (List ℕ)) (check : CheckTree) : Type 0 where
   pub args : Sets others Args IsItems [] check.args
   pub answers : Sets others Answers IsItems [] check.answers
   pub fuel : Sets others Fuel IsSteps default_steps check.fuel
+  pub choices : SetsChoices others check.choices
 
--- What is set without memory: the numbers and the moves of a run, and the fuel of a run of a text.
+-- What is set without memory: the numbers and the moves of a run, and the fuel and the choices of a run of a text.
 pub record SetsRunNumbers (others : List (List ℕ)) : Type 0 where
   pub steps : (n : ℕ) × Sets others Steps IsSteps default_steps n
   pub stack : (n : ℕ) × Sets others Stack IsSize default_size n
   pub heap : (n : ℕ) × Sets others Heap IsSize default_size n
   pub moves : (moves : Moves) × Sets others slot.Moves IsMoves default_moves moves
 
-abbrev pub SetsFuel : List (List ℕ) → Type 0
-SetsFuel others = (n : ℕ) × Sets others Fuel IsSteps default_steps n
+pub record SetsCheckNumbers (others : List (List ℕ)) : Type 0 where
+  pub fuel : (n : ℕ) × Sets others Fuel IsSteps default_steps n
+  pub choices : (choices : Choices) × SetsChoices others choices
 
 -- What holds where memory was wanted for a command's values: a fault in a value that takes none is told before.
 abbrev pub MayWantMemory : List (List ℕ) → CommandWord → Type 0
 MayWantMemory others word.Run = SetsRunNumbers others
-MayWantMemory others word.Check = SetsFuel others
+MayWantMemory others word.Check = SetsCheckNumbers others
 MayWantMemory others word.Compile = ⊥
 MayWantMemory others word.List = ⊥
 MayWantMemory others word.Soak = ⊥
 
 -- What the words after the first are, by the command that the first one names.
 pub data Means (others : List (List ℕ)) : CommandWord → CommandTree → Type 0 where
-  compile : (jobs : ℕ) → Sets others Jobs (IsCounted most_jobs) default_jobs jobs → Means others word.Compile (CompileCommand jobs)
+  compile : (choices : Choices) (jobs : ℕ)
+      → SetsChoices others choices
+      → Sets others Jobs (IsCounted most_jobs) default_jobs jobs
+      → Means others word.Compile (CompileCommand choices jobs)
   run : (r : RunTree) → IsRun others r → Means others word.Run (RunCommand r)
   check : (c : CheckTree) → IsCheck others c → Means others word.Check (CheckCommand c)
-  list : (stage : Stage) → TellsSlot others Plain IsStage stage → Means others word.List (ListCommand stage)
+  list : (choices : Choices) (stage : Stage)
+      → SetsChoices others choices
+      → TellsSlot others Plain IsStage stage
+      → Means others word.List (ListCommand choices stage)
   soak : (seed functions : ℕ)
       → TellsSlot others slot.Seed IsSeed seed
       → TellsSlot others Functions (IsCounted most_functions) functions
@@ -124,9 +140,9 @@ pub record IsCommand (words : List (List ℕ)) (tree : CommandTree) : Type 0 whe
   pub form : IsForm command others
   pub means : Means others command tree
 
--- The words are the command `compile`, with whatever jobs: what is said of the image knows nothing of them.
-abbrev pub AsksToCompile : List (List ℕ) → Type 0
-AsksToCompile words = (jobs : ℕ) × IsCommand words (CompileCommand jobs)
+-- The words are the command `compile` by these choices, with whatever jobs: what is said of the image knows nothing of them.
+abbrev pub AsksToCompile : List (List ℕ) → Choices → Type 0
+AsksToCompile words choices = (jobs : ℕ) × IsCommand words (CompileCommand choices jobs)
 
 -- What is known of a run that words can ask for.
 pub record WithinLimits (run : RunTree) : Type 0 where
@@ -143,8 +159,8 @@ pub record WithinFuel (check : CheckTree) : Type 0 where
   pub fuel : check.fuel ≤ most_steps
 
 abbrev pub KeepsLimits : CommandTree → Type 0
-KeepsLimits (CompileCommand jobs) = (1 ≤ jobs) × (jobs ≤ most_jobs)
+KeepsLimits (CompileCommand choices jobs) = (1 ≤ jobs) × (jobs ≤ most_jobs)
 KeepsLimits (RunCommand r) = WithinLimits r
 KeepsLimits (CheckCommand c) = WithinFuel c
-KeepsLimits (ListCommand stage) = Unit {0}
+KeepsLimits (ListCommand choices stage) = Unit {0}
 KeepsLimits (SoakCommand seed functions) = (seed < 2 ^ 64) × (1 ≤ functions) × (functions ≤ most_functions)

@@ -6,6 +6,8 @@ use Rattle.command_line.specs.declared.command.Moves.{Moves}
 use Rattle.command_line.specs.declared.command.Moves.TheVariants.{Never, Every, Seed}
 use Rattle.stages.specs.declared.stage.Stage.{Stage}
 use Rattle.stages.specs.declared.stage.Stage.TheVariants as stage
+use Rattle.choices.specs.declared.choices.Alloc.{Alloc}
+use Rattle.choices.specs.declared.choices.Alloc.TheVariants.{Colour, Linear}
 use Rattle.rv_machine.specs.Places.{most_room}
 use Rattle.rv_machine.specs.declared.setup.Arg.{Arg}
 use Rattle.rv_machine.specs.declared.setup.Arg.TheVariants.{Word, Symbol}
@@ -76,6 +78,16 @@ stage_word stage.Code = codes "code"
 
 abbrev pub IsStage : List ℕ → Stage → Type 0
 IsStage text s = text ≡ stage_word s
+
+-- ---- what is chosen
+
+-- the word for each way in which registers get their places
+abbrev pub alloc_word : Alloc → List ℕ
+alloc_word Colour = codes "colour"
+alloc_word Linear = codes "linscan"
+
+abbrev pub IsAlloc : List ℕ → Alloc → Type 0
+IsAlloc text a = text ≡ alloc_word a
 
 -- ---- moves
 

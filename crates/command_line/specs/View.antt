@@ -16,13 +16,13 @@ run_view r =
 
 abbrev pub check_view : CheckWords → CheckTree
 check_view c =
-    record { entry = c.entry; args = contents c.args; answers = contents c.answers; fuel = c.fuel }
+    record { entry = c.entry; args = contents c.args; answers = contents c.answers; fuel = c.fuel; choices = c.choices }
 
 abbrev pub view : Command → CommandTree
-view (command.Compile jobs) = CompileCommand jobs
+view (command.Compile choices jobs) = CompileCommand choices jobs
 view (command.Run r) = RunCommand (run_view r)
 view (command.Check c) = CheckCommand (check_view c)
-view (command.List stage) = ListCommand stage
+view (command.List choices stage) = ListCommand choices stage
 view (command.Soak seed functions) = SoakCommand seed functions
 
 -- the words, each as its bytes

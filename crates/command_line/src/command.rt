@@ -3,6 +3,7 @@ ghost use Rattle.std.specs.Prelude.{◌≡◌};
 ghost use Rattle.command_line.specs.declared.command.WordsError.TheVariants.{OutOfMemory, ValueText};
 
 use bs_words::{List, Name};
+use choices::Choices;
 use rv_machine::Arg;
 use stages::Stage;
 use std::alloc::{AllocError, AllocFailed};
@@ -13,6 +14,8 @@ use thiserror::Error;
 pub enum Command {
     /// Reads a Cmm text and writes the image.
     Compile {
+        /// What is chosen of how the text is compiled.
+        choices: Choices,
         /// The most functions that are compiled at a time.
         jobs: u32,
     },
@@ -20,8 +23,8 @@ pub enum Command {
     Run(RunWords),
     /// Reads a Cmm text and writes the outcome of a run of it, and what that run needs.
     Check(CheckWords),
-    /// Reads a Cmm text and writes what a stage of the compiler makes of it.
-    List(Stage),
+    /// Reads a Cmm text and writes what a stage of the compiler makes of it, by what is chosen.
+    List(Choices, Stage),
     /// Makes a Cmm text of its own, compiles it, and writes how runs of the text and of the image end.
     Soak {
         /// What the generator of the text starts from.
@@ -61,6 +64,8 @@ pub struct CheckWords {
     pub answers: List<Arg>,
     /// The most units of fuel, one of which each node costs when its evaluation begins.
     pub fuel: u64,
+    /// What is chosen of how the text is compiled: the stack that the run needs is by it.
+    pub choices: Choices,
 }
 
 /// When the mover asks during a run, and where it puts the blocks of the heap.

@@ -29,13 +29,14 @@ pub(crate) enum Slot {
     Moves,
     Fuel,
     Jobs,
+    Alloc,
     Seed,
     Functions,
 }
 
 static NO_SLOTS: [Slot; 0] = [];
 
-static COMPILE_SLOTS: [Slot; 1] = [Slot::Jobs];
+static COMPILE_SLOTS: [Slot; 2] = [Slot::Jobs, Slot::Alloc];
 
 static RUN_SLOTS: [Slot; 7] = [
     Slot::Plain,
@@ -47,7 +48,15 @@ static RUN_SLOTS: [Slot; 7] = [
     Slot::Moves,
 ];
 
-static CHECK_SLOTS: [Slot; 4] = [Slot::Plain, Slot::Args, Slot::Answers, Slot::Fuel];
+static CHECK_SLOTS: [Slot; 5] = [
+    Slot::Plain,
+    Slot::Args,
+    Slot::Answers,
+    Slot::Fuel,
+    Slot::Alloc,
+];
+
+static LIST_SLOTS: [Slot; 2] = [Slot::Plain, Slot::Alloc];
 
 static PLAIN_SLOT: [Slot; 1] = [Slot::Plain];
 
@@ -95,7 +104,7 @@ impl CommandWord {
             CommandWord::Compile => &COMPILE_SLOTS,
             CommandWord::Run => &RUN_SLOTS,
             CommandWord::Check => &CHECK_SLOTS,
-            CommandWord::List => &PLAIN_SLOT,
+            CommandWord::List => &LIST_SLOTS,
             CommandWord::Soak => &SOAK_SLOTS,
         }
     }
@@ -135,6 +144,7 @@ impl Slot {
             Slot::Moves => word.strip_prefix(b"--moves=".as_slice()),
             Slot::Fuel => word.strip_prefix(b"--fuel=".as_slice()),
             Slot::Jobs => word.strip_prefix(b"--jobs=".as_slice()),
+            Slot::Alloc => word.strip_prefix(b"--alloc=".as_slice()),
             Slot::Seed => word.strip_prefix(b"--seed=".as_slice()),
             Slot::Functions => word.strip_prefix(b"--functions=".as_slice()),
         }
@@ -170,6 +180,7 @@ impl Slot {
             Slot::Moves => "moves",
             Slot::Fuel => "fuel",
             Slot::Jobs => "jobs",
+            Slot::Alloc => "alloc",
             Slot::Seed => "seed",
             Slot::Functions => "functions",
         }

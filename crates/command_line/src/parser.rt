@@ -55,6 +55,7 @@ fn argument<'a>(alloc: Global, slot: Slot) -> Arg<'a>
         Slot::Moves => option_or(alloc, "moves", "none"),
         Slot::Fuel => option_or(alloc, "fuel", "100000000"),
         Slot::Jobs => option_or(alloc, "jobs", "1"),
+        Slot::Alloc => option_or(alloc, "alloc", "colour"),
         Slot::Seed => option(alloc, "seed"),
         Slot::Functions => option(alloc, "functions"),
     }

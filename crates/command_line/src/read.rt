@@ -9,10 +9,11 @@ ghost use Rattle.command_line.specs.declared.command.WordsError.{WordsError};
 ghost use Rattle.command_line.specs.declared.form.CommandWord.{CommandWord};
 ghost use Rattle.command_line.specs.declared.form.Slot.{Slot};
 ghost use Rattle.bs_words.specs.Symbol.{IsSymbol};
-ghost use Rattle.command_line.specs.Values.{IsSteps, IsSize, IsMoves, IsItems, IsCounted, IsSeed, IsStage, Nothing, most_jobs, most_functions};
+ghost use Rattle.command_line.specs.Values.{IsSteps, IsSize, IsMoves, IsItems, IsCounted, IsSeed, IsStage, IsAlloc, Nothing, most_jobs, most_functions};
 ghost use Rattle.command_line.specs.Words.{fills_slot, command_text, slots_of_command, AreCommandWords, IsForm, GivesSlot};
 ghost use Rattle.command_line.specs.Program.{HasText, IsSlotText, Defaults, id_of, program};
-ghost use Rattle.command_line.specs.Command.{CommandTree, Sets, SetsFuel, SetsRunNumbers, MayWantMemory, TellsSlot, IsRun, IsCheck, Means, IsCommand, KeepsLimits};
+ghost use Rattle.command_line.specs.Command.{CommandTree, Sets, SetsChoices, SetsCheckNumbers, SetsRunNumbers, MayWantMemory, TellsSlot, IsRun, IsCheck, Means, IsCommand, KeepsLimits};
+ghost use Rattle.choices.specs.Defaults.{defaults};
 ghost use Rattle.command_line.specs.Command.{default_jobs, default_steps, default_size, default_moves};
 ghost use Rattle.command_line.specs.View.{texts, view, run_view, check_view};
 
@@ -21,6 +22,7 @@ use crate::form::{CommandWord, Slot, has_form};
 use crate::parser::matches_of;
 use crate::values;
 use bs_words::{List, Name};
+use choices::{Alloc, Choices, DEFAULTS};
 use clap::ArgMatches;
 use rv_machine::Arg;
 use stages::Stage;
@@ -148,14 +150,43 @@ fn check(alloc: Global, others: &[String], given: &ArgMatches<'_>) -> Result<Che
     ensures bad { IsErrOf result WordsError.ValueText
         → Nothing (IsCheck (texts others.now)) }
     ensures formed { ¬ IsErrOf result WordsError.Words }
-    ensures memory { IsErrOf result WordsError.OutOfMemory → SetsFuel (texts others.now) }
+    ensures memory { IsErrOf result WordsError.OutOfMemory → SetsCheckNumbers (texts others.now) }
 {
+    // First what takes no memory, as above.
     Ok(CheckWords {
         fuel: steps(others, given, Slot::Fuel)?,
+        choices: choices(others, given)?,
         entry: entry(alloc, others, given)?,
         args: items(alloc, others, given, Slot::Args)?,
         answers: items(alloc, others, given, Slot::Answers)?,
     })
+}
+
+/// What is chosen of how the text is compiled.
+fn choices(others: &[String], given: &ArgMatches<'_>) -> Result<Choices, BadValue>
+    requires once { count_by (fills_slot Slot.Alloc) (texts others.now) ≤ 1 }
+    requires stands { HasText (texts others.now) Slot.Alloc
+        (first_value (found_of given.now) (id_of Slot.Alloc)) }
+    ensures value { IfOk result (λ choices. SetsChoices (texts others.now) choices) }
+    ensures bad { OnErr result (Nothing (SetsChoices (texts others.now))) }
+{
+    Ok(Choices {
+        alloc: allocation(others, given)?,
+        order: DEFAULTS.order,
+    })
+}
+
+/// How registers get their places.
+fn allocation(others: &[String], given: &ArgMatches<'_>) -> Result<Alloc, BadValue>
+    requires once { count_by (fills_slot Slot.Alloc) (texts others.now) ≤ 1 }
+    requires stands { HasText (texts others.now) Slot.Alloc
+        (first_value (found_of given.now) (id_of Slot.Alloc)) }
+    ensures value { IfOk result (λ alloc.
+        Sets (texts others.now) Slot.Alloc IsAlloc defaults.alloc alloc) }
+    ensures bad { OnErr result (Nothing (Sets (texts others.now) Slot.Alloc IsAlloc defaults.alloc)) }
+{
+    let text = text_for(others, given, Slot::Alloc);
+    values::alloc(text.as_bytes()).ok_or(BadValue)
 }
 
 /// The most functions that are compiled at a time.
@@ -241,11 +272,12 @@ fn meant(
 {
     match command {
         CommandWord::Compile => Ok(Command::Compile {
+            choices: choices(others, given)?,
             jobs: jobs(others, given)?,
         }),
         CommandWord::Run => Ok(Command::Run(run(alloc, others, given)?)),
         CommandWord::Check => Ok(Command::Check(check(alloc, others, given)?)),
-        CommandWord::List => Ok(Command::List(stage(others, given)?)),
+        CommandWord::List => Ok(Command::List(choices(others, given)?, stage(others, given)?)),
         CommandWord::Soak => Ok(soak(others, given)?),
     }
 }
@@ -278,6 +310,7 @@ fn taken(
 
 /// The command that the words are, the program's own name left out.
 ///
+/// - `compile`, `check` and `list` have the option `--alloc=`, which is `colour`, the default, or `linscan`.
 /// - `compile` has the option `--jobs=`, a decimal number from 1 to 64, and 1 by default.
 /// - `run ENTRY` has the name of a function and these options. ENTRY is 1 to 255 bytes, each 0x21 to
 ///   0x7E.

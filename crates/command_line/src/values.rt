@@ -3,10 +3,11 @@ ghost use Rattle.std.specs.Prelude.{◌≡◌, ◌≢◌, ◌<◌, ◌≤◌, �
 ghost use Rattle.bs_words.specs.Contents.{contents};
 ghost use Rattle.command_line.specs.declared.command.WordsError.{WordsError};
 ghost use Rattle.bs_words.specs.Symbol.{IsSymbol};
-ghost use Rattle.command_line.specs.Values.{IsNumber, IsSteps, IsSize, IsMoves, SeedsMoves, IsItem, IsCounted, IsSeed, IsStage, IsItems, Nothing};
+ghost use Rattle.command_line.specs.Values.{IsNumber, IsSteps, IsSize, IsMoves, SeedsMoves, IsItem, IsCounted, IsSeed, IsStage, IsAlloc, IsItems, Nothing};
 
 use crate::command::{Moves, WordsError};
 use bs_words::{List, Name, is_symbol, sub};
+use choices::Alloc;
 use rv_machine::{Arg, MOST_ROOM};
 use stages::Stage;
 use std::alloc::Global;
@@ -143,6 +144,21 @@ pub(crate) fn stage(text: &[u8]) -> Option<Stage>
         Some(Stage::Frames)
     } else if text == b"code".as_slice() {
         Some(Stage::Code)
+    } else {
+        None
+    }
+}
+
+/// How registers get their places, as the text says: `colour` or `linscan`.
+pub(crate) fn alloc(text: &[u8]) -> Option<Alloc>
+    ensures { MatchOption result
+        (Nothing (IsAlloc text.now))
+        (λ alloc. IsAlloc text.now alloc) }
+{
+    if text == b"colour".as_slice() {
+        Some(Alloc::Colour)
+    } else if text == b"linscan".as_slice() {
+        Some(Alloc::Linear)
     } else {
         None
     }

@@ -4,6 +4,7 @@ use Rattle.std.specs.Io.KnownBytes.{Keeps}
 use Rattle.std.proofs.lemmas.List.{take-append-drop}
 use Rattle.bs_io.specs.Faults.{Risen}
 use Rattle.bs_io.specs.Whole.{AppendsPart}
+use Rattle.choices.specs.declared.choices.Choices.{Choices}
 use Rattle.command_line.specs.Command.{IsCommand, AsksToCompile, RunCommand, RunTree}
 use Rattle.bs_fault.specs.Limits.{longest_text}
 use Rattle.commands.specs.Effects.{Side, Effects, IsUntouched, Got, GotPart, ReportsLine, IsRead}
@@ -55,37 +56,40 @@ Ends-told-or words e status result line cause kept (inr told) = Ends-told words 
 -- ---- compile
 
 -- what is written is the spelling of an image of the text that was read
-spells : (words : List (List ℕ)) (s : Side) (bytes : List ℕ) → AsksToCompile words → ReadsText (λ text. SpellsImageOf text bytes) s → Output words s bytes
-spells words s bytes is r =
+spells : {choices : Choices} (words : List (List ℕ)) (s : Side) (bytes : List ℕ) → AsksToCompile words choices → ReadsText (λ text. SpellsImageOf choices text bytes) s → Output words s bytes
+spells {choices} words s bytes is r =
     subst (Output words s) (sym r.holds.spelled)
-    (spelling r.holds.image is (record { text = r.text; are_bytes = r.are_bytes; read = r.read; holds = r.holds.is_image }))
+    (spelling choices r.holds.image is (record { text = r.text; are_bytes = r.are_bytes; read = r.read; holds = r.holds.is_image }))
 
-pub Ends-written : (words : List (List ℕ)) (e : Effects) (bytes : List ℕ) → AsksToCompile words → ReadsText (λ text. SpellsImageOf text bytes) e.source → Got e.out bytes → IsUntouched e.err → CommandEnds words e 0
+pub Ends-written : {choices : Choices} (words : List (List ℕ)) (e : Effects) (bytes : List ℕ) → AsksToCompile words choices → ReadsText (λ text. SpellsImageOf choices text bytes) e.source
+    → Got e.out bytes → IsUntouched e.err → CommandEnds words e 0
 Ends-written words e bytes is r got kept = written bytes (spells words e.source bytes is r) got kept
 
-pub Ends-cut : (words : List (List ℕ)) (e : Effects) (bytes : List ℕ) → AsksToCompile words → ReadsText (λ text. SpellsImageOf text bytes) e.source → GotPart e.out bytes → IsUntouched e.err → CommandEnds words e 6
+pub Ends-cut : {choices : Choices} (words : List (List ℕ)) (e : Effects) (bytes : List ℕ) → AsksToCompile words choices → ReadsText (λ text. SpellsImageOf choices text bytes) e.source
+    → GotPart e.out bytes → IsUntouched e.err → CommandEnds words e 6
 Ends-cut words e bytes is r part kept = out_fault bytes (spells words e.source bytes is r) part kept
 
 -- what a source is refused for of which no text was read
-pub refusal_unread : (s : Side) (r : Unread) → IsTextUnread s r → IsRefusalFrom s (refusal_of_unread r)
+pub refusal_unread : {choices : Choices} (s : Side) (r : Unread) → IsTextUnread s r → IsRefusalFrom choices s (refusal_of_unread r)
 refusal_unread s unread.ReadFault rose = rose
 refusal_unread s unread.OutOfMemory why = tt
 
 -- what a text that was read is refused for
-pub refusal_read : (s : Side) (read : List ℕ) (r : text.Refusal) → All (λ b. b < 256) read → IsRead longest_text s read → IsTextRefusal read r → IsRefusalRead s r
+pub refusal_read : {choices : Choices} (s : Side) (read : List ℕ) (r : text.Refusal) → All (λ b. b < 256) read → IsRead longest_text s read → IsTextRefusal choices read r →
+    IsRefusalRead choices s r
 refusal_read s read (Fault told) are r why = record { text = read; are_bytes = are; read = r; holds = why }
 refusal_read s read (TooLarge large) are r why = record { text = read; are_bytes = are; read = r; holds = why }
 refusal_read s read OutOfMemory are r why = tt
 
 -- the line of a text that has no image was written, or could not be
-pub Ends-refused : (words : List (List ℕ)) (e : Effects) (r : text.Refusal) (result : ℕ)
-    → AsksToCompile words
-    → IsRefusalRead e.source r
+pub Ends-refused : {choices : Choices} (words : List (List ℕ)) (e : Effects) (r : text.Refusal) (result : ℕ)
+    → AsksToCompile words choices
+    → IsRefusalRead choices e.source r
     → IsUntouched e.out
     → ReportsRefusal e.err r result
     → CommandEnds words e result
-Ends-refused words e (Fault told) result is why kept tells = Ends-told-or words e 3 result _ (fault told is why) kept tells
-Ends-refused words e (TooLarge large) result is why kept tells = Ends-told-or words e 8 result _ (too_large large is why) kept tells
+Ends-refused {choices} words e (Fault told) result is why kept tells = Ends-told-or words e 3 result _ (fault choices told is why) kept tells
+Ends-refused {choices} words e (TooLarge large) result is why kept tells = Ends-told-or words e 8 result _ (too_large choices large is why) kept tells
 Ends-refused words e OutOfMemory result is why kept tells = Ends-told words e 9 result _ no_memory kept tells
 
 -- ---- run

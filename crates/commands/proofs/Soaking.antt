@@ -83,5 +83,5 @@ pub for_soak : (P : CheckTree → List ℕ → Type 0) (a b : CheckTree) (s t u 
 for_soak P a b s t u same read drawn p = subst (λ text. P b text) (read ∙ drawn) (subst (λ check. P check s) same p)
 
 -- a section of the image of the text that is drawn passes its limit
-pub passing : (check : CheckTree) (text : List ℕ) (large : Large) → IsTooLargeToCheck check text large → IsTooLarge text large
+pub passing : (check : CheckTree) (text : List ℕ) (large : Large) → IsTooLargeToCheck check text large → IsTooLarge check.choices text large
 passing check text large h = record { file = h.file; is_file = h.is_file; image = h.image; made = h.made; passes = h.passes; not_roomy = h.not_roomy }

@@ -6,6 +6,8 @@ use Rattle.bs_fault.specs.declared.fault.Fault.{Fault}
 use Rattle.bs_fault.specs.declared.image.ImageRefusal.{ImageRefusal}
 use Rattle.bs_fault.specs.declared.large.Large.{Large}
 use Rattle.bs_fault.specs.declared.usage.Usage.TheVariants.{Words, ValueText, UnknownEntry, ArgumentUnfit}
+use Rattle.choices.specs.declared.choices.Choices.{Choices}
+use Rattle.choices.specs.Defaults.{defaults}
 use Rattle.command_line.specs.Command.{IsCommand, AsksToCompile, CommandTree, RunCommand, CheckCommand, ListCommand, SoakCommand, RunTree, CheckTree}
 use Rattle.command_line.specs.Words.{AreCommandWords}
 use Rattle.cmm_front.specs.FileOf.{HasFault}
@@ -24,10 +26,10 @@ use Rattle.commands.specs.Soak.{soak_text, IsSoakOf}
 
 -- What goes to out.
 pub data Output (words : List (List ℕ)) (source : Side) : List ℕ → Type 0 where
-  -- `compile`: the one spelling of an image of the text
-  spelling : (image : Tables)
-      → AsksToCompile words
-      → ReadsText (λ text. IsImageOf text image) source
+  -- `compile`: the one spelling of an image of the text, by what the words choose
+  spelling : (choices : Choices) (image : Tables)
+      → AsksToCompile words choices
+      → ReadsText (λ text. IsImageOf choices text image) source
       → Output words source (tables_bytes image)
   -- `run`: the outcome of the run of the image
   outcome : (run : RunTree) (text : List ℕ)
@@ -39,10 +41,10 @@ pub data Output (words : List (List ℕ)) (source : Side) : List ℕ → Type 0 
       → IsCommand words (CheckCommand check)
       → ReadsText (λ text. IsCheckOf check text lines) source
       → Output words source lines
-  -- `list`: the text of that stage of the text
-  listed : (stage : Stage) (bytes : List ℕ)
-      → IsCommand words (ListCommand stage)
-      → ReadsText (λ text. IsListingOf stage text bytes) source
+  -- `list`: the text of that stage of the text, by what the words choose
+  listed : (choices : Choices) (stage : Stage) (bytes : List ℕ)
+      → IsCommand words (ListCommand choices stage)
+      → ReadsText (λ text. IsListingOf choices stage text bytes) source
       → Output words source bytes
   -- `soak`: what is reported of the text that is drawn; nothing was read
   soaked : (seed functions : ℕ) (lines : List ℕ)
@@ -63,14 +65,14 @@ pub data CheckCause (check : CheckTree) (source : Side) : ℕ → List ℕ → T
       → CheckCause check source 8 (large_line large)
 
 -- Why `list` has no output. The size of the image is a cause for a stage of the image alone.
-pub data ListCause (stage : Stage) (source : Side) : ℕ → List ℕ → Type 0 where
+pub data ListCause (choices : Choices) (stage : Stage) (source : Side) : ℕ → List ℕ → Type 0 where
   fault : (told : Fault)
       → ReadsText (λ text. HasFault text told) source
-      → ListCause stage source 3 (fault_line told)
+      → ListCause choices stage source 3 (fault_line told)
   too_large : (large : Large)
       → IsOfImage stage
-      → ReadsText (λ text. IsTooLarge text large) source
-      → ListCause stage source 8 (large_line large)
+      → ReadsText (λ text. IsTooLarge choices text large) source
+      → ListCause choices stage source 8 (large_line large)
 
 -- the command has input
 abbrev pub HasInput : CommandTree → Type 0
@@ -92,13 +94,13 @@ pub data Cause (words : List (List ℕ)) (source : Side) : ℕ → List ℕ → 
       → Rose source
       → Cause words source 5 read_fault_line
   -- `compile`
-  fault : (told : Fault)
-      → AsksToCompile words
+  fault : (choices : Choices) (told : Fault)
+      → AsksToCompile words choices
       → ReadsText (λ text. HasFault text told) source
       → Cause words source 3 (fault_line told)
-  too_large : (large : Large)
-      → AsksToCompile words
-      → ReadsText (λ text. IsTooLarge text large) source
+  too_large : (choices : Choices) (large : Large)
+      → AsksToCompile words choices
+      → ReadsText (λ text. IsTooLarge choices text large) source
       → Cause words source 8 (large_line large)
   -- `run`
   no_image : (run : RunTree) (refusal : ImageRefusal)
@@ -119,14 +121,14 @@ pub data Cause (words : List (List ℕ)) (source : Side) : ℕ → List ℕ → 
       → CheckCause check source status line
       → Cause words source status line
   -- `list`
-  unlisted : (stage : Stage) (status : ℕ) (line : List ℕ)
-      → IsCommand words (ListCommand stage)
-      → ListCause stage source status line
+  unlisted : (choices : Choices) (stage : Stage) (status : ℕ) (line : List ℕ)
+      → IsCommand words (ListCommand choices stage)
+      → ListCause choices stage source status line
       → Cause words source status line
-  -- `soak`: nothing was read
+  -- `soak`, none of whose words chooses: nothing was read
   unsoaked : (seed functions : ℕ) (large : Large)
       → IsCommand words (SoakCommand seed functions)
-      → IsTooLarge (soak_text seed functions) large
+      → IsTooLarge defaults (soak_text seed functions) large
       → IsUntouched source
       → Cause words source 8 (large_line large)
   no_memory : Cause words source 9 no_memory_line

@@ -3,6 +3,8 @@ use Rattle.std.specs.Prelude.{◌≡◌, ◌⊎◌, ⊤, ℕ, List, None}
 use Rattle.bs_fault.specs.FaultLines.{fault_line}
 use Rattle.bs_fault.specs.Lines.{usage_line, large_line}
 use Rattle.bs_fault.specs.declared.usage.Usage.TheVariants.{UnknownEntry, ArgumentUnfit}
+use Rattle.choices.specs.declared.choices.Choices.{Choices}
+use Rattle.choices.specs.Defaults.{defaults}
 use Rattle.command_line.specs.Command.{RunTree, CheckTree}
 use Rattle.image_form.specs.Tables.{Tables}
 use Rattle.image_form.specs.declared.fault.ImageError.{ImageError}
@@ -45,10 +47,10 @@ IsTextUnread source unread.OutOfMemory = ⊤
 -- ---- compile
 
 -- why the text that was read has no image; want of memory may come before all is read
-abbrev pub IsRefusalRead : Side → text.Refusal → Type 0
-IsRefusalRead source (Fault told) = ReadsText (λ text. HasFault text told) source
-IsRefusalRead source (TooLarge large) = ReadsText (λ text. IsTooLarge text large) source
-IsRefusalRead source OutOfMemory = ⊤
+abbrev pub IsRefusalRead : Choices → Side → text.Refusal → Type 0
+IsRefusalRead choices source (Fault told) = ReadsText (λ text. HasFault text told) source
+IsRefusalRead choices source (TooLarge large) = ReadsText (λ text. IsTooLarge choices text large) source
+IsRefusalRead choices source OutOfMemory = ⊤
 
 -- what is answered where no text was read
 abbrev pub refusal_of_unread : Unread → Refusal
@@ -56,29 +58,29 @@ refusal_of_unread unread.ReadFault = ReadFault
 refusal_of_unread unread.OutOfMemory = Text OutOfMemory
 
 -- why a source has no image
-abbrev pub IsRefusalFrom : Side → Refusal → Type 0
-IsRefusalFrom source ReadFault = Rose source
-IsRefusalFrom source (Text why) = IsRefusalRead source why
+abbrev pub IsRefusalFrom : Choices → Side → Refusal → Type 0
+IsRefusalFrom choices source ReadFault = Rose source
+IsRefusalFrom choices source (Text why) = IsRefusalRead choices source why
 
 -- ---- list
 
 -- why nothing is listed of the text that was read
-abbrev pub IsListRefusalRead : Stage → Side → text.Refusal → Type 0
-IsListRefusalRead stage source (Fault told) = ReadsText (λ text. HasFault text told) source
-IsListRefusalRead stage source (TooLarge large) =
-    IsOfImage stage × ReadsText (λ text. IsTooLarge text large) source
-IsListRefusalRead stage source OutOfMemory = ⊤
+abbrev pub IsListRefusalRead : Choices → Stage → Side → text.Refusal → Type 0
+IsListRefusalRead choices stage source (Fault told) = ReadsText (λ text. HasFault text told) source
+IsListRefusalRead choices stage source (TooLarge large) =
+    IsOfImage stage × ReadsText (λ text. IsTooLarge choices text large) source
+IsListRefusalRead choices stage source OutOfMemory = ⊤
 
 -- why nothing is listed of a source
-abbrev pub IsListFailure : Stage → Side → Refusal → Type 0
-IsListFailure stage source ReadFault = Rose source
-IsListFailure stage source (Text why) = IsListRefusalRead stage source why
+abbrev pub IsListFailure : Choices → Stage → Side → Refusal → Type 0
+IsListFailure choices stage source ReadFault = Rose source
+IsListFailure choices stage source (Text why) = IsListRefusalRead choices stage source why
 
 -- ---- soak
 
 -- why nothing is reported of the text that is drawn
 abbrev pub IsSoakRefusal : ℕ → ℕ → SoakRefusal → Type 0
-IsSoakRefusal seed functions (soak.TooLarge large) = IsTooLarge (soak_text seed functions) large
+IsSoakRefusal seed functions (soak.TooLarge large) = IsTooLarge defaults (soak_text seed functions) large
 IsSoakRefusal seed functions soak.OutOfMemory = ⊤
 
 -- ---- check

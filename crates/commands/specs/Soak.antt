@@ -1,8 +1,9 @@
 -- What the command `soak` does.
 --
 -- It is made of `check` and `run`, by the trees of their words, so that nothing of a run is said again. It
--- compares nothing; that its three lines are alike is a row.
+-- compares nothing; that its three lines are alike is a row. None of its words chooses.
 use Rattle.std.specs.Prelude.{◌≡◌, ◌≢◌, ◌⊎◌, ℕ, ◌-◌, List, [], ◌∷◌, ◌++◌, codes, length, All}
+use Rattle.choices.specs.Defaults.{defaults}
 use Rattle.cmm_gen.specs.Drawn.{symbol_of, text_of}
 use Rattle.cmm_gen.specs.Drawing.{drawn, generator}
 use Rattle.command_line.specs.Command.{RunTree, CheckTree}
@@ -39,6 +40,7 @@ soak_check functions = record {
   args = soak_args;
   answers = [];
   fuel = soak_steps;
+  choices = defaults;
 }
 
 abbrev pub soak_run : ℕ → Moves → RunTree

@@ -10,6 +10,7 @@ ghost use Rattle.text_commands.specs.Refusal.{SpellsImageOf, IsTextRefusal};
 use crate::text::{Unread, read_text};
 use bs_io::Source;
 use bs_words::List;
+use choices::Choices;
 use std::alloc::Global;
 use std::thread::Threads;
 use text_commands::{Gate, Refusal as TextRefusal, compile_text};
@@ -42,8 +43,8 @@ impl From<TextRefusal> for Refusal {
     }
 }
 
-/// The spelling of the image of the text that a source holds, whose functions are shared among so
-/// many jobs. At most one byte past the longest text is read.
+/// The spelling of the image of the text that a source holds, by what is chosen. Its functions are shared
+/// among so many jobs. At most one byte past the longest text is read.
 ///
 /// # Errors
 ///
@@ -53,6 +54,7 @@ impl From<TextRefusal> for Refusal {
 pub fn compile_source<R: Threads + Sync, S: Source, G: Gate + Sync>(
     rt: &R,
     alloc: Global,
+    choices: Choices,
     jobs: u32,
     source: &mut S,
     gate: &G,
@@ -60,28 +62,29 @@ pub fn compile_source<R: Threads + Sync, S: Source, G: Gate + Sync>(
     requires some_jobs { 1 ≤ jobs }
     requires few_jobs { jobs ≤ 64 }
     ensures image { IfOk result (λ bytes.
-        ReadsText (λ text. SpellsImageOf text (contents bytes))
+        ReadsText (λ text. SpellsImageOf choices text (contents bytes))
         (side S.left S.faults source.old source.new)) }
     ensures refused { IfErr result (λ r.
-        IsRefusalFrom (side S.left S.faults source.old source.new) r) }
+        IsRefusalFrom choices (side S.left S.faults source.old source.new) r) }
 {
     let text = read_text(alloc, source)?;
-    Ok(compile_bytes(rt, alloc, text.as_slice(), jobs, gate)?)
+    Ok(compile_bytes(rt, alloc, text.as_slice(), choices, jobs, gate)?)
 }
 
-/// The spelling of the image of a text, whose bytes are bytes.
+/// The spelling of the image of a text by what is chosen. The bytes of the text are bytes.
 fn compile_bytes<R: Threads + Sync, G: Gate + Sync>(
     rt: &R,
     alloc: Global,
     text: &[u8],
+    choices: Choices,
     jobs: u32,
     gate: &G,
 ) -> Result<List<u8>, TextRefusal>
     requires some_jobs { 1 ≤ jobs }
     requires few_jobs { jobs ≤ 64 }
     ensures are_bytes { All (λ b. b < 256) text.now }
-    ensures image { IfOk result (λ bytes. SpellsImageOf text.now (contents bytes)) }
-    ensures refused { IfErr result (λ r. IsTextRefusal text.now r) }
+    ensures image { IfOk result (λ bytes. SpellsImageOf choices text.now (contents bytes)) }
+    ensures refused { IfErr result (λ r. IsTextRefusal choices text.now r) }
 {
-    compile_text(rt, alloc, text, jobs, gate)
+    compile_text(rt, alloc, text, choices, jobs, gate)
 }

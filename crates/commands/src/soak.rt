@@ -1,4 +1,4 @@
-//! The command `soak`: a text is drawn, compiled, and run by its meaning and on the machine.
+//! The command `soak`: a text is drawn, compiled by the defaults, and run by its meaning and on the machine.
 //!
 //! What cannot come of a drawn text is not answered: that it has no fault, and that its last function takes
 //! two words in file and image, is proved. So those arms are unreachable.
@@ -23,6 +23,7 @@ use crate::run::{RunRefusal, run_on};
 use bs_fault::Large;
 use bs_io::{Sink, write_all};
 use bs_words::Name;
+use choices::DEFAULTS;
 use cmm_gen::generate;
 use command_line::{Arg, CheckWords, Moves, RunWords};
 use image_codec::write_image;
@@ -169,6 +170,7 @@ fn check_words(alloc: Global, functions: u32) -> Result<CheckWords, AllocError>
         args: arguments(alloc)?,
         answers: bs_words::List::new(alloc),
         fuel: STEPS,
+        choices: DEFAULTS,
     })
 }
 

@@ -7,7 +7,6 @@ use Rattle.command_line.specs.Command.{CheckTree}
 use Rattle.image_form.specs.Tables.{Tables}
 use Rattle.rv_layout_rules.specs.TooLarge.{first_too_large}
 use Rattle.file_compile.specs.Known.{AreTablesMadeFor}
-use Rattle.choices.specs.Defaults.{defaults}
 use Rattle.text_commands.proofs.Passing.{not_roomy, only_made}
 use Rattle.text_commands.specs.Arguments.{IsCall}
 use Rattle.text_commands.specs.Check.{IsTooLargeToCheck}
@@ -15,7 +14,7 @@ use Rattle.text_commands.specs.Check.{IsTooLargeToCheck}
 pub too_large_to_check : (check : CheckTree) (text : List ℕ) (file : FileTree) (large : Large) (entry : ℕ) (args answers : List ℕ)
     → IsFileOf text file
     → IsCall check file entry args answers
-    → (t : Tables) × (AreTablesMadeFor defaults file t × (first_too_large t ≡ Some large))
+    → (t : Tables) × (AreTablesMadeFor check.choices file t × (first_too_large t ≡ Some large))
     → IsTooLargeToCheck check text large
 too_large_to_check check text file large entry args answers is call of = record {
   file = file;

@@ -20,7 +20,7 @@ report_of_run file layout entry args answers fuel =
     check_text fuel (cmm_run file layout entry args answers fuel)
 
 -- This is reported of the run of a text: of the function of its file on the words, with the frames and addresses of the
--- image that is made for the file, of which no section passes its limit.
+-- image that is made for the file by what the words choose, of which no section passes its limit.
 pub record IsCheckOf (check : CheckTree) (text lines : List ℕ) : Type 0 where
   pub file : FileTree
   pub is_file : IsFileOf text file
@@ -29,7 +29,7 @@ pub record IsCheckOf (check : CheckTree) (text lines : List ℕ) : Type 0 where
   pub answers : List ℕ
   pub call : IsCall check file entry args answers
   pub image : Tables
-  pub made : IsOnlyMadeFor file image
+  pub made : IsOnlyMadeFor check.choices file image
   pub fits : first_too_large image ≡ None
   pub told : lines ≡ report_of_run file (layout_of image) entry args answers check.fuel
 
@@ -45,8 +45,8 @@ pub record IsUnfitFor (check : CheckTree) (text : List ℕ) : Type 0 where
   pub is_file : IsFileOf text file
   pub unfit : HasUnfit check file
 
--- The words suit, and of the image that is made for the text's file this section is the first to pass its limit. No
--- roomy file has such an image.
+-- The words suit, and of the image that is made for the text's file by what they choose this section is the first to
+-- pass its limit. No roomy file has such an image.
 pub record IsTooLargeToCheck (check : CheckTree) (text : List ℕ) (large : Large) : Type 0 where
   pub file : FileTree
   pub is_file : IsFileOf text file
@@ -55,6 +55,6 @@ pub record IsTooLargeToCheck (check : CheckTree) (text : List ℕ) (large : Larg
   pub answers : List ℕ
   pub call : IsCall check file entry args answers
   pub image : Tables
-  pub made : IsOnlyMadeFor file image
+  pub made : IsOnlyMadeFor check.choices file image
   pub passes : first_too_large image ≡ Some large
   pub not_roomy : IsRoomy file → ⊥

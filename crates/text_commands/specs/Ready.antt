@@ -7,15 +7,14 @@ use Rattle.image_form.specs.Image.{AreTables}
 use Rattle.image_form.specs.Tables.{Tables}
 use Rattle.rv_layout_rules.specs.TooLarge.{first_too_large}
 use Rattle.file_compile.specs.Known.{AreTablesMadeFor}
-use Rattle.choices.specs.Defaults.{defaults}
 use Rattle.text_commands.specs.Arguments.{IsCall}
 
 -- The text has this file, the words ask for this call of one of its functions, and this is the image that is made for
--- the file, of which no section passes its limit.
+-- the file by what they choose, of which no section passes its limit.
 pub record IsRunReady (check : CheckTree) (text : List ℕ) (file : FileTree) (entry : ℕ) (args answers : List ℕ)
     (image : Tables) : Type 0 where
   pub is_file : IsFileOf text file
   pub call : IsCall check file entry args answers
   pub is_image : AreTables image
-  pub made : AreTablesMadeFor defaults file image
+  pub made : AreTablesMadeFor check.choices file image
   pub fits : first_too_large image ≡ None

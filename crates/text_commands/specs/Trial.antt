@@ -8,11 +8,11 @@ use Rattle.text_commands.specs.Arguments.{IsCall}
 use Rattle.text_commands.specs.Compile.{IsImageOf}
 use Rattle.text_commands.specs.Lines.{cmm_outcome_text}
 
--- This is the image of the text, and this the outcome of the run of its file's function that the words name, with the
--- frames and addresses of the image.
+-- This is the image of the text by what the words choose, and this the outcome of the run of its file's function that
+-- the words name, with the frames and addresses of the image.
 pub record IsTrial (check : CheckTree) (text : List ℕ) (image : Tables) (outcome : List ℕ) : Type 0
   where
-    pub is_image : IsImageOf text image
+    pub is_image : IsImageOf check.choices text image
     pub entry : ℕ
     pub args : List ℕ
     pub answers : List ℕ

@@ -83,7 +83,8 @@ impl From<BuildError> for CheckRefusal {
 }
 
 /// What is reported of the run of a text that the words ask for: its outcome, and what it needs of stack, heap and fuel.
-/// The frames and addresses of functions are those of the text's image, which is compiled by one job.
+/// The frames and addresses of functions are those of the text's image by what the words choose, which is compiled by
+/// one job.
 ///
 /// # Errors
 ///

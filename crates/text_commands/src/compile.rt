@@ -6,8 +6,9 @@ ghost use Rattle.text_commands.specs.declared.compile.Refusal.TheVariants.{OutOf
 
 use bs_fault::{BuildError, Fault, FrontError, Large};
 use bs_words::List;
+use choices::Choices;
 use cmm_front::front;
-use file_compile::{Gate, compile};
+use file_compile::{Gate, compile_by};
 use image_codec::write_image;
 use std::alloc::{AllocError, Global};
 use std::thread::Threads;
@@ -57,7 +58,8 @@ impl From<BuildError> for Refusal {
     }
 }
 
-/// The spelling of the image of a text, whose functions are shared among so many jobs. The gate hears of each.
+/// The spelling of the image of a text by what is chosen. Its functions are shared among so many jobs, and the gate
+/// hears of each.
 ///
 /// # Errors
 ///
@@ -68,15 +70,16 @@ pub fn compile_text<R: Threads + Sync, G: Gate + Sync>(
     rt: &R,
     alloc: Global,
     text: &[u8],
+    choices: Choices,
     jobs: u32,
     gate: &G,
 ) -> Result<List<u8>, Refusal>
     requires some_jobs { 1 ≤ jobs }
     requires few_jobs { jobs ≤ 64 }
-    ensures image { IfOk result (λ bytes. SpellsImageOf text.now (contents bytes)) }
-    ensures refused { IfErr result (λ r. IsTextRefusal text.now r) }
+    ensures image { IfOk result (λ bytes. SpellsImageOf choices text.now (contents bytes)) }
+    ensures refused { IfErr result (λ r. IsTextRefusal choices text.now r) }
 {
     let checked = front(alloc, text)?;
-    let image = compile(rt, alloc, &checked, jobs, gate)?;
+    let image = compile_by(rt, alloc, &checked, choices, jobs, gate)?;
     Ok(write_image(alloc, &image)?)
 }

@@ -5,12 +5,14 @@ ghost use Rattle.text_commands.specs.Listing.{IsListingOf, IsListRefusal};
 
 use crate::compile::Refusal;
 use bs_words::List;
+use choices::Choices;
 use cmm_front::front;
+use file_compile::stage_by;
 use stages::Stage;
 use std::alloc::Global;
 use std::thread::Threads;
 
-/// The text of a stage of a text's file.
+/// The text of a stage of a text's file, by what is chosen.
 ///
 /// # Errors
 ///
@@ -21,11 +23,12 @@ pub fn list_text<R: Threads + Sync>(
     rt: &R,
     alloc: Global,
     text: &[u8],
+    choices: Choices,
     stage: Stage,
 ) -> Result<List<u8>, Refusal>
-    ensures listed { IfOk result (λ bytes. IsListingOf stage text.now (contents bytes)) }
-    ensures refused { IfErr result (λ r. IsListRefusal stage text.now r) }
+    ensures listed { IfOk result (λ bytes. IsListingOf choices stage text.now (contents bytes)) }
+    ensures refused { IfErr result (λ r. IsListRefusal choices stage text.now r) }
 {
     let checked = front(alloc, text)?;
-    Ok(file_compile::stage(rt, alloc, &checked, stage)?)
+    Ok(stage_by(rt, alloc, &checked, choices, stage)?)
 }

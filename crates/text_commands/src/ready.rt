@@ -16,7 +16,7 @@ use cmm_eval::Layout;
 use cmm_front::front;
 use cmm_walks::Checked;
 use command_line::CheckWords;
-use file_compile::{Gate, compile, layout};
+use file_compile::{Gate, compile_by, layout};
 use image_form::Image;
 use std::alloc::Global;
 use std::thread::Threads;
@@ -28,7 +28,7 @@ pub struct Ready {
     pub checked: Checked,
     /// The call that the words ask for.
     pub call: FileCall,
-    /// The image of the text.
+    /// The image of the text, by what the words choose.
     pub image: Image,
     /// The frames and addresses of the functions in the image.
     pub layout: Layout,
@@ -59,7 +59,7 @@ pub fn made_ready<R: Threads + Sync, G: Gate + Sync>(
 {
     let checked = front(alloc, text)?;
     let call = call_of(alloc, checked.typed().file(), check)?;
-    let image = compile(rt, alloc, &checked, 1, gate)?;
+    let image = compile_by(rt, alloc, &checked, check.choices, 1, gate)?;
     let layout = layout(alloc, &image)?;
     Ok(Ready {
         checked,

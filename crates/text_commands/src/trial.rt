@@ -26,8 +26,8 @@ pub struct Trial {
     pub outcome: List<u8>,
 }
 
-/// A text's image, which is compiled by one job, and the outcome of the run that the words ask for, with the frames and
-/// addresses of functions in that image.
+/// A text's image by what the words choose, which is compiled by one job, and the outcome of the run that they ask for,
+/// with the frames and addresses of functions in that image.
 ///
 /// # Errors
 ///

@@ -6,12 +6,12 @@ use Rattle.commands.proofs.list.list.Goals as goal
 
 pub returns-in-Ok-write_all : goal.returns-in-Ok-write_all
 returns-in-Ok-write_all g c = λ line is.
-    Ends-listed line _ c.args.stage (contents c.in-Ok.listed) is c.in-Ok.ensures.listed
+    Ends-listed line _ c.args.choices c.args.stage (contents c.in-Ok.listed) is c.in-Ok.ensures.listed
     (rw c.as_slice.ensures at c.in-Ok-write_all.ensures.all) (Keeps-same _)
 
 pub returns-in-Ok : goal.returns-in-Ok
 returns-in-Ok g c = λ line is.
-    Ends-listed-cut line _ c.args.stage (contents c.in-Ok.listed) is c.in-Ok.ensures.listed
+    Ends-listed-cut line _ c.args.choices c.args.stage (contents c.in-Ok.listed) is c.in-Ok.ensures.listed
     (rw c.as_slice.ensures at (GotPart-part _ _ c.in-Err.ensures.part c.in-Err.ensures.failed)) (Keeps-same _)
 
 pub returns-in-Err-ReadFault : goal.returns-in-Err-ReadFault
@@ -20,5 +20,5 @@ returns-in-Err-ReadFault g c = λ line is.
 
 pub returns : goal.returns
 returns g c = λ line is.
-    Ends-unlisted line _ c.args.stage c.in-Err-Text.why _ is
+    Ends-unlisted line _ c.args.choices c.args.stage c.in-Err-Text.why _ is
     (rw c.in-Err-Text.field-0-is at c.in-Err-Text.ensures.refused) (Keeps-same _) c.tell_refusal.ensures

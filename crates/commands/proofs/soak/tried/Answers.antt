@@ -1,12 +1,13 @@
 use Rattle.cmm_front.specs.FileOf.{HasFault}
 use Rattle.text_commands.specs.Check.{HasNoEntry, IsUnfitFor, IsTooLargeToCheck}
+use Rattle.commands.specs.Soak.{soak_check}
 use Rattle.commands.proofs.Soaking.{for_soak, passing, no_fault, no_unknown, no_unfit}
 use Rattle.commands.proofs.soak.tried.Goals as goal
 
 pub returns-in-Err-TooLarge-clause-refused : goal.returns-in-Err-TooLarge-clause-refused
 returns-in-Err-TooLarge-clause-refused g c =
     let large = c.in-Err-TooLarge.large in
-    passing _ _ large
+    passing (soak_check c.args.functions) _ large
     (for_soak (λ check text. IsTooLargeToCheck check text large) _ _ _ _ _ c.in_ok-check.ensures c.as_slice.ensures c.in_ok-text.ensures.text
     (rw c.in-Err-TooLarge.field-0-is at c.in-Err-TooLarge.ensures.refused))
 

@@ -7,8 +7,8 @@ use Rattle.text_commands.proofs.Passing.{too_large}
 use Rattle.text_commands.proofs.compile.compile_text.Goals as goal
 
 -- its file is the text's, so that it is an accepted one
-pub compile-requires-clause-accepted : goal.compile-requires-clause-accepted
-compile-requires-clause-accepted g c = λ lifetimes outlive. record {
+pub compile_by-requires-clause-accepted : goal.compile_by-requires-clause-accepted
+compile_by-requires-clause-accepted g c = λ lifetimes outlive. record {
   text = c.args.text.now;
   are_bytes = all_bytes c.args.text.now (λ i. omega (arith, c.type_inv.text i));
   is_file = c.in_ok-checked.ensures.file;

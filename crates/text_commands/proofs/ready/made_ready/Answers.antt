@@ -13,8 +13,8 @@ call_of-requires-clause-few g c =
     subst (λ (f : FileTree). length (functions f) < 2 ^ 32) (sym same) (few_functions c.args.text.now file c.in_ok-checked.ensures.file)
 
 -- its file is the text's, so that it is an accepted one
-pub compile-requires-clause-accepted : goal.compile-requires-clause-accepted
-compile-requires-clause-accepted g c = λ lifetimes outlive. record {
+pub compile_by-requires-clause-accepted : goal.compile_by-requires-clause-accepted
+compile_by-requires-clause-accepted g c = λ lifetimes outlive. record {
   text = c.args.text.now;
   are_bytes = all_bytes c.args.text.now (λ i. omega (arith, c.type_inv.text i));
   is_file = c.in_ok-checked.ensures.file;
