@@ -1,0 +1,4 @@
+pub mod InStep
+pub mod Runs
+pub mod Walks
+pub mod Forms
