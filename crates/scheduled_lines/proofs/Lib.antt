@@ -5,3 +5,4 @@ pub mod Forms
 pub mod Points
 pub mod Tidy
 pub mod Lines
+pub mod Sizes

@@ -65,12 +65,12 @@ leaves_stays (lin.Flow f) e = refl
 
 -- ---- frames
 
-pub same_points : {code other : List Line} → InStep code other → frame_point_count other ≡ frame_point_count code
-same_points both_end = refl
-same_points (both_plain {i = i} {j = j} {is = is} {js = js} p q s) =
-    ap (λ b. cond b (suc (frame_point_count js)) (frame_point_count js)) (frameless j.op q) ∙ same_points s
+pub same_count : {code other : List Line} → InStep code other → frame_point_count other ≡ frame_point_count code
+same_count both_end = refl
+same_count (both_plain {i = i} {j = j} {is = is} {js = js} p q s) =
+    ap (λ b. cond b (suc (frame_point_count js)) (frame_point_count js)) (frameless j.op q) ∙ same_count s
     ∙ sym (ap (λ b. cond b (suc (frame_point_count is)) (frame_point_count is)) (frameless i.op p))
-same_points (same_line {i = i} s) = ap (λ n. cond (passes_frame i.op) (suc n) n) (same_points s)
+same_count (same_line {i = i} s) = ap (λ n. cond (passes_frame i.op) (suc n) n) (same_count s)
 
 pub has_point : {code other : List Line} → InStep code other → has_frame_point other ≡ has_frame_point code
 has_point both_end = refl

@@ -5,7 +5,7 @@
 //! The crate holds laws alone.
 #![tactic(auto)]
 
-ghost use Rattle.std.specs.Prelude.{◌≡◌, ◌↔◌, ℕ, ◌+◌, List, [], ◌∷◌, All, sum_by};
+ghost use Rattle.std.specs.Prelude.{◌≡◌, ◌↔◌, ℕ, ◌+◌, List, [], ◌∷◌};
 ghost use Rattle.cmm_tree.specs.Tree.{FunctionTree};
 ghost use Rattle.lin_ir.specs.Descriptors.{AreExact, frame_bytes, frame_point_count};
 ghost use Rattle.lin_ir.specs.Walks.{Traps};
@@ -46,8 +46,8 @@ pub fn reordered_lines_have_the_same_descriptors()
         AreLinesOf tree m → Ordered m.code code → AreExact m ds ↔ AreExact (with_code m code) ds }
 {}
 
-/// Law: they are as large. What is added up over lines is the same, as words are, and frame points; and
-/// with the same descriptors what is added up over pieces.
+/// Law: they are as large. What is added up over lines is the same, as their words are at most; so are
+/// frame points and the frame; and with the same descriptors what is added up over pieces, as words are.
 pub fn reordered_lines_are_as_large()
     ensures lines { (code other : List Line) → Ordered code other → (measure : Line → ℕ)
         (total : List Line → ℕ) → total [] ≡ 0 →
@@ -59,6 +59,8 @@ pub fn reordered_lines_are_as_large()
         frame_bytes (with_code m code) ≡ frame_bytes m }
     ensures pieces { (tree : FunctionTree) (m : Lin) (code : List Line) (ds : List Descr)
         (p q : Pieces) → AreLinesOf tree m → Ordered m.code code → IsEmitted m ds p →
-        IsEmitted (with_code m code) ds q → (measure : Piece → ℕ) →
-        sum_by measure q.code ≡ sum_by measure p.code }
+        IsEmitted (with_code m code) ds q → (measure : Piece → ℕ) (total : List Piece → ℕ) →
+        total [] ≡ 0 →
+        ((x : Piece) (xs : List Piece) → total (x ∷ xs) ≡ measure x + total xs) →
+        total q.code ≡ total p.code }
 {}
