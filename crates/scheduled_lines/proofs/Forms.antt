@@ -1,5 +1,5 @@
 -- Lines in another order are as well formed as they were.
-use Rattle.std.proofs.Common.{◌≡◌, ◌≢◌, ℕ, true, false, List, ◌∷◌, All, AllPairs, refl, sym, ap, ◌∙◌, subst}
+use Rattle.std.proofs.Common.{◌≡◌, ◌≢◌, ℕ, true, List, All, AllPairs, refl, sym, ap, ◌∙◌, subst}
 use Rattle.std.proofs.lemmas.Bool.{true≢false}
 use Rattle.std.specs.List.{Contains}
 use Rattle.bs_words.specs.declared.types.Loc.{Loc}
@@ -7,7 +7,7 @@ use Rattle.lin_ir.specs.Formed.{IsFormedLine, IsHome, is_colour, is_slot, Enters
 use Rattle.lin_ir.specs.declared.lin.Line.{Line}
 use Rattle.lin_ir.specs.declared.lin.Lin.{Lin}
 use Rattle.lin_ir.specs.declared.lin.Spot.{Spot}
-use Rattle.linearise_rules.proofs.Homes.{IsIn, in_of, contains_of}
+use Rattle.linearise_rules.proofs.Homes.{in_of, contains_of}
 use Rattle.linearise_rules.proofs.Lines.{all_of}
 use Rattle.linearise_rules.proofs.Marks.{all_in}
 use Rattle.lin_tidy_rules.specs.Leaving.{with_code}

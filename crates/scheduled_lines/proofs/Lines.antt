@@ -1,5 +1,5 @@
 -- All that is known of lines is known of them in another order.
-use Rattle.std.proofs.Common.{◌≡◌, ℕ, List, ◌∷◌, refl}
+use Rattle.std.proofs.Common.{List, refl}
 use Rattle.cmm_tree.specs.Tree.{FunctionTree}
 use Rattle.mach_ir.specs.Keeps.{Keeps}
 use Rattle.mach_ir.specs.declared.mach.Mach.{Mach}

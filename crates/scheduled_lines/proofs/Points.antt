@@ -1,31 +1,26 @@
 -- Frame points of lines in another order: the same is live after them, so descriptors are as exact as they were.
-use Rattle.std.proofs.Common.{◌≡◌, ◌≢◌, ◌↔◌, ℕ, suc, ◌+◌, ◌*◌, true, false, List, ◌∷◌, length, All, AllPairs, refl, sym, ap, ◌∙◌, subst, arith}
+use Rattle.std.proofs.Common.{◌≡◌, ◌↔◌, ℕ, ◌+◌, ◌*◌, true, List, ◌∷◌, length, refl, sym, ap, ◌∙◌, arith}
 use Rattle.std.proofs.lemmas.List.Elements.{All-weaker}
-use Rattle.std.specs.List.{Contains}
 use Rattle.bs_words.specs.declared.types.Comp.{Comp}
 use Rattle.bs_words.specs.declared.types.Comp.TheVariants as comp
 use Rattle.bs_words.specs.declared.types.Loc.{Loc}
-use Rattle.bs_words.specs.declared.types.Loc.TheVariants as loc
 use Rattle.lin_ir.specs.Descriptors.{frame_bytes, NamesLive, IsDescr, Describes, AreExact, NoAddrLive}
 use Rattle.lin_ir.specs.Formed.{AreLocated}
 use Rattle.lin_ir.specs.Meaning.{passes_frame}
-use Rattle.lin_ir.specs.Walks.{StandsAsLine, Traps, LiveAt, LiveAcross}
+use Rattle.lin_ir.specs.Walks.{StandsAsLine, Traps, LiveAt}
 use Rattle.lin_ir.specs.declared.descr.Descr.{Descr}
 use Rattle.lin_ir.specs.declared.lin.Line.{Line}
-use Rattle.lin_ir.specs.declared.lin.LinOp.{LinOp}
 use Rattle.lin_ir.specs.declared.lin.Lin.{Lin}
 use Rattle.linearise_rules.proofs.Walked.{Tail, tail_all, tail_more, stands_tail}
 use Rattle.lin_tidy_rules.specs.Leaving.{with_code}
-use Rattle.schedule_rules.specs.Straight.{is_plain}
 use Rattle.schedule_rules.specs.Orders.{Ordered}
-use Rattle.schedule_rules.proofs.Doing.{plain_frame}
 use Rattle.schedule_rules.proofs.Forth.{across_forth}
 use Rattle.schedule_rules.proofs.Located.{across_set, located_kept}
 use Rattle.schedule_rules.proofs.Walked.{EndOf, all_of_it, less}
 use Rattle.schedule_rules.proofs.Whole.{across_back}
-use Rattle.scheduled_lines.proofs.InStep.{InStep, same_line, in_step, turned, same_length, traps_there}
+use Rattle.scheduled_lines.proofs.InStep.{same_line, in_step, turned, same_length, traps_there}
 use Rattle.scheduled_lines.proofs.Runs.{stays, stayed}
-use Rattle.scheduled_lines.proofs.Walks.{same_frame}
+use Rattle.scheduled_lines.proofs.Walks.{point_stays, same_frame}
 
 -- ---- functions with the same frame points
 
@@ -102,13 +97,6 @@ end_of (tail_more t) = wider (end_of t)
     wider : {j : Line} {zs ys : List Line} → EndOf zs ys → EndOf (j ∷ zs) ys
     wider all_of_it = less all_of_it
     wider (less e) = less (wider e)
-
-point_stays : (f : LinOp) → passes_frame f ≡ true → is_plain f ≡ false
-point_stays f e = by (is_plain f) refl
-  where
-    by : (b : _) → is_plain f ≡ b → b ≡ false
-    by true p = absurd (plain_frame f p e)
-    by false p = refl
 
 module _ (m : Lin) (code : List Line) (order : Ordered m.code code) (located : AreLocated m) where
   abbrev R : Lin

@@ -1,5 +1,5 @@
 -- Where a line stands in code with its runs reordered: it stays, or it is of a run.
-use Rattle.std.proofs.Common.{◌≡◌, Bool, true, false, ◌⊎◌, inl, inr, ⊎_elim, List, [], ◌∷◌, ◌++◌, refl, sym, ap, ◌∙◌, subst}
+use Rattle.std.proofs.Common.{◌≡◌, Bool, true, false, ◌⊎◌, inl, inr, ⊎_elim, List, [], ◌∷◌, ◌++◌, refl, sym, ◌∙◌}
 use Rattle.std.proofs.lemmas.Bool.{true≢false}
 use Rattle.lin_ir.specs.Walks.{StandsAsLine, here, below}
 use Rattle.lin_ir.specs.declared.lin.Line.{Line}

@@ -1,5 +1,5 @@
 -- What is added up over lines, and over the pieces that are emitted for them, is the same in another order.
-use Rattle.std.proofs.Common.{◌≡◌, ℕ, zero, suc, ◌+◌, Bool, true, false, cond, ◌&&◌, nat_eq, List, [], ◌∷◌, ◌++◌, length, Option, None, refl, sym, ap, ◌∙◌, subst, arith}
+use Rattle.std.proofs.Common.{◌≡◌, ℕ, ◌+◌, Bool, true, false, cond, ◌&&◌, nat_eq, List, [], ◌∷◌, ◌++◌, length, None, refl, sym, ap, ◌∙◌, arith}
 use Rattle.std.proofs.lemmas.Bool.{true≢false, eq-eqb, eqb-true}
 use Rattle.std.proofs.lemmas.List.Recursion.{is_sum_by}
 use Rattle.std.proofs.lemmas.List.Sums.{sum_by-append}
@@ -18,7 +18,7 @@ use Rattle.linearise_rules.proofs.Walked.{Tail, tail_all, tail_next, tail_stands
 use Rattle.lin_tidy_rules.specs.Leaving.{with_code}
 use Rattle.lin_tidy_rules.specs.Regular.{IsTidy}
 use Rattle.lin_tidy_rules.proofs.Ends.{tail_then, tail_past}
-use Rattle.rv_emit_rules.specs.Emitted.{part_of_line, part_before, descriptor, left_after, parts_of_lines, emitted, IsEmitted}
+use Rattle.rv_emit_rules.specs.Emitted.{part_of_line, part_before, descriptor, left_after, parts_of_lines, IsEmitted}
 use Rattle.rv_emit_rules.specs.Entry.{FrameLayout, frame_of, entry_pieces}
 use Rattle.rv_emit_rules.specs.Units.{is_branch, tests_first, falls_to, is_free_exit}
 use Rattle.rv_emit_rules.proofs.Units.{part_unless_free}

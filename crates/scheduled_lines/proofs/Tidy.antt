@@ -1,5 +1,5 @@
 -- Lines in another order are as tidy as they were.
-use Rattle.std.proofs.Common.{◌≡◌, ◌≢◌, ℕ, ◌&&◌, true, false, inl, List, [], ◌∷◌, ◌++◌, length, refl, sym, ap, ◌∙◌, subst}
+use Rattle.std.proofs.Common.{◌≡◌, ◌≢◌, ℕ, true, inl, List, [], ◌∷◌, ◌++◌, refl, sym, ◌∙◌, subst}
 use Rattle.std.proofs.lemmas.Bool.{true≢false}
 use Rattle.bs_words.proofs.Lists.{first_in}
 use Rattle.bs_words.specs.declared.types.Loc.{Loc}
@@ -19,13 +19,13 @@ use Rattle.lin_tidy_rules.specs.Regular.{AtHomes, IsRegular, IsReadBehind, IsTid
 use Rattle.lin_tidy_rules.proofs.Ends.{same_tail, tail_then}
 use Rattle.lin_tidy_rules.proofs.LeavingDown.{between_tail}
 use Rattle.schedule_rules.specs.Straight.{is_plain}
-use Rattle.schedule_rules.specs.Orders.{are_plain, Rest, Ordered}
+use Rattle.schedule_rules.specs.Orders.{are_plain, Ordered}
 use Rattle.schedule_rules.proofs.Behind.{live_behind}
 use Rattle.schedule_rules.proofs.Reorder.{and_right, reorders_plain}
 use Rattle.schedule_rules.proofs.Walked.{through}
 use Rattle.scheduled_lines.proofs.Forms.{was_in}
 use Rattle.scheduled_lines.proofs.InStep.{InStep, both_plain, same_line, in_step, rest_in_step, label_in_step, same_length, reached_there}
-use Rattle.scheduled_lines.proofs.Runs.{Among, Stays, stays, InRun, in_run, stands_left}
+use Rattle.scheduled_lines.proofs.Runs.{stays, InRun, in_run, stands_left}
 use Rattle.scheduled_lines.proofs.Walks.{line_reached, one_traps, plain_landing}
 
 -- ---- moves from a location to itself

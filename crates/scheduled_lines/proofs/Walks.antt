@@ -1,5 +1,5 @@
 -- What holds of the walks of a function holds of those of a function whose code is in step with it.
-use Rattle.std.proofs.Common.{◌≡◌, ℕ, suc, ◌+◌, ◌*◌, ◌/◌, ◌<◌, ◌≤◌, Bool, true, false, cond, ◌||◌, List, [], ◌∷◌, length, refl, sym, ap, ◌∙◌, subst, arith}
+use Rattle.std.proofs.Common.{◌≡◌, ℕ, suc, ◌+◌, ◌*◌, ◌/◌, ◌<◌, ◌≤◌, Bool, true, false, cond, ◌||◌, List, [], ◌∷◌, length, refl, sym, ap, ◌∙◌, subst}
 use Rattle.std.proofs.lemmas.Bool.{true≢false}
 use Rattle.mach_ir.specs.Acts.{Target, On, At}
 use Rattle.mach_ir.specs.Walks.{OneOf}
@@ -21,7 +21,7 @@ use Rattle.lin_tidy_rules.proofs.Ends.{same_tail}
 use Rattle.lin_tidy_rules.proofs.Shape.{balance_of}
 use Rattle.schedule_rules.specs.Straight.{is_plain}
 use Rattle.schedule_rules.proofs.Doing.{plain_frame}
-use Rattle.schedule_rules.proofs.Living.{plain_on, plain_only, plain_quiet, plain_tries}
+use Rattle.schedule_rules.proofs.Living.{plain_on, plain_only, plain_quiet}
 use Rattle.scheduled_lines.proofs.InStep.{InStep, both_end, both_plain, same_line, turned, same_length, label_in_step, Beside, beside, Came, came, reached_there, traps_were}
 
 -- ---- lines of runs
@@ -45,12 +45,19 @@ frameless f e = by (passes_frame f) refl
     by true q = absurd (plain_frame f e q)
     by false q = refl
 
-pub raise_stays : (f : LinOp) → may_raise f ≡ true → is_plain f ≡ false
-raise_stays f e = by (is_plain f) refl
+-- what cannot be in a run stays
+stays_if : (f : LinOp) → (is_plain f ≡ true → ⊥) → is_plain f ≡ false
+stays_if f out = by (is_plain f) refl
   where
     by : (b : Bool) → is_plain f ≡ b → b ≡ false
-    by true p = absurd (true≢false (sym e ∙ plain_quiet f p))
+    by true p = absurd (out p)
     by false p = refl
+
+raise_stays : (f : LinOp) → may_raise f ≡ true → is_plain f ≡ false
+raise_stays f e = stays_if f (λ p. true≢false (sym e ∙ plain_quiet f p))
+
+pub point_stays : (f : LinOp) → passes_frame f ≡ true → is_plain f ≡ false
+point_stays f e = stays_if f (λ p. plain_frame f p e)
 
 label_stays : (f : LinOp) → is_label f ≡ true → is_plain f ≡ false
 label_stays (lin.Op f) e = absurd (true≢false (sym e))
