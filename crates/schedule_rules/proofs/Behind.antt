@@ -89,17 +89,17 @@ module _ (l : Loc) (out : l ≢ loc.Unset) where
   first_drop t (x ∷ c) j after unread (reads_it r) = reads_it r
   first_drop t (x ∷ c) j after unread (past w f) = past w (first_drop t c j after unread f)
 
-  pub record Behind (t : Comp) (i : Line) (xs later : List Line) : Type 0 where
+  pub record Behind (i : Line) (xs later : List Line) : Type 0 where
     pub others : List Line
     pub stands : StandsAsLine i others xs
-    pub first : Writes i l → First l out t others → First l out t later
+    pub first : Writes i l → (t : Comp) → First l out t others → First l out t later
     pub unwritten : Writes i l → Unwritten l out others → Unwritten l out later
 
   -- A line of the new order is a line of the old. What that has behind it, read before it is written or not written, it has here.
-  pub behind : (t : Comp) (xs ys : List Line) → Reorders xs ys → are_plain xs ≡ true → (i : Line) (later : List Line) → StandsAsLine i later ys → Behind t i xs later
-  behind t _ _ nothing p i later s = elim s [ ]
-  behind t _ _ (takes before j after {others = others} d r) p i later s =
-      by i later s (λ i later z. behind t (before ++ after) others r (others_plain l out before j after p) i later z)
+  pub behind : (xs ys : List Line) → Reorders xs ys → are_plain xs ≡ true → (i : Line) (later : List Line) → StandsAsLine i later ys → Behind i xs later
+  behind _ _ nothing p i later s = elim s [ ]
+  behind _ _ (takes before j after {others = others} d r) p i later s =
+      by i later s (λ i later z. behind (before ++ after) others r (others_plain l out before j after p) i later z)
     where
       pb : are_plain before ≡ true
       pb = plain_left before (j ∷ after) p
@@ -110,32 +110,32 @@ module _ (l : Loc) (out : l ≢ loc.Unset) where
       po : are_plain (before ++ after) ≡ true
       po = others_plain l out before j after p
 
-      moved : (i : Line) (later : List Line) → Behind t i (before ++ after) later → Behind t i (before ++ j ∷ after) later
+      moved : (i : Line) (later : List Line) → Behind i (before ++ after) later → Behind i (before ++ j ∷ after) later
       moved i later h = at (where_of i h.others before after h.stands)
         where
-          at : Where i h.others before after → Behind t i (before ++ j ∷ after) later
+          at : Where i h.others before after → Behind i (before ++ j ∷ after) later
           at (in_front c w e) =
               record {
                 others = c ++ j ∷ after;
                 stands = stands_left (j ∷ after) w;
-                first = λ x f. h.first x (subst (First l out t) (sym e)
+                first = λ x t f. h.first x t (subst (First l out t) (sym e)
                     (first_drop t c j after (λ y. reader_free l out j i t (plain_of w pb) (free_of j w d) y x) f));
                 unwritten = λ x u. h.unwritten x (subst (Unwritten l out) (sym e) (unwritten_take l out c j after u).1);
               }
           at (behind_it w) = record { others = h.others; stands = stands_right before (below w); first = h.first; unwritten = h.unwritten }
 
-      at_head : Behind t j (before ++ j ∷ after) others
+      at_head : Behind j (before ++ j ∷ after) others
       at_head =
           record {
             others = after;
             stands = stands_right before here;
-            first = λ w f. first_forth l out t (before ++ after) others r po (before_past t before j after pb pj d w f);
+            first = λ w t f. first_forth l out t (before ++ after) others r po (before_past t before j after pb pj d w f);
             unwritten = λ w u. unwritten_forth l out (before ++ after) others r (before_unwritten before j after pb pj d w u);
           }
 
-      by : (i : Line) (later : List Line) → StandsAsLine i later (j ∷ others) → ((i : Line) (later : List Line) → StandsAsLine i later others → Behind t i (before ++ after) later) → Behind t i (before ++ j ∷ after) later
+      by : (i : Line) (later : List Line) → StandsAsLine i later (j ∷ others) → ((i : Line) (later : List Line) → StandsAsLine i later others → Behind i (before ++ after) later) → Behind i (before ++ j ∷ after) later
       by i later s ih =
-          ⊎_elim (λ y. subst (λ k. Behind t i (before ++ j ∷ after) k) (sym y.1) (subst (λ (k : Line). Behind t k (before ++ j ∷ after) others) (sym y.0) at_head))
+          ⊎_elim (λ y. subst (λ k. Behind i (before ++ j ∷ after) k) (sym y.1) (subst (λ (k : Line). Behind k (before ++ j ∷ after) others) (sym y.0) at_head))
           (λ z. moved i later (ih i later z)) (head_or s j others refl)
 
 stands_plain : {i : Line} {c xs : List Line} → StandsAsLine i c xs → are_plain xs ≡ true → are_plain c ≡ true
@@ -144,16 +144,16 @@ stands_plain (below s) p = stands_plain s (and_right _ _ p)
 
 -- Live behind a line of a run that writes it, in the new function as in the old. So a move from a location to itself that was for a
 -- type still is.
-pub live_behind : (m r : Lin) → Ordered m.code r.code → (l : Loc) (t : Comp) (out : l ≢ loc.Unset) (xs ys is js : List Line) → are_plain xs ≡ true → (o : Reorders xs ys) → Rest is js →
+pub live_behind : (m r : Lin) → Ordered m.code r.code → (l : Loc) (out : l ≢ loc.Unset) (xs ys is js : List Line) → are_plain xs ≡ true → (o : Reorders xs ys) → Rest is js →
     (i : Line) (later : List Line) → StandsAsLine i later ys → Writes i l → (others : List Line) × StandsAsLine i others xs ×
-    ((tries : List ℕ) → Live m l t (others ++ is) tries → Live r l t (later ++ js) tries)
-live_behind m r whole l t out xs ys is js p o rest i later s w =
-    let b = behind l out t xs ys o p i later s in
+    ((t : Comp) (tries : List ℕ) → Live m l t (others ++ is) tries → Live r l t (later ++ js) tries)
+live_behind m r whole l out xs ys is js p o rest i later s w =
+    let b = behind l out xs ys o p i later s in
     let later_plain : are_plain later ≡ true = stands_plain s (reorders_plain xs ys o p) in (
       b.others,
       b.stands,
-      λ tries v.
-          ⊎_elim (λ f. first_live l out r t later js tries later_plain (b.first w f))
+      λ t tries v.
+          ⊎_elim (λ f. first_live l out r t later js tries later_plain (b.first w t f))
           (λ u. unwritten_live l out r t later js tries later_plain (b.unwritten w u.0) u.1)
           (forth m r whole l t out v b.others is js (stands_plain b.stands p) rest refl),
     )

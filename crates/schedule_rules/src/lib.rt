@@ -87,13 +87,13 @@ pub fn reordered_functions_name_the_same()
         NoAddrReached m → NoAddrReached r }
 {}
 
-/// Law: what is live behind a line of a run that writes it is live behind it in the new order too.
-/// So a move from a location to itself that was read still is.
+/// Law: what is live behind a line of a run that writes it is live behind it in the new order too, for
+/// each type. So a move from a location to itself that was read still is.
 pub fn reordered_runs_have_the_same_behind()
-    ensures { (m r : Lin) → Ordered m.code r.code → (l : Loc) (component : Comp) → l ≢ loc.Unset →
+    ensures { (m r : Lin) → Ordered m.code r.code → (l : Loc) → l ≢ loc.Unset →
         (run other code after : List Line) → are_plain run ≡ true → Reorders run other →
         Rest code after → (i : Line) (later : List Line) → StandsAsLine i later other → Writes i l →
-        (sooner : List Line) × StandsAsLine i sooner run × ((tries : List ℕ) →
+        (sooner : List Line) × StandsAsLine i sooner run × ((component : Comp) (tries : List ℕ) →
         Live m l component (sooner ++ code) tries → Live r l component (later ++ after) tries) }
 {}
 
