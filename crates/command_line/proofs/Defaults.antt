@@ -5,12 +5,13 @@ use Rattle.std.proofs.lemmas.Bool.{both_ways}
 use Rattle.std.proofs.lemmas.List.Elements.{All-cons}
 use Rattle.command_line.specs.declared.form.Slot.TheVariants.{Args, Answers, Steps, Stack, Heap, Fuel, Jobs}
 use Rattle.command_line.specs.declared.form.Slot.TheVariants as slot
+use Rattle.choices.specs.Defaults.{defaults}
 use Rattle.command_line.specs.Command.{default_jobs, default_steps, default_size, default_moves}
 use Rattle.rv_machine.specs.Places.{most_room}
-use Rattle.command_line.specs.Values.{IsSteps, IsSize, IsMoves, never, IsItems, none, IsCounted, most_jobs, most_steps}
+use Rattle.command_line.specs.Values.{IsSteps, IsSize, IsMoves, never, IsItems, none, IsCounted, IsAlloc, most_jobs, most_steps}
 use Rattle.command_line.specs.Program.{Defaults}
 use Rattle.command_line.proofs.Cuts.{list-unique}
-use Rattle.command_line.proofs.Unique.{steps-unique, size-unique, moves-unique, counted-unique}
+use Rattle.command_line.proofs.Unique.{steps-unique, size-unique, moves-unique, counted-unique, alloc-unique}
 
 abbrev digit : ℕ → Bool
 digit b = nat_le 48 b && nat_le b 57
@@ -69,3 +70,6 @@ moves_left_out = record { text = codes "none"; is = refl; reads = never refl ref
 
 pub jobs_left_out : Defaults Jobs (IsCounted most_jobs) default_jobs
 jobs_left_out = record { text = codes "1"; is = refl; reads = jobs_default; alone = λ x is. counted-unique most_jobs (codes "1") x default_jobs is jobs_default }
+
+pub alloc_left_out : Defaults slot.Alloc IsAlloc (defaults).alloc
+alloc_left_out = record { text = codes "colour"; is = refl; reads = refl; alone = λ x is. alloc-unique (codes "colour") x (defaults).alloc is refl }

@@ -5,9 +5,11 @@ use Rattle.std.specs.List.Sorted.{IsPermutation}
 use Rattle.std.proofs.lemmas.List.Sorted.{IsPermutation-sym, All-permutation, Contains-permutation, sum_by-IsPermutation}
 use Rattle.command_line.specs.declared.form.CommandWord.{CommandWord}
 use Rattle.command_line.specs.declared.form.Slot.{Slot}
-use Rattle.command_line.specs.declared.form.Slot.TheVariants.{Plain, Args, Answers, Steps, Stack, Heap, Moves, Fuel, Jobs, Seed, Functions}
-use Rattle.command_line.specs.Command.{CommandTree, RunTree, CheckTree, Sets, given, left_out, TellsSlot, IsRun, IsCheck, Means, IsCommand, compile, run, check, list, soak, default_jobs, default_steps, default_size, default_moves}
-use Rattle.command_line.specs.Values.{IsSteps, IsSize, IsMoves, IsItems, IsCounted, IsSeed, IsStage, most_jobs, most_functions}
+use Rattle.command_line.specs.declared.form.Slot.TheVariants.{Plain, Args, Answers, Steps, Stack, Heap, Moves, Fuel, Jobs, Alloc, Seed, Functions}
+use Rattle.choices.specs.Defaults.{defaults}
+use Rattle.choices.specs.declared.choices.Choices.{Choices}
+use Rattle.command_line.specs.Command.{CommandTree, RunTree, CheckTree, Sets, SetsChoices, given, left_out, TellsSlot, IsRun, IsCheck, Means, IsCommand, compile, run, check, list, soak, default_jobs, default_steps, default_size, default_moves}
+use Rattle.command_line.specs.Values.{IsSteps, IsSize, IsMoves, IsItems, IsCounted, IsSeed, IsStage, IsAlloc, most_jobs, most_functions}
 use Rattle.command_line.specs.Words.{command_text, slots_of_command, wanted_of, fills_slot, IsForm, GivesSlot}
 use Rattle.command_line.proofs.Unique.{parts}
 
@@ -26,6 +28,9 @@ sets-order : {X : Type 0} (xs ys : List (List ℕ)) (slot : Slot) (Reads : List 
 sets-order xs ys slot Reads default x p (given value g reads) = given value (gives-order xs ys slot value p g) reads
 sets-order xs ys slot Reads default x p (left_out none e) =
     left_out (λ value g. none value (gives-order ys xs slot value (IsPermutation-sym xs ys p) g)) e
+
+choices-order : (xs ys : List (List ℕ)) (choices : Choices) → IsPermutation xs ys → SetsChoices xs choices → SetsChoices ys choices
+choices-order xs ys choices p is = record { alloc = sets-order xs ys Alloc IsAlloc (defaults).alloc choices.alloc p is.alloc; order = is.order }
 
 run-order : (xs ys : List (List ℕ)) (r : RunTree) → IsPermutation xs ys → IsRun xs r → IsRun ys r
 run-order xs ys r p is = record {
@@ -46,6 +51,7 @@ check-order xs ys c p is = record {
   args = sets-order xs ys Args IsItems [] c.args p is.args;
   answers = sets-order xs ys Answers IsItems [] c.answers p is.answers;
   fuel = sets-order xs ys Fuel IsSteps default_steps c.fuel p is.fuel;
+  choices = choices-order xs ys c.choices p is.choices;
 }
 
 tells-order : {X : Type 0} (xs ys : List (List ℕ)) (slot : Slot) (Reads : List ℕ → X → Type 0) (x : X)
@@ -53,10 +59,11 @@ tells-order : {X : Type 0} (xs ys : List (List ℕ)) (slot : Slot) (Reads : List
 tells-order xs ys slot Reads x p is = record { value = is.value; gives = gives-order xs ys slot is.value p is.gives; reads = is.reads }
 
 means-order : (xs ys : List (List ℕ)) (command : CommandWord) (tree : CommandTree) → IsPermutation xs ys → Means xs command tree → Means ys command tree
-means-order xs ys _ _ p (compile jobs s) = compile jobs (sets-order xs ys Jobs (IsCounted most_jobs) default_jobs jobs p s)
+means-order xs ys _ _ p (compile choices jobs a s) =
+    compile choices jobs (choices-order xs ys choices p a) (sets-order xs ys Jobs (IsCounted most_jobs) default_jobs jobs p s)
 means-order xs ys _ _ p (run r is) = run r (run-order xs ys r p is)
 means-order xs ys _ _ p (check c is) = check c (check-order xs ys c p is)
-means-order xs ys _ _ p (list stage is) = list stage (tells-order xs ys Plain IsStage stage p is)
+means-order xs ys _ _ p (list choices stage a is) = list choices stage (choices-order xs ys choices p a) (tells-order xs ys Plain IsStage stage p is)
 means-order xs ys _ _ p (soak seed functions s f) =
     soak seed functions (tells-order xs ys Seed IsSeed seed p s) (tells-order xs ys Functions (IsCounted most_functions) functions p f)
 

@@ -1,5 +1,5 @@
 -- Words are at most one command.
-use Rattle.std.proofs.Common.{Contains, ◌≡◌, ◌≢◌, ◌==◌, if◌then◌else◌, ℕ, ◌+◌, ◌*◌, ◌≤◌, ◌%◌, List, [], ◌∷◌, codes, get_or, Option, Some, None, Result, Ok, Err, MatchOption, IfOk, refl, sym, ap, ◌∙◌, subst, arith, lit<}
+use Rattle.std.proofs.Common.{Contains, ◌≡◌, ◌≢◌, ◌==◌, if◌then◌else◌, ℕ, ◌+◌, ◌*◌, ◌≤◌, ◌%◌, List, [], ◌∷◌, codes, get_or, Option, Some, None, Result, Ok, Err, MatchOption, IfOk, refl, sym, ap, ap₂, ◌∙◌, subst, arith, lit<, count_by}
 use Rattle.std.proofs.lemmas.List.{append_cancel_left}
 use Rattle.rv_machine.specs.declared.setup.Arg.{Arg}
 use Rattle.command_line.specs.declared.form.CommandWord.{CommandWord}
@@ -7,15 +7,20 @@ use Rattle.command_line.specs.declared.form.CommandWord.TheVariants as word
 use Rattle.command_line.specs.declared.form.Slot.{Slot}
 use Rattle.command_line.specs.declared.form.Slot.TheVariants.{Plain, Args, Answers, Steps, Stack, Heap, Fuel, Jobs, Functions}
 use Rattle.command_line.specs.declared.form.Slot.TheVariants as slot
+use Rattle.choices.specs.Defaults.{defaults}
+use Rattle.choices.specs.declared.choices.Alloc.{Alloc}
+use Rattle.choices.specs.declared.choices.Alloc.TheVariants.{Colour, Linear}
+use Rattle.choices.specs.declared.choices.Choices.{Choices}
+use Rattle.choices.specs.declared.choices.Order.{Order}
 use Rattle.stages.specs.declared.stage.Stage.{Stage}
 use Rattle.stages.specs.declared.stage.Stage.TheVariants as stage
 use Rattle.command_line.specs.declared.command.Moves.{Moves}
 use Rattle.command_line.specs.declared.command.Moves.TheVariants.{Seed}
-use Rattle.command_line.specs.Command.{CommandTree, CompileCommand, RunCommand, CheckCommand, ListCommand, RunTree, CheckTree, IsRun, IsCheck, Means, IsCommand, compile, run, check, list, soak, default_jobs, default_steps, default_size, default_moves, Sets, given, left_out, TellsSlot, MayWantMemory, WithinLimits, WithinFuel, KeepsLimits}
+use Rattle.command_line.specs.Command.{CommandTree, CompileCommand, RunCommand, CheckCommand, ListCommand, RunTree, CheckTree, IsRun, IsCheck, Means, IsCommand, compile, run, check, list, soak, default_jobs, default_steps, default_size, default_moves, Sets, SetsChoices, given, left_out, TellsSlot, MayWantMemory, WithinLimits, WithinFuel, KeepsLimits}
 use Rattle.rv_machine.specs.Places.{most_room}
-use Rattle.command_line.specs.Values.{Nothing, IsSteps, IsSize, IsMoves, never, every, seeded, SeedsMoves, seed, IsItems, IsCounted, IsSeed, IsStage, stage_word, decimal_number, most_steps, most_jobs, most_functions}
+use Rattle.command_line.specs.Values.{Nothing, IsSteps, IsSize, IsMoves, never, every, seeded, SeedsMoves, seed, IsItems, IsCounted, IsSeed, IsStage, stage_word, IsAlloc, alloc_word, decimal_number, most_steps, most_jobs, most_functions}
 use Rattle.command_line.specs.View.{view}
-use Rattle.command_line.specs.Words.{command_text, slots_of_command, IsForm, AreCommandWords}
+use Rattle.command_line.specs.Words.{command_text, slots_of_command, fills_slot, IsForm, AreCommandWords}
 use Rattle.command_line.specs.declared.command.Command.{Command}
 use Rattle.command_line.specs.declared.command.WordsError.{WordsError}
 use Rattle.command_line.proofs.Cuts.{list-unique, tail-same}
@@ -57,6 +62,31 @@ told_stage stage.Code = refl
 stage-unique : (text : List ℕ) (a b : Stage) → IsStage text a → IsStage text b → a ≡ b
 stage-unique text a b e f =
     sym (told_stage a) ∙ (ap (λ t. stage_by (mark t)) (sym e ∙ f) ∙ told_stage b)
+
+-- the first byte of the word for a way to allocate tells the way
+abbrev alloc_by : ℕ → Alloc
+alloc_by n = if n == 99 then Colour else Linear
+
+told_alloc : (a : Alloc) → alloc_by (get_or (alloc_word a) 0 0) ≡ a
+told_alloc Colour = refl
+told_alloc Linear = refl
+
+pub alloc-unique : (text : List ℕ) (a b : Alloc) → IsAlloc text a → IsAlloc text b → a ≡ b
+alloc-unique text a b e f =
+    sym (told_alloc a) ∙ (ap (λ t. alloc_by (get_or t 0 0)) (sym e ∙ f) ∙ told_alloc b)
+
+same_choices : (alloc alloc' : Alloc) (order order' : Order) → alloc ≡ alloc' → order ≡ order'
+    → let c : Choices = record { alloc = alloc; order = order } in
+    let d : Choices = record { alloc = alloc'; order = order' } in
+    c ≡ d
+same_choices alloc alloc' order order' a b = cc
+
+choices-unique : (others : List (List ℕ)) → count_by (fills_slot slot.Alloc) others ≤ 1 → (c d : Choices)
+    → SetsChoices others c → SetsChoices others d → c ≡ d
+choices-unique others few c d a b =
+    same_choices c.alloc d.alloc c.order d.order
+    (sets-unique others slot.Alloc IsAlloc (defaults).alloc few alloc-unique c.alloc d.alloc a.alloc b.alloc)
+    (a.order ∙ sym b.order)
 
 -- after `seed:` there is one seed
 seeds-unique : (text : List ℕ) (a b : Moves) → SeedsMoves text a → SeedsMoves text b → a ≡ b
@@ -104,20 +134,21 @@ run-unique others form r s a b =
     (sets-unique others Heap IsSize default_size (form.once 5 Heap (lit< tt)) size-unique r.heap s.heap a.heap b.heap)
     (sets-unique others slot.Moves IsMoves default_moves (form.once 6 slot.Moves (lit< tt)) moves-unique r.moves s.moves a.moves b.moves)
 
-same_check : (entry entry' : List ℕ) (args args' answers answers' : List Arg) (fuel fuel' : ℕ)
-    → entry ≡ entry' → args ≡ args' → answers ≡ answers' → fuel ≡ fuel'
-    → let c : CheckTree = record { entry = entry; args = args; answers = answers; fuel = fuel } in
-    let d : CheckTree = record { entry = entry'; args = args'; answers = answers'; fuel = fuel' } in
+same_check : (entry entry' : List ℕ) (args args' answers answers' : List Arg) (fuel fuel' : ℕ) (choices choices' : Choices)
+    → entry ≡ entry' → args ≡ args' → answers ≡ answers' → fuel ≡ fuel' → choices ≡ choices'
+    → let c : CheckTree = record { entry = entry; args = args; answers = answers; fuel = fuel; choices = choices } in
+    let d : CheckTree = record { entry = entry'; args = args'; answers = answers'; fuel = fuel'; choices = choices' } in
     c ≡ d
-same_check entry entry' args args' answers answers' fuel fuel' a b c d = cc
+same_check entry entry' args args' answers answers' fuel fuel' choices choices' a b c d e = cc
 
 pub check-unique : (others : List (List ℕ)) → IsForm word.Check others → (c d : CheckTree) → IsCheck others c → IsCheck others d → c ≡ d
 check-unique others form c d a b =
-    same_check c.entry d.entry c.args d.args c.answers d.answers c.fuel d.fuel
+    same_check c.entry d.entry c.args d.args c.answers d.answers c.fuel d.fuel c.choices d.choices
     (gives-unique Plain others c.entry d.entry (form.once 0 Plain (lit< tt)) a.entry b.entry)
     (sets-unique others Args IsItems [] (form.once 1 Args (lit< tt)) list-unique c.args d.args a.args b.args)
     (sets-unique others Answers IsItems [] (form.once 2 Answers (lit< tt)) list-unique c.answers d.answers a.answers b.answers)
     (sets-unique others Fuel IsSteps default_steps (form.once 3 Fuel (lit< tt)) steps-unique c.fuel d.fuel a.fuel b.fuel)
+    (choices-unique others (form.once 4 slot.Alloc (lit< tt)) c.choices d.choices a.choices b.choices)
 
 pub parts : (x y : List ℕ) (xs ys : List (List ℕ)) → x ∷ xs ≡ y ∷ ys → (x ≡ y) × (xs ≡ ys)
 parts x y xs ys e = (cc, cc)
@@ -140,12 +171,14 @@ word-unique c d e = sym (told_command c) ∙ (ap (λ t. command_by (get_or t 2 0
 
 means-unique : (others : List (List ℕ)) (command : CommandWord) (c d : CommandTree) → IsForm command others
     → Means others command c → Means others command d → c ≡ d
-means-unique others _ _ _ form (compile j s) (compile k t) =
-    ap CompileCommand (sets-unique others Jobs (IsCounted most_jobs) default_jobs (form.once 0 Jobs (lit< tt)) (counted-unique most_jobs) j k s t)
+means-unique others _ _ _ form (compile c j a s) (compile d k b t) =
+    ap₂ CompileCommand (choices-unique others (form.once 1 slot.Alloc (lit< tt)) c d a b)
+    (sets-unique others Jobs (IsCounted most_jobs) default_jobs (form.once 0 Jobs (lit< tt)) (counted-unique most_jobs) j k s t)
 means-unique others _ _ _ form (run r a) (run s b) = ap RunCommand (run-unique others form r s a b)
 means-unique others _ _ _ form (check c a) (check d b) = ap CheckCommand (check-unique others form c d a b)
-means-unique others _ _ _ form (list a s) (list b t) =
-    ap ListCommand (tells-unique others Plain IsStage (form.once 0 Plain (lit< tt)) stage-unique a b s t)
+means-unique others _ _ _ form (list c a k s) (list d b l t) =
+    ap₂ ListCommand (choices-unique others (form.once 1 slot.Alloc (lit< tt)) c d k l)
+    (tells-unique others Plain IsStage (form.once 0 Plain (lit< tt)) stage-unique a b s t)
 means-unique others _ _ _ form (soak m k s u) (soak n l t v) =
     let seeds : m ≡ n = tells-unique others slot.Seed IsSeed (form.once 0 slot.Seed (lit< tt)) seed-unique m n s t in
     let counts : k ≡ l =
@@ -216,8 +249,14 @@ stands_at H command w e stands =
     let P : CommandWord → Type 0 = λ c. (slot : Slot) → Contains (slots_of_command c) slot → H slot in subst P e stands
 
 -- what the words after a command's may mean, one by one
+pub no_choices : (others : List (List ℕ)) → Nothing (Sets others slot.Alloc IsAlloc (defaults).alloc) → Nothing (SetsChoices others)
+no_choices others none choices s = none choices.alloc s.alloc
+
 pub no_compile : (others : List (List ℕ)) → Nothing (Sets others Jobs (IsCounted most_jobs) default_jobs) → Nothing (Means others word.Compile)
-no_compile others none _ (compile jobs s) = none jobs s
+no_compile others none _ (compile choices jobs a s) = none jobs s
+
+pub no_compile_choices : (others : List (List ℕ)) → Nothing (SetsChoices others) → Nothing (Means others word.Compile)
+no_compile_choices others none _ (compile choices jobs a s) = none choices a
 
 pub no_run : (others : List (List ℕ)) → Nothing (IsRun others) → Nothing (Means others word.Run)
 no_run others none _ (run r is) = none r is
@@ -226,7 +265,10 @@ pub no_check : (others : List (List ℕ)) → Nothing (IsCheck others) → Nothi
 no_check others none _ (check c is) = none c is
 
 pub no_list : (others : List (List ℕ)) → Nothing (TellsSlot others Plain IsStage) → Nothing (Means others word.List)
-no_list others none _ (list stage is) = none stage is
+no_list others none _ (list choices stage a is) = none stage is
+
+pub no_list_choices : (others : List (List ℕ)) → Nothing (SetsChoices others) → Nothing (Means others word.List)
+no_list_choices others none _ (list choices stage a is) = none choices a
 
 pub no_seed : (others : List (List ℕ)) → Nothing (TellsSlot others slot.Seed IsSeed) → Nothing (Means others word.Soak)
 no_seed others none _ (soak m k s f) = none m s
@@ -266,10 +308,10 @@ counted_within others slot limit default n some few (given value g is) = (is.som
 counted_within others slot limit default n some few (left_out none e) = (omega (arith, e), omega (arith, e))
 
 means_within : (others : List (List ℕ)) (command : CommandWord) (c : CommandTree) → Means others command c → KeepsLimits c
-means_within others _ _ (compile jobs s) = counted_within others Jobs most_jobs default_jobs jobs (omega arith) (omega arith) s
+means_within others _ _ (compile choices jobs a s) = counted_within others Jobs most_jobs default_jobs jobs (omega arith) (omega arith) s
 means_within others _ _ (run r is) = within others r is
 means_within others _ _ (check c is) = within_fuel others c is
-means_within others _ _ (list stage is) = tt
+means_within others _ _ (list choices stage a is) = tt
 means_within others _ _ (soak m k s f) = (s.reads.limit, f.reads.some, f.reads.limited)
 
 pub command_within : (words : List (List ℕ)) (c : CommandTree) → IsCommand words c → KeepsLimits c

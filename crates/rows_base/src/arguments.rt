@@ -4,7 +4,9 @@
 //! written by this program: a script wrote them from the grammar alone.
 use anyhow::Result;
 use bs_words::{List, Name};
-use command_line::{Arg, CheckWords, Command, Moves, RunWords, Stage, WordsError, read_words};
+use command_line::{
+    Alloc, Arg, CheckWords, Choices, Command, Moves, RunWords, Stage, WordsError, read_words,
+};
 use std::alloc::{AllocError, Global};
 
 /// What is shown of a row.
@@ -44,14 +46,20 @@ fn of_words(alloc: Global, words: &[String]) -> Result<String, AllocError> {
 /// A command with its values.
 fn of_command(alloc: Global, command: &Command) -> Result<String, AllocError> {
     match command {
-        Command::Compile { jobs } => format!(in alloc; "compile jobs {jobs}"),
+        Command::Compile { choices, jobs } => of_compile(alloc, *choices, *jobs),
         Command::Run(run) => of_run(alloc, run),
         Command::Check(check) => of_check(alloc, check),
-        Command::List(stage) => of_list(alloc, *stage),
+        Command::List(choices, stage) => of_list(alloc, *choices, *stage),
         Command::Soak { seed, functions } => {
             format!(in alloc; "soak seed {seed} functions {functions}")
         }
     }
+}
+
+/// A compile with its values.
+fn of_compile(alloc: Global, choices: Choices, jobs: u32) -> Result<String, AllocError> {
+    let places = word_of(choices.alloc);
+    format!(in alloc; "compile jobs {jobs} alloc {places}")
 }
 
 /// A run with its values.
@@ -68,13 +76,15 @@ fn of_run(alloc: Global, run: &RunWords) -> Result<String, AllocError> {
 fn of_check(alloc: Global, check: &CheckWords) -> Result<String, AllocError> {
     let call = of_call(alloc, &check.entry, &check.args, &check.answers)?;
     let fuel = check.fuel;
-    format!(in alloc; "check {call} fuel {fuel}")
+    let places = word_of(check.choices.alloc);
+    format!(in alloc; "check {call} fuel {fuel} alloc {places}")
 }
 
 /// A listing with its stage.
-fn of_list(alloc: Global, stage: Stage) -> Result<String, AllocError> {
+fn of_list(alloc: Global, choices: Choices, stage: Stage) -> Result<String, AllocError> {
     let place = place_of(stage);
-    format!(in alloc; "list stage {place}")
+    let places = word_of(choices.alloc);
+    format!(in alloc; "list stage {place} alloc {places}")
 }
 
 /// The name of a function that is called, its arguments, and what external calls give.
@@ -133,6 +143,14 @@ fn of_moves(alloc: Global, moves: Moves) -> Result<String, AllocError> {
         Moves::Never => String::from_str(alloc, "never"),
         Moves::Every => String::from_str(alloc, "every"),
         Moves::Seed(seed) => format!(in alloc; "seed {seed}"),
+    }
+}
+
+/// How registers get their places, as the words say it.
+fn word_of<'a>(places: Alloc) -> &'a str {
+    match places {
+        Alloc::Colour => "colour",
+        Alloc::Linear => "linscan",
     }
 }
 

@@ -37,7 +37,7 @@ fn check_of(alloc: Global, words: &str) -> Result<CheckWords> {
     }
     match read_words(alloc, all.as_slice())? {
         Command::Check(check) => Ok(check),
-        Command::Compile { .. } | Command::Run(_) | Command::List(_) | Command::Soak { .. } => {
+        Command::Compile { .. } | Command::Run(_) | Command::List(..) | Command::Soak { .. } => {
             bail!("no check: {words}")
         }
     }

@@ -4,10 +4,10 @@ use Rattle.command_line.specs.declared.command.CheckWords.{CheckWords}
 use Rattle.stages.specs.declared.stage.Stage.{Stage}
 use Rattle.command_line.specs.declared.command.WordsError.TheVariants.{OutOfMemory, ValueText}
 use Rattle.command_line.specs.declared.form.CommandWord.TheVariants as word
-use Rattle.command_line.specs.declared.form.Slot.TheVariants.{Plain, Jobs}
+use Rattle.command_line.specs.declared.form.Slot.TheVariants.{Plain, Jobs, Alloc}
 use Rattle.command_line.specs.View.{texts, run_view, check_view}
 use Rattle.command_line.specs.Command.{compile, run, check, list}
-use Rattle.command_line.proofs.Unique.{means_at, memory_at, nothing_at, form_at, stands_at, no_compile, no_run, no_check, no_list}
+use Rattle.command_line.proofs.Unique.{means_at, memory_at, nothing_at, form_at, stands_at, no_compile, no_compile_choices, no_run, no_check, no_list, no_list_choices}
 use Rattle.clap.specs.Matches.{found_of, first_value}
 use Rattle.clap.specs.declared.parser.matches.Found.{Found}
 use Rattle.command_line.specs.Program.{HasText, id_of}
@@ -21,6 +21,18 @@ pub jobs-requires : goal.jobs-requires
 jobs-requires c = record {
   once = (form_at (texts c.args.others.now) c.args.command word.Compile c.in-Compile.is c.requires.form).once 0 Jobs (lit< tt);
   stands = stands_at (Has (texts c.args.others.now) (found_of c.args.given.now)) c.args.command word.Compile c.in-Compile.is c.requires.stands Jobs (0, lit< tt, refl);
+}
+
+pub choices-requires : goal.choices-requires
+choices-requires c = record {
+  once = (form_at (texts c.args.others.now) c.args.command word.Compile c.in-Compile.is c.requires.form).once 1 Alloc (lit< tt);
+  stands = stands_at (Has (texts c.args.others.now) (found_of c.args.given.now)) c.args.command word.Compile c.in-Compile.is c.requires.stands Alloc (1, lit< tt, refl);
+}
+
+pub choices-requires-in-List : goal.choices-requires-in-List
+choices-requires-in-List c = record {
+  once = (form_at (texts c.args.others.now) c.args.command word.List c.in-List.is c.requires.form).once 1 Alloc (lit< tt);
+  stands = stands_at (Has (texts c.args.others.now) (found_of c.args.given.now)) c.args.command word.List c.in-List.is c.requires.stands Alloc (1, lit< tt, refl);
 }
 
 pub stage-requires : goal.stage-requires
@@ -47,13 +59,19 @@ soak-requires c = record {
   stands = stands_at (Has (texts c.args.others.now) (found_of c.args.given.now)) c.args.command word.Soak c.in-Soak.is c.requires.stands;
 }
 
+pub returns-in_err-choices-in-Compile-clause-bad : goal.returns-in_err-choices-in-Compile-clause-bad
+returns-in_err-choices-in-Compile-clause-bad c = λ e.
+    nothing_at (texts c.args.others.now) c.args.command word.Compile c.in-Compile.is
+    (no_compile_choices (texts c.args.others.now) c.in_err-choices-in-Compile.ensures.bad)
+
 pub returns-in_err-jobs-in-Compile-clause-bad : goal.returns-in_err-jobs-in-Compile-clause-bad
 returns-in_err-jobs-in-Compile-clause-bad c = λ e.
     nothing_at (texts c.args.others.now) c.args.command word.Compile c.in-Compile.is (no_compile (texts c.args.others.now) c.in_err-jobs-in-Compile.ensures.bad)
 
 pub returns-in_ok-jobs-in-Compile-clause-value : goal.returns-in_ok-jobs-in-Compile-clause-value
 returns-in_ok-jobs-in-Compile-clause-value c =
-    means_at (texts c.args.others.now) c.args.command word.Compile _ c.in-Compile.is (compile c.in_ok-jobs-in-Compile.field-0 c.in_ok-jobs-in-Compile.ensures.value)
+    means_at (texts c.args.others.now) c.args.command word.Compile _ c.in-Compile.is
+    (compile c.in_ok-choices-in-Compile.field-0 c.in_ok-jobs-in-Compile.field-0 c.in_ok-choices-in-Compile.ensures.value c.in_ok-jobs-in-Compile.ensures.value)
 
 pub returns-in_err-run-in-Run-clause-bad : goal.returns-in_err-run-in-Run-clause-bad
 returns-in_err-run-in-Run-clause-bad c = λ e.
@@ -73,13 +91,19 @@ pub returns-in_ok-check-in-Check-clause-value : goal.returns-in_ok-check-in-Chec
 returns-in_ok-check-in-Check-clause-value c =
     means_at (texts c.args.others.now) c.args.command word.Check _ c.in-Check.is (check (check_view c.in_ok-check-in-Check.field-0) c.in_ok-check-in-Check.ensures.value)
 
+pub returns-in_err-choices-in-List-clause-bad : goal.returns-in_err-choices-in-List-clause-bad
+returns-in_err-choices-in-List-clause-bad c = λ e.
+    nothing_at (texts c.args.others.now) c.args.command word.List c.in-List.is
+    (no_list_choices (texts c.args.others.now) c.in_err-choices-in-List.ensures.bad)
+
 pub returns-in_err-stage-in-List-clause-bad : goal.returns-in_err-stage-in-List-clause-bad
 returns-in_err-stage-in-List-clause-bad c = λ e.
     nothing_at (texts c.args.others.now) c.args.command word.List c.in-List.is (no_list (texts c.args.others.now) c.in_err-stage-in-List.ensures.bad)
 
 pub returns-in_ok-stage-in-List-clause-value : goal.returns-in_ok-stage-in-List-clause-value
 returns-in_ok-stage-in-List-clause-value c =
-    means_at (texts c.args.others.now) c.args.command word.List _ c.in-List.is (list c.in_ok-stage-in-List.field-0 c.in_ok-stage-in-List.ensures.value)
+    means_at (texts c.args.others.now) c.args.command word.List _ c.in-List.is
+    (list c.in_ok-choices-in-List.field-0 c.in_ok-stage-in-List.field-0 c.in_ok-choices-in-List.ensures.value c.in_ok-stage-in-List.ensures.value)
 
 pub returns-in_err-run-in-Run-clause-memory : goal.returns-in_err-run-in-Run-clause-memory
 returns-in_err-run-in-Run-clause-memory c = λ e.
