@@ -70,16 +70,16 @@ pub Ends-cut : {choices : Choices} (words : List (List ℕ)) (e : Effects) (byte
 Ends-cut words e bytes is r part kept = out_fault bytes (spells words e.source bytes is r) part kept
 
 -- what a source is refused for of which no text was read
-pub refusal_unread : {choices : Choices} (s : Side) (r : Unread) → IsTextUnread s r → IsRefusalFrom choices s (refusal_of_unread r)
-refusal_unread s unread.ReadFault rose = rose
-refusal_unread s unread.OutOfMemory why = tt
+pub refusal_unread : (choices : Choices) (s : Side) (r : Unread) → IsTextUnread s r → IsRefusalFrom choices s (refusal_of_unread r)
+refusal_unread choices s unread.ReadFault rose = rose
+refusal_unread choices s unread.OutOfMemory why = tt
 
 -- what a text that was read is refused for
-pub refusal_read : {choices : Choices} (s : Side) (read : List ℕ) (r : text.Refusal) → All (λ b. b < 256) read → IsRead longest_text s read → IsTextRefusal choices read r →
+pub refusal_read : (choices : Choices) (s : Side) (read : List ℕ) (r : text.Refusal) → All (λ b. b < 256) read → IsRead longest_text s read → IsTextRefusal choices read r →
     IsRefusalRead choices s r
-refusal_read s read (Fault told) are r why = record { text = read; are_bytes = are; read = r; holds = why }
-refusal_read s read (TooLarge large) are r why = record { text = read; are_bytes = are; read = r; holds = why }
-refusal_read s read OutOfMemory are r why = tt
+refusal_read choices s read (Fault told) are r why = record { text = read; are_bytes = are; read = r; holds = why }
+refusal_read choices s read (TooLarge large) are r why = record { text = read; are_bytes = are; read = r; holds = why }
+refusal_read choices s read OutOfMemory are r why = tt
 
 -- the line of a text that has no image was written, or could not be
 pub Ends-refused : {choices : Choices} (words : List (List ℕ)) (e : Effects) (r : text.Refusal) (result : ℕ)
