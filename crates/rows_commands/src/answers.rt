@@ -34,6 +34,8 @@ pub(crate) enum Answers {
     Plans,
     /// Texts of the whole language (`compiled`).
     Compiled,
+    /// The texts of `compiled`, by the choices that are not the defaults: what they come to is the same (`compiled`).
+    Choices,
     /// Texts with every operator, chunk, comparison and form of operands, with external calls and frame calls that
     /// answer, and with every form of control, each compiled and run at the edges of words, under several ways to move
     /// blocks. The answers are what an evaluator in another language makes of the meaning of these texts.
@@ -69,6 +71,7 @@ impl Answers {
             "listings" => Ok(Answers::Listings),
             "plans" => Ok(Answers::Plans),
             "compiled" => Ok(Answers::Compiled),
+            "choices" => Ok(Answers::Choices),
             "operators" => Ok(Answers::Operators),
             "images" => Ok(Answers::Images),
             "generated" => Ok(Answers::Generated),
@@ -97,7 +100,7 @@ impl Answers {
             Answers::Limits => limits::said_to(table, row),
             Answers::Listings => listings::said_to(table, row),
             Answers::Plans => plans::said_to(table, row),
-            Answers::Compiled => compiled::said_to(table, row),
+            Answers::Compiled | Answers::Choices => compiled::said_to(table, row),
             Answers::Generated => Ok(generated::said_to(table, row)?),
             Answers::Held => Ok(jobs::held(table, row)?),
             Answers::Shared => Ok(jobs::shared(table, row)?),
