@@ -1,6 +1,5 @@
 //! The graphs over which is solved what is stale and what is fresh.
-ghost use Rattle.std.specs.Prelude.{◌≡◌, ◌↔◌, ◌<◌, suc, length, IsTrue, IfOk};
-ghost use Rattle.std.specs.List.{Contains};
+ghost use Rattle.std.specs.Prelude.{◌≡◌, ◌<◌, suc, length, IfOk};
 ghost use Rattle.bs_words.specs.Contents.{contents};
 ghost use Rattle.mach_laws.specs.Graph.{IsFlowOf};
 ghost use Rattle.sink.specs.Graphs.{destroys_colours, AreLiving, AreOver, IsSinkEntry, IsStalePlace, AreStaleNodes, AreTurned, IsTurned};
@@ -23,13 +22,6 @@ pub fn is_held(op: &MachOp) -> bool
     }
 }
 
-/// Whether the number is one of these.
-fn is_among(number: u32, numbers: &[u32]) -> bool
-    ensures { IsTrue result ↔ Contains numbers.now number }
-{
-    numbers.contains(&number)
-}
-
 /// The numbers that are live at the place, these excepted.
 fn living(
     alloc: Global,
@@ -49,7 +41,7 @@ fn living(
         match row.next(from) {
             None => from = bound,
             Some(number) => {
-                if !is_among(number, except) {
+                if !except.contains(&number) {
                     found.push(number)?;
                 }
                 from = number + 1;

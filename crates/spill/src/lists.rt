@@ -1,6 +1,5 @@
 //! Lists of numbers.
-ghost use Rattle.std.specs.Prelude.{◌≡◌, ◌++◌, ◌↔◌, IsTrue, IfOk};
-ghost use Rattle.std.specs.List.{Contains};
+ghost use Rattle.std.specs.Prelude.{◌≡◌, ◌++◌, IfOk};
 
 use std::alloc::{AllocError, Global};
 
@@ -21,11 +20,4 @@ pub fn copy_of(alloc: Global, numbers: &[u32]) -> Result<Vec<u32>, AllocError>
     let mut made = Vec::new(alloc);
     made.extend_from_slice(numbers)?;
     Ok(made)
-}
-
-/// Whether the number is one of these.
-pub fn is_among(number: u32, numbers: &[u32]) -> bool
-    ensures { IsTrue result ↔ Contains numbers.now number }
-{
-    numbers.contains(&number)
 }

@@ -6,7 +6,7 @@ ghost use Rattle.mach_laws.specs.Graph.{IsFlowOf};
 ghost use Rattle.spill.specs.Graphs.{LivesUnwritten, AreLivingOver, AreMade, IsLostPlace, AreLostNodes};
 ghost use Rattle.spill.specs.Tables.{AreLost};
 
-use crate::lists::{copy_of, is_among, joined};
+use crate::lists::{copy_of, joined};
 use bs_words::List;
 use dataflow::{Flow, Place, Rows, bare_place, reaching};
 use liveness::Backward;
@@ -17,7 +17,7 @@ use std::alloc::{AllocError, Global};
 fn lives_over(live: &LiveMap, after: usize, written: &[u32], number: u32) -> bool
     ensures { IsTrue result ↔ LivesUnwritten live.now.before.rows.items after written.now number }
 {
-    live.before.contains(after, number) && !is_among(number, written)
+    live.before.contains(after, number) && !written.contains(&number)
 }
 
 /// The numbers below the bound that are live at the place after an instruction which writes others.

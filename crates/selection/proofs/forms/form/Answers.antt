@@ -1,5 +1,5 @@
 use Rattle.std.proofs.lemmas.Result.{on_ok_weaker}
-use Rattle.walk_tables.proofs.Shapes.{seq-shape, exit-shape, alloc-shape, extcall-shape, app-shape, let-shape, switch-shape, catch-shape}
+use Rattle.walk_tables.proofs.Shapes.{seq-shape, exit-shape, alloc-shape, let-shape, switch-shape, catch-shape}
 use Rattle.selection.proofs.BoxedForms.{assign-shape, operator-shape, load-shape, store-shape, checkbound-shape, raise-shape, if-shape, try-shape}
 use Rattle.selection.proofs.Nodes.{parts-of, type-of, code-of, room-of}
 use Rattle.selection_scope.specs.Scoping.{scoped_names}
@@ -79,22 +79,22 @@ returns-in-Load-clause-code g c =
 
 pub store-requires-clause-address_typed : goal.store-requires-clause-address_typed
 store-requires-clause-address_typed g c =
-    (parts-of (scoped_names c.args.scope.now) c.args.expr.now _ _ _ c.in-Store.is (store-shape (scoped_names c.args.scope.now) c.args.expr.now.at c.in-Store.chunk c.in-Store.address c.in-Store.value c.deref-in-Store.result.now c.deref-in-Store-2.result.now c.deref-in-Store.ensures c.deref-in-Store-2.ensures) c.requires.typed).0
+    (parts-of (scoped_names c.args.scope.now) c.args.expr.now _ _ _ c.in-Store.is (store-shape (scoped_names c.args.scope.now) c.args.expr.now.at c.in-Store.chunk c.in-Store.to c.in-Store.value c.deref-in-Store.result.now c.deref-in-Store-2.result.now c.deref-in-Store.ensures c.deref-in-Store-2.ensures) c.requires.typed).0
 
 pub store-requires-clause-value_typed : goal.store-requires-clause-value_typed
 store-requires-clause-value_typed g c =
-    (parts-of (scoped_names c.args.scope.now) c.args.expr.now _ _ _ c.in-Store.is (store-shape (scoped_names c.args.scope.now) c.args.expr.now.at c.in-Store.chunk c.in-Store.address c.in-Store.value c.deref-in-Store.result.now c.deref-in-Store-2.result.now c.deref-in-Store.ensures c.deref-in-Store-2.ensures) c.requires.typed).1
+    (parts-of (scoped_names c.args.scope.now) c.args.expr.now _ _ _ c.in-Store.is (store-shape (scoped_names c.args.scope.now) c.args.expr.now.at c.in-Store.chunk c.in-Store.to c.in-Store.value c.deref-in-Store.result.now c.deref-in-Store-2.result.now c.deref-in-Store.ensures c.deref-in-Store-2.ensures) c.requires.typed).1
 
 pub store-requires-clause-room : goal.store-requires-clause-room
-store-requires-clause-room g c = room-of (scoped_names c.args.scope.now) c.args.expr.now _ _ _ c.in-Store.is (store-shape (scoped_names c.args.scope.now) c.args.expr.now.at c.in-Store.chunk c.in-Store.address c.in-Store.value c.deref-in-Store.result.now c.deref-in-Store-2.result.now c.deref-in-Store.ensures c.deref-in-Store-2.ensures) c.args.place.base c.requires.room
+store-requires-clause-room g c = room-of (scoped_names c.args.scope.now) c.args.expr.now _ _ _ c.in-Store.is (store-shape (scoped_names c.args.scope.now) c.args.expr.now.at c.in-Store.chunk c.in-Store.to c.in-Store.value c.deref-in-Store.result.now c.deref-in-Store-2.result.now c.deref-in-Store.ensures c.deref-in-Store-2.ensures) c.args.place.base c.requires.room
 
 pub store-requires-clause-ty : goal.store-requires-clause-ty
-store-requires-clause-ty g c = λ at. type-of (scoped_names c.args.scope.now) c.args.expr.now _ _ _ c.in-Store.is (store-shape (scoped_names c.args.scope.now) c.args.expr.now.at c.in-Store.chunk c.in-Store.address c.in-Store.value c.deref-in-Store.result.now c.deref-in-Store-2.result.now c.deref-in-Store.ensures c.deref-in-Store-2.ensures) c.requires.typed
+store-requires-clause-ty g c = λ at. type-of (scoped_names c.args.scope.now) c.args.expr.now _ _ _ c.in-Store.is (store-shape (scoped_names c.args.scope.now) c.args.expr.now.at c.in-Store.chunk c.in-Store.to c.in-Store.value c.deref-in-Store.result.now c.deref-in-Store-2.result.now c.deref-in-Store.ensures c.deref-in-Store-2.ensures) c.requires.typed
 
 pub returns-in-Store-clause-code : goal.returns-in-Store-clause-code
 returns-in-Store-clause-code g c =
     on_ok_weaker c.store.result
-    (λ h. code-of (scoped_names c.args.scope.now) c.args.scope.now c.args.place c.args.expr.now _ _ _ c.args.code.now c.store.new.code c.in-Store.is (store-shape (scoped_names c.args.scope.now) c.args.expr.now.at c.in-Store.chunk c.in-Store.address c.in-Store.value c.deref-in-Store.result.now c.deref-in-Store-2.result.now c.deref-in-Store.ensures c.deref-in-Store-2.ensures) (h c.args.expr.now.at))
+    (λ h. code-of (scoped_names c.args.scope.now) c.args.scope.now c.args.place c.args.expr.now _ _ _ c.args.code.now c.store.new.code c.in-Store.is (store-shape (scoped_names c.args.scope.now) c.args.expr.now.at c.in-Store.chunk c.in-Store.to c.in-Store.value c.deref-in-Store.result.now c.deref-in-Store-2.result.now c.deref-in-Store.ensures c.deref-in-Store-2.ensures) (h c.args.expr.now.at))
     c.store.ensures.code
 
 pub alloc-requires-clause-typed : goal.alloc-requires-clause-typed
@@ -112,42 +112,6 @@ returns-in-Alloc-clause-code g c =
     on_ok_weaker c.alloc.result
     (λ h. code-of (scoped_names c.args.scope.now) c.args.scope.now c.args.place c.args.expr.now _ _ _ c.args.code.now c.alloc.new.code c.in-Alloc.is (alloc-shape (scoped_names c.args.scope.now) c.args.expr.now.at c.in-Alloc.header_at c.in-Alloc.header c.in-Alloc.operands c.as_slice-in-Alloc.result.now c.as_slice-in-Alloc.ensures.value) (h c.args.expr.now.at c.in-Alloc.header_at))
     c.alloc.ensures.code
-
-pub app-requires-clause-callee_typed : goal.app-requires-clause-callee_typed
-app-requires-clause-callee_typed g c =
-    (parts-of (scoped_names c.args.scope.now) c.args.expr.now _ _ _ c.in-App.is (app-shape (scoped_names c.args.scope.now) c.args.expr.now.at c.in-App.callee c.in-App.arguments c.in-App.result c.in-App.result_at c.deref-in-App.result.now c.as_slice-in-App.result.now c.deref-in-App.ensures c.as_slice-in-App.ensures.value) c.requires.typed).0
-
-pub app-requires-clause-typed : goal.app-requires-clause-typed
-app-requires-clause-typed g c =
-    (parts-of (scoped_names c.args.scope.now) c.args.expr.now _ _ _ c.in-App.is (app-shape (scoped_names c.args.scope.now) c.args.expr.now.at c.in-App.callee c.in-App.arguments c.in-App.result c.in-App.result_at c.deref-in-App.result.now c.as_slice-in-App.result.now c.deref-in-App.ensures c.as_slice-in-App.ensures.value) c.requires.typed).1
-
-pub app-requires-clause-room : goal.app-requires-clause-room
-app-requires-clause-room g c = room-of (scoped_names c.args.scope.now) c.args.expr.now _ _ _ c.in-App.is (app-shape (scoped_names c.args.scope.now) c.args.expr.now.at c.in-App.callee c.in-App.arguments c.in-App.result c.in-App.result_at c.deref-in-App.result.now c.as_slice-in-App.result.now c.deref-in-App.ensures c.as_slice-in-App.ensures.value) c.args.place.base c.requires.room
-
-pub app-requires-clause-ty : goal.app-requires-clause-ty
-app-requires-clause-ty g c = λ at at2. type-of (scoped_names c.args.scope.now) c.args.expr.now _ _ _ c.in-App.is (app-shape (scoped_names c.args.scope.now) c.args.expr.now.at c.in-App.callee c.in-App.arguments c.in-App.result c.in-App.result_at c.deref-in-App.result.now c.as_slice-in-App.result.now c.deref-in-App.ensures c.as_slice-in-App.ensures.value) c.requires.typed
-
-pub returns-in-App-clause-code : goal.returns-in-App-clause-code
-returns-in-App-clause-code g c =
-    on_ok_weaker c.app.result
-    (λ h. code-of (scoped_names c.args.scope.now) c.args.scope.now c.args.place c.args.expr.now _ _ _ c.args.code.now c.app.new.code c.in-App.is (app-shape (scoped_names c.args.scope.now) c.args.expr.now.at c.in-App.callee c.in-App.arguments c.in-App.result c.in-App.result_at c.deref-in-App.result.now c.as_slice-in-App.result.now c.deref-in-App.ensures c.as_slice-in-App.ensures.value) (h c.args.expr.now.at c.in-App.result_at))
-    c.app.ensures.code
-
-pub extcall-requires-clause-typed : goal.extcall-requires-clause-typed
-extcall-requires-clause-typed g c =
-    parts-of (scoped_names c.args.scope.now) c.args.expr.now _ _ _ c.in-Extcall.is (extcall-shape (scoped_names c.args.scope.now) c.args.expr.now.at c.in-Extcall.frame c.in-Extcall.name c.in-Extcall.arguments c.in-Extcall.result c.in-Extcall.result_at c.as_slice-in-Extcall.result.now c.as_slice-in-Extcall.ensures.value) c.requires.typed
-
-pub extcall-requires-clause-room : goal.extcall-requires-clause-room
-extcall-requires-clause-room g c = room-of (scoped_names c.args.scope.now) c.args.expr.now _ _ _ c.in-Extcall.is (extcall-shape (scoped_names c.args.scope.now) c.args.expr.now.at c.in-Extcall.frame c.in-Extcall.name c.in-Extcall.arguments c.in-Extcall.result c.in-Extcall.result_at c.as_slice-in-Extcall.result.now c.as_slice-in-Extcall.ensures.value) c.args.place.base c.requires.room
-
-pub extcall-requires-clause-ty : goal.extcall-requires-clause-ty
-extcall-requires-clause-ty g c = λ at at2. type-of (scoped_names c.args.scope.now) c.args.expr.now _ _ _ c.in-Extcall.is (extcall-shape (scoped_names c.args.scope.now) c.args.expr.now.at c.in-Extcall.frame c.in-Extcall.name c.in-Extcall.arguments c.in-Extcall.result c.in-Extcall.result_at c.as_slice-in-Extcall.result.now c.as_slice-in-Extcall.ensures.value) c.requires.typed
-
-pub returns-in-Extcall-clause-code : goal.returns-in-Extcall-clause-code
-returns-in-Extcall-clause-code g c =
-    on_ok_weaker c.extcall.result
-    (λ h. code-of (scoped_names c.args.scope.now) c.args.scope.now c.args.place c.args.expr.now _ _ _ c.args.code.now c.extcall.new.code c.in-Extcall.is (extcall-shape (scoped_names c.args.scope.now) c.args.expr.now.at c.in-Extcall.frame c.in-Extcall.name c.in-Extcall.arguments c.in-Extcall.result c.in-Extcall.result_at c.as_slice-in-Extcall.result.now c.as_slice-in-Extcall.ensures.value) (h c.args.expr.now.at c.in-Extcall.result_at))
-    c.extcall.ensures.code
 
 pub checkbound-requires-clause-bound_typed : goal.checkbound-requires-clause-bound_typed
 checkbound-requires-clause-bound_typed g c =

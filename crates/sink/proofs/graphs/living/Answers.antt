@@ -1,7 +1,9 @@
-use Rattle.std.proofs.Common.{◌∙◌, ◌+◌, ℕ, Vec, Global, sym, ap, subst, arith}
+use Rattle.std.proofs.Common.{◌∙◌, ◌+◌, ℕ, Vec, Global, sym, ap, subst, eqb, arith}
+use Rattle.std.proofs.lemmas.List.Elements.{contains_decides, Decides-contains}
+use Rattle.std.proofs.lemmas.Bool.Decides.{Decides-eqb}
 use Rattle.sink.proofs.Living.{Found, found_end, found_taken, found_passed, found_all}
 use Rattle.sink.proofs.graphs.living.Goals as goal
-use Rattle.sink.proofs.graphs.living.Goals.{then-not-is_among+in_ok-push-in-Some, else-not-is_among}
+use Rattle.sink.proofs.graphs.living.Goals.{then-not-contains+in_ok-push-in-Some, else-not-contains}
 use Rattle.bs_words.proofs.Truths.{not_both}
 
 pub loop-from-preserved-in-None : goal.loop-from-preserved-in-None
@@ -14,16 +16,18 @@ pub loop-from-preserved : goal.loop-from-preserved
 loop-from-preserved c =
     let rows = c.args.live.now.before.rows.items in
     let k = c.in-Some.number in
-    elim c.if-not-is_among.branch [
-      | then-not-is_among+in_ok-push-in-Some w ↦
-          found_taken rows c.args.place c.args.except.now c.at-row.result.now c.loop-from.from k c.loop-from.found.items
-          c.if-not-is_among.found.items c.at-row.ensures c.in-Some.ensures
-          (λ h. not_both c.is_among.result (c.is_among.ensures.1 h) w.if-not-is_among.true) c.loop-from.invariant
+    let except = c.args.except.now in
+    let tells = Decides-contains except k c.contains.result (contains_decides eqb Decides-eqb except k c.contains.result c.contains.ensures.cases) in
+    elim c.if-not-contains.branch [
+      | then-not-contains+in_ok-push-in-Some w ↦
+          found_taken rows c.args.place except c.at-row.result.now c.loop-from.from k c.loop-from.found.items
+          c.if-not-contains.found.items c.at-row.ensures c.in-Some.ensures
+          (λ h. not_both c.contains.result (tells.1 h) w.if-not-contains.true) c.loop-from.invariant
           (ap (λ (v : Vec ℕ Global). v.items) w.found-is ∙ w.in_ok-push-in-Some.ensures.items)
-      | else-not-is_among w ↦
-          subst (Found rows c.args.place c.args.except.now (k + 1)) (ap (λ (v : Vec ℕ Global). v.items) (sym w.found-is))
-          (found_passed rows c.args.place c.args.except.now c.at-row.result.now c.loop-from.from k c.loop-from.found.items c.at-row.ensures
-          c.in-Some.ensures (c.is_among.ensures.0 w.if-not-is_among.false) c.loop-from.invariant)
+      | else-not-contains w ↦
+          subst (Found rows c.args.place except (k + 1)) (ap (λ (v : Vec ℕ Global). v.items) (sym w.found-is))
+          (found_passed rows c.args.place except c.at-row.result.now c.loop-from.from k c.loop-from.found.items c.at-row.ensures
+          c.in-Some.ensures (tells.0 w.if-not-contains.false) c.loop-from.invariant)
     ]
 
 pub returns : goal.returns
