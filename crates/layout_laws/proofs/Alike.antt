@@ -2,7 +2,7 @@
 --
 -- The second activation has its own bytes below it and its own frame; the second world has its own stack need, and its
 -- own words in the calls made. All else is the same, as it computes, so that what is tested is tested alike.
-use Rattle.std.proofs.Common.{◌≡◌, ℕ, zero, suc, Bool, true, false, cond, List, Option, Some, None, Result, Ok, Err}
+use Rattle.std.proofs.Common.{ℕ, zero, suc, Bool, true, false, cond, List, Option, Some, None, Result, Ok, Err}
 use Rattle.bs_words.specs.External.{External}
 use Rattle.bs_words.specs.Fits.{fits}
 use Rattle.bs_words.specs.Observed.{Made}
@@ -19,7 +19,7 @@ use Rattle.cmm_tree.specs.Tree.{LabelTree, Expression}
 use Rattle.cmm_meaning.specs.Known.{type_of}
 use Rattle.cmm_meaning.specs.Layout.{Layout}
 use Rattle.cmm_meaning.specs.State.{Called, World, Here, scope}
-use Rattle.cmm_meaning.specs.Evaluation.{Stop, OutOfFuel, NotProper, NoAnswer, Evaluated, Evaluation, Gives, Exits, Raises, Stops, Surroundings, and_then, only_value, with_value, proper, spend, node, of_type, tested, typed, both, unless_light, now_or_before, back_from_call, as_written, called_with, applied, call_from, fit_parameters}
+use Rattle.cmm_meaning.specs.Evaluation.{Stop, OutOfFuel, NotProper, NoAnswer, Evaluated, Evaluation, Gives, Exits, Raises, Stops, Surroundings, and_then, only_value, with_value, proper, spend, node, of_type, tested, both, unless_light, now_or_before, back_from_call, as_written, called_with, applied, call_from, fit_parameters}
 use Rattle.layout_laws.specs.Shown.{IsCallAlike, AreCallsAlike}
 
 -- Where another activation of the same function lies.

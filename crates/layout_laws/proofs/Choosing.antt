@@ -5,7 +5,7 @@ use Rattle.bs_words.specs.declared.values.Value.{Value}
 use Rattle.cmm_tree.specs.Tree.{LabelTree, Parameter, Index}
 use Rattle.cmm_meaning.specs.Layout.{Layout}
 use Rattle.cmm_meaning.specs.State.{World, Here, back_in}
-use Rattle.cmm_meaning.specs.Evaluation.{Evaluation, Exits, Body, chosen, entered, scoped_parameter, with_bound, back, handled, caught, tried, looked_up}
+use Rattle.cmm_meaning.specs.Evaluation.{Evaluation, Body, chosen, entered, scoped_parameter, with_bound, back, handled, caught, tried, looked_up}
 use Rattle.cmm_meaning.specs.Choices.{Chosen, Ready, ready_for}
 use Rattle.layout_laws.proofs.Alike.{Place, placed, Apart, apart, Alike, gives, exits, raises, stops, Onwards, Operands, alike_improper, alike_then, alike_tested}
 

@@ -1,5 +1,5 @@
 -- An evaluation with one layout beside the same with another: each form.
-use Rattle.std.proofs.Common.{ℕ, suc, Bool, true, false, not, ◌&&◌, List, [], ◌∷◌, Option, Some, None, length}
+use Rattle.std.proofs.Common.{ℕ, suc, Bool, false, not, ◌&&◌, List, [], ◌∷◌, Option, Some, None, length}
 use Rattle.std.specs.Prelude.{nat_lt, max}
 use Rattle.bs_words.specs.External.{External}
 use Rattle.bs_words.specs.Memory.{sizes, loaded, stored, allocated}

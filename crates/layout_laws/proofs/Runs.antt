@@ -16,7 +16,7 @@ use Rattle.cmm_meaning.specs.State.{Called, World, Here, bound, deepened}
 use Rattle.cmm_meaning.specs.Evaluation.{Evaluation, Surroundings, scoped_parameter}
 use Rattle.cmm_meaning.specs.Run.{answered, frame_answered, answered_as, outside, activated, callees, first_world, first_call, finished, cmm_run}
 use Rattle.layout_laws.specs.Shown.{AreShownAlike, AreGivenAlike, nothing, a_value, IsCallAlike, AreCallsAlike, return_alike, raise_alike, ask_alike, both_more, both_improper, AreRunsAlike}
-use Rattle.layout_laws.proofs.Alike.{Place, Apart, apart, StopsAlike, no_fuel, improper, no_answer, Alike, gives, exits, raises, stops, with_calls, DoAlike, alike_improper, alike_tested}
+use Rattle.layout_laws.proofs.Alike.{Place, Apart, apart, no_fuel, improper, no_answer, Alike, gives, exits, raises, stops, with_calls, DoAlike, alike_improper, alike_tested}
 use Rattle.layout_laws.proofs.Evaluated.{alike_evaluated}
 
 -- ---- external calls
