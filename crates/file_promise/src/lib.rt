@@ -64,7 +64,7 @@ pub fn choices_agree()
         (entry : ℕ) (f : FunctionTree) (row other_row : Func) (args answers : List ℕ)
         (schedule other_schedule : Schedule) → Entered file image entry f row args answers →
         Entered file other entry f other_row args answers →
-        AgreeOn (cmm_run file (layout_of image) entry args answers)
+        AgreeOn (layout_of image) (layout_of other) (cmm_run file (layout_of image) entry args answers)
         (cmm_run file (layout_of other) entry args answers)
         (machine_run image row args answers stack heap schedule)
         (machine_run other other_row args answers stack heap other_schedule) stack heap }

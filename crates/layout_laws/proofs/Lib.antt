@@ -1,0 +1,4 @@
+pub mod Alike
+pub mod Choosing
+pub mod Evaluated
+pub mod Runs
