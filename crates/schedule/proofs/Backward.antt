@@ -18,10 +18,10 @@ lines_pushed : (xs : List RankedLine) (x : RankedLine) → lines_back (xs ++ x �
 lines_pushed xs x = ap (λ l. map rank_line l) (ranks_pushed xs x)
 
 -- what is left of a run, the lines that were taken from its end, and what is known of them
-pub record AreRanked (run left : List Line) (later : Later) (lines : List RankedLine) : Type 0 where
+pub record AreRanked (run left : List Line) (known : Later) (lines : List RankedLine) : Type 0 where
   pub whole : left ++ lines_back lines ≡ run
   pub ranks : ranks_back lines ≡ ranked (lines_back lines)
-  pub later : IsLater (ranks_back lines) later
+  pub later : IsLater (ranks_back lines) known
 
 pub ranked_begun : (run : List Line) (later : Later) (lines : List RankedLine) → lines ≡ [] → IsLater [] later → AreRanked run run later lines
 ranked_begun run later lines none h =

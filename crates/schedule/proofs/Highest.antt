@@ -1,8 +1,8 @@
 -- The greatest height of what depends on a line, by what later lines do.
 use Rattle.std.proofs.Common.{◌≡◌, ℕ, ◌+◌, ◌<◌, ◌≤◌, Bool, true, false, cond, max, ◌&&◌, ◌||◌, List, [], ◌∷◌, length, drop, get_or, refl, sym, ap, ◌∙◌, arith}
-use Rattle.std.proofs.lemmas.List.{drop_all}
+use Rattle.std.proofs.lemmas.List.{drop_more}
 use Rattle.bs_words.specs.declared.types.Loc.{Loc}
-use Rattle.bs_words.proofs.Lists.{drop_none, drop_step}
+use Rattle.bs_words.proofs.Lists.{drop_none}
 use Rattle.lin_ir.specs.Meaning.{same_loc}
 use Rattle.lin_ir.specs.declared.lin.Spot.{Spot}
 use Rattle.lin_ir.specs.declared.lin.Line.{Line}
@@ -94,6 +94,13 @@ asked i rs t h =
         ∙ ap (λ n. max (by writes) n) (either_passes writes_again (λ j. stores j || accesses j) rs
         ∙ ap (λ n. max (by writes_again) n) (either_passes stores accesses rs)))
 
+pub asked_by : (i : Line) (rs : List Ranked) (t : Later) (args results : List Spot) (reads writes writes_again written both memory n : ℕ) →
+    args ≡ i.args → results ≡ i.results → reads ≡ greatest_at t.read results → writes ≡ greatest_at t.written args →
+    writes_again ≡ greatest_at t.written results → written ≡ max writes writes_again → both ≡ max reads written →
+    memory ≡ max (cond (is_store i.op) t.access 0) (cond (is_access i.op) t.store 0) → n ≡ max both memory →
+    IsLater rs t → n ≡ highest_after i rs
+asked_by i rs t args results reads writes writes_again written both memory n a b c d e f g k o h = cc (asked i rs t h)
+
 -- ---- tables as they are filled
 
 pub line_added : (i : Line) (height : ℕ) (old new : Later) (rs : List Ranked) →
@@ -109,7 +116,7 @@ line_added i height old new rs read written access store h =
       store = store ∙ ap (λ n. max (cond (is_store i.op) height 0) n) h.store;
     }
 
-raised : (a b : Bool) (h x y z : ℕ) → y ≡ max (cond a h 0) x → max (cond b h 0) y ≡ z → max (cond (a || b) h 0) x ≡ z
+raised : (a b : Bool) (h x y z : ℕ) → y ≡ max (cond a h 0) x → max (cond (a || b) h 0) x ≡ z → max (cond b h 0) y ≡ z
 raised true true h x y z e f = omega (arith, e, f)
 raised true false h x y z e f = omega (arith, e, f)
 raised false true h x y z e f = omega (arith, e, f)
@@ -123,44 +130,10 @@ IsRaised ss i height first now = (l : Loc) →
 pub raise_begun : (ss : List Spot) (height : ℕ) (first : Heights) → IsRaised ss 0 height first first
 raise_begun ss height first l = ap (λ xs. max (cond (is_among_spots l xs) height 0) (height_at first l)) (drop_none ss)
 
-pub raise_more : (ss : List Spot) (i height : ℕ) (s : Spot) (first old new : Heights) → i < length ss → s ≡ get_or ss i s →
-    ((l : Loc) → height_at new l ≡ max (cond (same_loc s.loc l) height 0) (height_at old l)) →
+pub raise_more : (ss : List Spot) (i height : ℕ) (e : Spot) (first old new : Heights) → i < length ss →
+    ((l : Loc) → height_at new l ≡ max (cond (same_loc (get_or ss i e).loc l) height 0) (height_at old l)) →
     IsRaised ss i height first old → IsRaised ss (i + 1) height first new
-raise_more ss i height s first old new lt is one h l =
-    sym (other (same_loc s.loc l) (is_among_spots l (drop (i + 1) ss)) height (height_at old l) (height_at new l) (one l)
-    ∙ sym (ap (λ xs. max (cond (is_among_spots l xs) height 0) (height_at old l)) (drop_step ss i s lt is))) ∙ h l
-  where
-    other : (a b : Bool) (h x y : ℕ) → y ≡ max (cond a h 0) x → max (cond (a || b) h 0) x ≡ max (cond b h 0) y
-    other a b h x y e = raised a b h x y (max (cond b h 0) y) e refl
-
-pub raise_all : (ss : List Spot) (i height : ℕ) (first now : Heights) → length ss ≤ i → IsRaised ss i height first now →
-    (l : Loc) → height_at now l ≡ max (cond (is_among_spots l ss) height 0) (height_at first l)
-raise_all ss i height first now le h l =
-    sym (ap (λ xs. max (cond (is_among_spots l xs) height 0) (height_at now l)) (drop_all i ss le) ∙ none (height_at now l)) ∙ h l
-  where
-    none : (n : ℕ) → max 0 n ≡ n
-    none n = omega arith
-
--- ---- the greatest at some spots
-
-pub greatest_begun : (t : Heights) (ss : List Spot) → max 0 (greatest_at t (drop 0 ss)) ≡ greatest_at t ss
-greatest_begun t ss = none (greatest_at t (drop 0 ss)) ∙ ap (greatest_at t) (drop_none ss)
-  where
-    none : (n : ℕ) → max 0 n ≡ n
-    none n = omega arith
-
-pub greatest_more : (t : Heights) (ss : List Spot) (i old new here : ℕ) (s : Spot) → i < length ss → s ≡ get_or ss i s →
-    here ≡ height_at t s.loc → new ≡ max old here →
-    max old (greatest_at t (drop i ss)) ≡ greatest_at t ss → max new (greatest_at t (drop (i + 1) ss)) ≡ greatest_at t ss
-greatest_more t ss i old new here s lt is at made h =
-    step old new here (greatest_at t (drop i ss)) (greatest_at t (drop (i + 1) ss)) (greatest_at t ss) made
-    (ap (greatest_at t) (drop_step ss i s lt is) ∙ ap (λ n. max n (greatest_at t (drop (i + 1) ss))) (sym at)) h
-  where
-    step : (old new here rest less all : ℕ) → new ≡ max old here → rest ≡ max here less → max old rest ≡ all → max new less ≡ all
-    step old new here rest less all a b c = omega (arith, a, b, c)
-
-pub greatest_all : (t : Heights) (ss : List Spot) (i n : ℕ) → length ss ≤ i → max n (greatest_at t (drop i ss)) ≡ greatest_at t ss → n ≡ greatest_at t ss
-greatest_all t ss i n le h = sym (ap (λ xs. max n (greatest_at t xs)) (drop_all i ss le) ∙ none n) ∙ h
-  where
-    none : (n : ℕ) → max n 0 ≡ n
-    none n = omega arith
+raise_more ss i height e first old new lt one h l =
+    raised (same_loc (get_or ss i e).loc l) (is_among_spots l (drop (i + 1) ss)) height (height_at old l) (height_at new l)
+    (max (cond (is_among_spots l ss) height 0) (height_at first l)) (one l)
+    (sym (ap (λ xs. max (cond (is_among_spots l xs) height 0) (height_at old l)) (drop_more ss i e lt)) ∙ h l)

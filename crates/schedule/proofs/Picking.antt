@@ -1,5 +1,5 @@
 -- The lines of a run by falling heights are those that come next, one after the other.
-use Rattle.std.proofs.Common.{◌≡◌, ℕ, zero, suc, ◌+◌, ◌<◌, ◌≤◌, ⊎_elim, Bool, true, false, cond, not, nat_eq, nat_lt, ◌&&◌, List, [], ◌∷◌, ◌++◌, length, map, Option, Some, None, refl, sym, ap, ◌∙◌, subst, arith, length-append, append_assoc, append-nil}
+use Rattle.std.proofs.Common.{◌≡◌, ℕ, zero, suc, ◌+◌, ◌<◌, ◌≤◌, ◌⊎◌, inl, inr, ⊎_elim, Bool, true, false, cond, not, nat_eq, nat_lt, ◌&&◌, List, [], ◌∷◌, ◌++◌, length, map, Option, Some, None, refl, sym, ap, ◌∙◌, subst, arith, length-append, append_assoc, append-nil}
 use Rattle.std.specs.List.{Contains, filter}
 use Rattle.std.proofs.lemmas.Bool.{true≢false, lt-ltb, le-ltb, eqb-true, eqb-false, eq-eqb}
 use Rattle.std.proofs.lemmas.List.Elements.{Contains-append_left, Contains-append_right, Contains-append_cases}
@@ -42,7 +42,7 @@ out_of_filter p (y ∷ ys) x c = by (p y) (λ d. later_in y x ys (out_of_filter 
     by true ih c = ⊎_elim (λ e. subst (λ z. Contains (y ∷ ys) z) e (first_in y ys)) ih (in_cons y x (filter p ys) c)
     by false ih c = ih c
 
-filter-append : (p : Ranked → Bool) (xs ys : List Ranked) → filter p (xs ++ ys) ≡ filter p xs ++ filter p ys
+pub filter-append : (p : Ranked → Bool) (xs ys : List Ranked) → filter p (xs ++ ys) ≡ filter p xs ++ filter p ys
 filter-append p [] ys = refl
 filter-append p (x ∷ xs) ys = by (p x) (filter-append p xs ys)
   where

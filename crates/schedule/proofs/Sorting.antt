@@ -117,7 +117,7 @@ filter-reverse p (x ∷ xs) =
     by false = append-nil (reverse (filter p xs))
 
 -- some line that is as high
-of_height : ℕ → RankedLine
+abbrev of_height : ℕ → RankedLine
 of_height h = record { line = bare_flow flow.PopTrap; height = h }
 
 back_filtered : (h : ℕ) (ys : List RankedLine) → filter (has_height h) (ranks_back ys) ≡ reverse (map rank_of (filter (ties is_lower (of_height h)) ys))

@@ -49,6 +49,16 @@ impl Runs {
         self.made.push(line)?;
         Ok(())
     }
+
+    /// Adds the lines of some code.
+    fn put_all(&mut self, alloc: Global, code: Vec<Line>) -> Result<(), AllocError>
+        ensures { IfOk result (λ _. code_with self.new [] ≡ code_with self.old code.items) }
+    {
+        for line in code {
+            self.put(alloc, line)?;
+        }
+        Ok(())
+    }
 }
 
 fn schedule_code(alloc: Global, code: Seq<Line>) -> Result<Seq<Line>, AllocError>
@@ -58,9 +68,7 @@ fn schedule_code(alloc: Global, code: Seq<Line>) -> Result<Seq<Line>, AllocError
         made: Vec::with_capacity(alloc, code.len())?,
         run: Vec::new(alloc),
     };
-    for line in code.into_vec() {
-        runs.put(alloc, line)?;
-    }
+    runs.put_all(alloc, code.into_vec())?;
     runs.end_run(alloc)?;
     let Runs { made, run: _ } = runs;
     Ok(Seq::from_vec(made))
