@@ -143,7 +143,10 @@ impl Later {
         let args = line.args.as_slice();
         let results = line.results.as_slice();
         let reads = self.read.greatest(results);
-        let writes = self.written.greatest(args).max(self.written.greatest(results));
+        let writes = self
+            .written
+            .greatest(args)
+            .max(self.written.greatest(results));
         reads.max(writes).max(self.highest_in_memory(&line.op))
     }
 
