@@ -4,7 +4,7 @@ use Rattle.std.specs.Prelude.{reverse}
 use Rattle.std.proofs.lemmas.List.{map-append, reverse-append}
 use Rattle.lin_ir.specs.declared.lin.Line.{Line}
 use Rattle.schedule_rules.specs.Straight.{weight_of_line, Ranked, highest_after, ranked}
-use Rattle.schedule_rules.specs.Orders.{rank_line, scheduled_run}
+use Rattle.schedule_rules.specs.Orders.{rank_line}
 use Rattle.schedule.specs.Heights.{ranked_as, IsLater}
 use Rattle.schedule.specs.Order.{rank_of, ranks_back, lines_back}
 use Rattle.schedule.specs.declared.heights.Later.{Later}
@@ -44,19 +44,3 @@ ranked_more run old new i height before after xs ys cut made high next h =
   where
     x : RankedLine
     x = record { line = i; height = height }
-
-pub ranked_all : (run left : List Line) (later : Later) (lines : List RankedLine) → left ≡ [] → AreRanked run left later lines →
-    ranks_back lines ≡ ranked run
-ranked_all run left later lines none h =
-    h.ranks ∙ ap ranked (subst (λ l. l ++ lines_back lines ≡ run) none h.whole)
-
--- ---- as they are put
-
-pub back_more : (all old new : List Line) (xs ys : List RankedLine) (x : RankedLine) → xs ≡ ys ++ x ∷ [] → new ≡ old ++ x.line ∷ [] →
-    old ++ lines_back xs ≡ all → new ++ lines_back ys ≡ all
-back_more all old new xs ys x cut made h =
-    ap (λ l. l ++ lines_back ys) made ∙ append_assoc old (x.line ∷ []) (lines_back ys)
-    ∙ ap (λ l. old ++ l) (sym (ap lines_back cut ∙ lines_pushed ys x)) ∙ h
-
-pub back_all : (all made : List Line) (xs : List RankedLine) → xs ≡ [] → made ++ lines_back xs ≡ all → made ≡ all
-back_all all made xs none h = sym (ap (λ l. made ++ lines_back l) none ∙ append-nil made) ∙ h

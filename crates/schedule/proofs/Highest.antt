@@ -1,8 +1,7 @@
 -- The greatest height of what depends on a line, by what later lines do.
-use Rattle.std.proofs.Common.{◌≡◌, ℕ, ◌+◌, ◌<◌, ◌≤◌, Bool, true, false, cond, max, ◌&&◌, ◌||◌, List, [], ◌∷◌, length, drop, get_or, refl, sym, ap, ◌∙◌, arith}
+use Rattle.std.proofs.Common.{◌≡◌, ℕ, ◌+◌, ◌<◌, Bool, true, false, cond, max, ◌&&◌, ◌||◌, List, [], ◌∷◌, length, drop, get_or, refl, sym, ap, ◌∙◌, arith}
 use Rattle.std.proofs.lemmas.List.{drop_more}
 use Rattle.bs_words.specs.declared.types.Loc.{Loc}
-use Rattle.bs_words.proofs.Lists.{drop_none}
 use Rattle.lin_ir.specs.Meaning.{same_loc}
 use Rattle.lin_ir.specs.declared.lin.Spot.{Spot}
 use Rattle.lin_ir.specs.declared.lin.Line.{Line}
@@ -126,9 +125,6 @@ raised false false h x y z e f = omega (arith, e, f)
 abbrev pub IsRaised : List Spot → ℕ → ℕ → Heights → Heights → Type 0
 IsRaised ss i height first now = (l : Loc) →
     max (cond (is_among_spots l (drop i ss)) height 0) (height_at now l) ≡ max (cond (is_among_spots l ss) height 0) (height_at first l)
-
-pub raise_begun : (ss : List Spot) (height : ℕ) (first : Heights) → IsRaised ss 0 height first first
-raise_begun ss height first l = ap (λ xs. max (cond (is_among_spots l xs) height 0) (height_at first l)) (drop_none ss)
 
 pub raise_more : (ss : List Spot) (i height : ℕ) (e : Spot) (first old new : Heights) → i < length ss →
     ((l : Loc) → height_at new l ≡ max (cond (same_loc (get_or ss i e).loc l) height 0) (height_at old l)) →

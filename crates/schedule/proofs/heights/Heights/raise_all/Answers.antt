@@ -1,4 +1,4 @@
-use Rattle.schedule.proofs.Highest.{raise_begun, raise_more}
+use Rattle.schedule.proofs.Highest.{raise_more}
 use Rattle.schedule.proofs.heights.Heights.raise_all.Goals as goal
 
 pub loop-spot-preserved : goal.loop-spot-preserved
