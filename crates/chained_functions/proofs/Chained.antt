@@ -1,7 +1,8 @@
 -- What was made of a function of an accepted text is known whole.
-use Rattle.std.proofs.Common.{◌≡◌, ℕ, ◌+◌, ◌*◌, ◌<◌, ◌≤◌, List, [], ◌∷◌, length, All, Option, refl, subst, arith}
+use Rattle.std.proofs.Common.{◌≡◌, ℕ, ◌+◌, ◌*◌, ◌<◌, ◌≤◌, List, [], ◌∷◌, length, All, Option, refl, ap, ◌∙◌, subst, arith}
 use Rattle.std.proofs.Math.Nat.{mul-le-mul_right, suc-mul}
 use Rattle.choices.specs.declared.choices.Choices.{Choices}
+use Rattle.choices.specs.declared.choices.Order.{Order}
 use Rattle.cmm_tree.specs.Symbols.{DefinedSymbol}
 use Rattle.cmm_tree.specs.Tree.{FunctionTree}
 use Rattle.correctness.specs.Measures.{tries}
@@ -37,6 +38,7 @@ use Rattle.lin_tidy_rules.proofs.Following.{tidied_tidies}
 use Rattle.lin_tidy_rules.specs.Regular.{IsRegular}
 use Rattle.lin_tidy_rules.proofs.Lowered.{lowered_regular}
 use Rattle.made_functions.specs.Known.{IsLinearOf}
+use Rattle.made_functions.proofs.Known.{all_homes}
 use Rattle.line_stands.specs.Lines as line
 use Rattle.rv_pieces.specs.declared.piece.Pieces.{Pieces}
 use Rattle.selection_rules.specs.Select.{selected}
@@ -47,10 +49,10 @@ use Rattle.placed_functions.proofs.Exits.{selected_exits}
 use Rattle.placed_functions.proofs.Placed.{placed_for}
 use Rattle.placed_functions.proofs.Tries.{few_nest}
 use Rattle.made_functions.specs.Chained.{AreLinesOf, IsChained}
-use Rattle.made_functions.specs.Made.{IsMadeOf}
-use Rattle.made_functions.proofs.Ordered.{linear_of}
+use Rattle.made_functions.specs.Made.{IsMadeOf, in_order}
 use Rattle.mach_laws.proofs.Instructions.{instr}
 use Rattle.chained_functions.proofs.Carried.{lowered_shallow, tidied_shallow, tidied_named, lowered_unended, tidied_unended}
+use Rattle.chained_functions.proofs.Ordered.{frame_in_order, traps_in_order, lines_in_order}
 
 -- ---- how many lines
 
@@ -102,7 +104,7 @@ module _ {defined : List ℕ → Option DefinedSymbol} {tree : FunctionTree} (ac
   tidies = tidied_tidies first linear.made
 
   -- No more traps are pushed at a place than tries are round one of the text.
-  pub depth : (code : List Line) (traps : List ℕ) → Traps m code traps → length traps ≤ tries tree
+  depth : (code : List Line) (traps : List ℕ) → Traps m code traps → length traps ≤ tries tree
   depth code traps (by_walk r) = tidied_shallow (tries tree) first tidies (lowered_shallow q is.formed is.placed (tries tree) is.tries) code traps r
   depth code traps (unreached out) = omega arith
 
@@ -133,7 +135,7 @@ module _ {defined : List ℕ → Option DefinedSymbol} {tree : FunctionTree} (ac
       omega (arith, lines, ended, product, instrs, tokens)
 
   -- What descriptors ask of a Linear function, whose frame and traps fit.
-  pub within : frame_bytes m + 16 * tries tree ≤ 1048576 → FitsDescriptors m
+  within : frame_bytes m + 16 * tries tree ≤ 1048576 → FitsDescriptors m
   within fit =
       record {
         lines = lines_few;
@@ -141,7 +143,7 @@ module _ {defined : List ℕ → Option DefinedSymbol} {tree : FunctionTree} (ac
       }
 
   -- What is known of its lines.
-  pub lines : frame_bytes m + 16 * tries tree ≤ 1048576 → AreLinesOf tree m
+  lines : frame_bytes m + 16 * tries tree ≤ 1048576 → AreLinesOf tree m
   lines fit =
       record {
         keeps = λ named exact. keeps_then (selected tree) q m named is.keeps (linear.keeps is.no_addr named exact);
@@ -155,15 +157,31 @@ module _ {defined : List ℕ → Option DefinedSymbol} {tree : FunctionTree} (ac
         unended = tidied_unended first tidies (lowered_unended q first is.ends);
       }
 
+-- ---- in the order that is chosen
+
+module _ {defined : List ℕ → Option DefinedSymbol} {tree : FunctionTree} (accepted : IsAccepted defined tree) {q : Mach} (is : IsPlacedFor tree q) {l : Lin}
+    (linear : IsLinearOf q l) (chosen : Order) {m : Lin} (same : m ≡ in_order chosen l) where
+  -- As few traps are pushed at a place.
+  pub ordered_depth : (code : List Line) (traps : List ℕ) → Traps m code traps → length traps ≤ tries tree
+  ordered_depth code traps at =
+      let was = traps_in_order chosen l (subst (λ (m : Lin). Traps m code traps) same at) in
+      depth accepted is linear was.0 traps was.1
+
+  -- As much is known of the lines.
+  pub ordered_lines : frame_bytes m + 16 * tries tree ≤ 1048576 → AreLinesOf tree m
+  ordered_lines fit =
+      let frame = ap frame_bytes same ∙ frame_in_order chosen l in
+      lines_in_order chosen same tree q is.keeps linear.reached (lines accepted is linear (omega (arith, fit, frame)))
+
 -- Lines of which all is known, with what is made of them.
 whole : {choices : Choices} {tree : FunctionTree} {m : Lin} {ds : List Descr} {pieces : Pieces} → AreLinesOf tree m → (made : IsMadeOf choices tree m ds pieces) →
     IsChained tree m ds pieces
-whole {ds = ds} lines made =
+whole {m = m} {ds = ds} lines made =
     record {
       lines = lines;
       exact = made.exact;
       count = made.count;
-      homes = (linear_of made).named ds made.exact;
+      homes = all_homes m lines.regular.homes ds made.exact;
       emitted = made.emitted;
     }
 
@@ -171,5 +189,5 @@ whole {ds = ds} lines made =
 pub chained : {choices : Choices} {defined : List ℕ → Option DefinedSymbol} {tree : FunctionTree} {m : Lin} {ds : List Descr} {pieces : Pieces} → IsAccepted defined tree →
     IsMadeOf choices tree m ds pieces →
     frame_bytes m + 16 * tries tree ≤ 1048576 → IsChained tree m ds pieces
-chained accepted made fit =
-    whole (lines accepted (placed_for accepted made.is_prepared made.allocated) (linear_of made) fit) made
+chained {choices} accepted made fit =
+    whole (ordered_lines accepted (placed_for accepted made.is_prepared made.allocated) made.linear choices.order made.ordered fit) made

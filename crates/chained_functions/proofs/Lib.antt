@@ -1,4 +1,5 @@
 pub mod Carried
+pub mod Ordered
 pub mod Chained
 pub mod Rooms
 pub mod Known

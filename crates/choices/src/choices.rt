@@ -11,10 +11,14 @@ pub enum Alloc {
 }
 
 /// In which order the lines of a straight run stand.
+/// What is made of a function is indexed by it too.
 #[derive(Clone, Copy, Drop)]
 pub enum Order {
     /// As the passes before give them.
     Plain,
+    /// By list scheduling (OCaml's `asmcomp/schedgen.ml`): of the lines that may come next the one on
+    /// which the longest chain waits.
+    List,
 }
 
 /// What is chosen for a text.

@@ -17,10 +17,12 @@ use Rattle.correctness.specs.Measures.{tries}
 use Rattle.rv_emit_rules.proofs.Descriptors.{descriptors_are_carried}
 use Rattle.rv_emit_rules.proofs.Names.{places_are_labels}
 use Rattle.lin_ir.specs.declared.descr.Descr.{Descr}
+use Rattle.lin_ir.specs.Formed as lines
 use Rattle.lin_ir.specs.declared.lin.Lin.{Lin}
 use Rattle.mach_ir.specs.Formed.{labels_in, WellFormed}
 use Rattle.mach_ir.specs.declared.mach.Mach.{Mach}
-use Rattle.chained_functions.proofs.Known.{placed_for, linear_of}
+use Rattle.chained_functions.proofs.Known.{placed_for}
+use Rattle.chained_functions.proofs.Ordered.{labels_in_order}
 use Rattle.rv_pieces.specs.Named.{marks_in, places_in}
 use Rattle.rv_pieces.specs.declared.piece.Pieces.{Pieces}
 use Rattle.selection_accepted.specs.Known.{IsAccepted}
@@ -46,17 +48,18 @@ module _ {choices : Choices} (defined : List ℕ → Option DefinedSymbol) (tree
       let below = is.labels in
       let emitted = ap (λ (p : Pieces). length (places_in p.code)) made.emitted.is in
       let labels = ap length (places_are_labels m made.emitted.traps ds) in
-      let more = (linear_of made).labels_few in
+      let ordered = ap (λ (l : Lin). length (lines.labels_in l.code)) made.ordered ∙ ap length (labels_in_order choices.order made.lines) in
+      let more = made.linear.labels_few in
       let instrs = is.instrs in
       let few = few_labels made.mach is.formed in
-      omega (arith, below, emitted, labels, more, instrs, few)
+      omega (arith, below, emitted, labels, ordered, more, instrs, few)
 
   -- They keep to it where at most 250 tries nest.
   pub keeps_to : tries tree ≤ 250 → KeepsTo tree pieces
   keeps_to shallow = record {
     descrs = ds;
     carried = ap (λ (p : Pieces). marks_in p.code) made.emitted.is ∙ descriptors_are_carried m made.emitted.traps ds made.count;
-    bounded = bounded accepted (placed_for accepted made.is_prepared made.allocated) (linear_of made) ds pieces made shallow;
+    bounded = bounded accepted (placed_for accepted made.is_prepared made.allocated) made.linear choices.order made.ordered ds pieces made shallow;
     labels = let few = few_places in omega (arith, few);
   }
 

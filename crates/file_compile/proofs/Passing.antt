@@ -1,6 +1,6 @@
 -- What the passes ask of a function of an accepted file, and what they make of it.
 use Rattle.std.proofs.Common.{◌≡◌, ℕ, List, length, refl, subst, sym}
-use Rattle.file_promise.proofs.Known.{linear_in_order, within, frame_fits, line_room, selected_preparable, selected_room, ready, prepared_room, carried, placed_for, function_accepted, selection_room, definitions}
+use Rattle.file_promise.proofs.Known.{regular_in_order, ordered_lines, frame_fits, line_room, selected_preparable, selected_room, ready, prepared_room, carried, placed_for, function_accepted, selection_room, definitions}
 use Rattle.cmm_tree.specs.Tree.{FunctionTree, FileTree, functions}
 use Rattle.rv_emit_rules.specs.Emitted.{IsEmitted}
 use Rattle.lin_ir.specs.Descriptors.{AreExact, FitsDescriptors, frame_point_count}
@@ -77,15 +77,14 @@ module _ (tree : FunctionTree) (accepted : IsAcceptedFunction tree) where
     pub lines_within : (l : Lin) → IsLinearFor choices tree l → FitsDescriptors l
     lines_within l are =
         let placed = allocated_placed are.mach are.is_allocated in
-        let linear = linear_in_order choices.order are.ordered are.linear in
-        within known_here placed linear (frame_fits known_here placed linear)
+        (ordered_lines known_here placed are.linear choices.order are.ordered (frame_fits known_here placed are.linear choices.order are.ordered)).within
 
 -- Lines have locations of the machine, and each of them is reached with one number of pushed traps.
 pub lines_located : {choices : Choices} {tree : FunctionTree} (l : Lin) → IsLinearFor choices tree l → AreLocated l
-lines_located {choices} l are = (linear_in_order choices.order are.ordered are.linear).regular.well.locations
+lines_located {choices} l are = (regular_in_order choices.order are.ordered are.linear.regular).well.locations
 
 pub lines_depth : {choices : Choices} {tree : FunctionTree} (l : Lin) → IsLinearFor choices tree l → OneDepth l
-lines_depth {choices} l are = (linear_in_order choices.order are.ordered are.linear).regular.well.traps.depth
+lines_depth {choices} l are = (regular_in_order choices.order are.ordered are.linear.regular).well.traps.depth
 
 -- the pieces of its lines are made of it
 pub function_made : {tree : FunctionTree} {choices : Choices} (lin : Lin) → IsLinearFor choices tree lin → (ds : List Descr) (pieces : Pieces) → AreExact lin ds →

@@ -16,16 +16,18 @@ use prepare::passed_to;
 use reg_rounds::{Allocated, allocate_by};
 use rv_emit::emit;
 use rv_pieces::Pieces;
+use schedule::schedule;
 use selection::select_function;
 use stages::Stage;
 use std::alloc::{AllocError, Global};
 
-/// Lines in the order that is chosen.
-fn ordered(lin: Lin, order: Order) -> Lin
-    ensures { result ≡ in_order order lin }
+/// Lines in the order that is chosen. The only error is want of memory.
+fn ordered(alloc: Global, lin: Lin, order: Order) -> Result<Lin, AllocError>
+    ensures { IfOk result (λ m. m ≡ in_order order lin) }
 {
     match order {
-        Order::Plain => lin,
+        Order::Plain => Ok(lin),
+        Order::List => schedule(alloc, lin),
     }
 }
 
@@ -57,7 +59,7 @@ pub fn lines(alloc: Global, function: &Function, choices: Choices) -> Result<Lin
 {
     let placed = allocated(alloc, function, choices)?;
     let lines = linear(alloc, &placed)?;
-    Ok(ordered(lines, choices.order))
+    ordered(alloc, lines, choices.order)
 }
 
 /// The pieces of a function: its lines, from which its frame descriptors are found and code is emitted.

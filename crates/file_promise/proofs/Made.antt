@@ -9,7 +9,6 @@ use Rattle.choices.specs.declared.choices.Choices.{Choices}
 use Rattle.cmm_front.specs.FileOf.{IsFileOf}
 use Rattle.cmm_tree.specs.Tree.{FunctionTree, FileTree, functions}
 use Rattle.cmm_types.proofs.Containing.{contains_head, contains_tail}
-use Rattle.made_once.proofs.Known.{linear_of}
 use Rattle.code_bounds.proofs.Bounded.{frame_fits}
 use Rattle.code_bounds.specs.Kept.{KeepsTo}
 use Rattle.code_bounds.proofs.Few.{few}
@@ -27,7 +26,7 @@ module _ (choices : Choices) (text : List ℕ) (file : FileTree) (is : IsFileOf 
       IsChained tree made.lin made.descriptors p
   function_chained tree among p made =
       let accepted = function_accepted text file is tree among in
-      chained accepted made.made (frame_fits accepted (placed_for accepted made.made.is_prepared made.made.allocated) (linear_of made.made))
+      chained accepted made.made (frame_fits accepted (placed_for accepted made.made.is_prepared made.made.allocated) made.made.linear choices.order made.made.ordered)
 
   function_laid : (tree : FunctionTree) → Contains (functions file) tree → (p : Pieces) → IsFunctionMade choices tree p → IsFunctionLaid file p
   function_laid tree among p made =

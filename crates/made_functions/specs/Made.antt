@@ -7,8 +7,9 @@
 use Rattle.std.specs.Prelude.{◌≡◌, List, length}
 use Rattle.choices.specs.declared.choices.Choices.{Choices}
 use Rattle.choices.specs.declared.choices.Order.{Order}
-use Rattle.choices.specs.declared.choices.Order.TheVariants.{Plain}
+use Rattle.choices.specs.declared.choices.Order.TheVariants as order
 use Rattle.cmm_tree.specs.Tree.{FunctionTree}
+use Rattle.schedule_rules.specs.Orders.{scheduled}
 use Rattle.selection_rules.specs.Select.{selected}
 use Rattle.mach_ir.specs.declared.mach.Mach.{Mach}
 use Rattle.prepare_rules.specs.Prepared.{IsPreparedMach}
@@ -16,13 +17,15 @@ use Rattle.reg_rounds_rules.specs.Rounds.{IsRegisterAllocated}
 use Rattle.lin_ir.specs.Descriptors.{AreExact, frame_point_count}
 use Rattle.lin_ir.specs.declared.descr.Descr.{Descr}
 use Rattle.lin_ir.specs.declared.lin.Lin.{Lin}
+use Rattle.lin_tidy_rules.specs.Leaving.{with_code}
 use Rattle.lin_pass.specs.Linear.{IsLinearOf}
 use Rattle.rv_emit_rules.specs.Emitted.{IsEmitted}
 use Rattle.rv_pieces.specs.declared.piece.Pieces.{Pieces}
 
 -- lines in the order that is chosen
 abbrev pub in_order : Order → Lin → Lin
-in_order Plain l = l
+in_order order.Plain l = l
+in_order order.List l = with_code l (scheduled l.code)
 
 pub record IsMadeOf (choices : Choices) (tree : FunctionTree) (m : Lin) (ds : List Descr)
     (pieces : Pieces) : Type 0 where

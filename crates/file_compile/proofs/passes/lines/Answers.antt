@@ -1,3 +1,4 @@
+use Rattle.std.proofs.lemmas.Result.{IfOk-weaker}
 use Rattle.cmm_tree.specs.View.{function_view}
 use Rattle.file_compile.proofs.Passing.{allocated_placed, allocated_line_room}
 use Rattle.file_compile.proofs.passes.lines.Goals as goal
@@ -19,10 +20,13 @@ linear-requires-clause-room c = allocated_line_room (function_view c.args.functi
 
 pub returns : goal.returns
 returns c =
+    IfOk-weaker c.ordered.result _ _
+    (λ m same.
     record {
       mach = c.in_ok-placed.placed;
       is_allocated = c.in_ok-placed.ensures;
       lines = c.in_ok-lines.lines;
       linear = c.in_ok-lines.ensures;
-      ordered = c.ordered.ensures;
-    }
+      ordered = same;
+    })
+    c.ordered.ensures
