@@ -1,4 +1,4 @@
-/* Reads the words and the image, runs the entry, and prints what comes of it, as `cmmc run` does. */
+/* Reads the words as `cmmc run` does, then the image, and has the entry run. */
 #include "runtime.h"
 
 #include <stdio.h>

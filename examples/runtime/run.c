@@ -1,4 +1,4 @@
-/* Maps the places of memory, enters the code, and does the services that it asks for.
+/* Maps the places of memory, enters the code, does the services that it asks for, and prints what comes of it.
  *
  * An ECALL of the image is an EBREAK here, since ECALL is Linux's. The signal that an EBREAK brings is the service: its handler
  * finds all registers of the image, changes what the service changes, and lets the code go on from there. Entering and leaving

@@ -3,8 +3,8 @@
  *   image.c     reads an image, or refuses it
  *   walk.c      goes up the stack by the frame descriptors and finds the roots
  *   collect.c   knows the blocks of the heap, copies the live ones and frees the others
- *   run.c       maps the places of memory, enters the code and does its services
- *   main.c      reads the words, and says what comes of a run
+ *   run.c       maps the places of memory, enters the code, does its services and prints what comes of it
+ *   main.c      reads the words
  */
 #ifndef RUNTIME_H
 #define RUNTIME_H

@@ -68,8 +68,8 @@ module _ {one two : Layout} where
       Alike {A = A} one two (Stops (NotProper kind) w) (Stops (NotProper kind) (apart w v))
   alike_improper v = stops improper v
 
-  pub alike_then : {A B : Type 0} {x y : Evaluated A} {f : A → Here → World → Evaluated B} (g : A → Here → World → Evaluated B) → Alike one two x y → Onwards one two f g →
-      Alike one two (and_then x f) (and_then y g)
+  pub alike_then : {A B : Type 0} {x y : Evaluated A} {f : A → Here → World → Evaluated B} (g : A → Here → World → Evaluated B) → Alike one two x y →
+      Onwards one two f g → Alike one two (and_then x f) (and_then y g)
   alike_then g (gives {a} {h} {w} p v) q = q a h w p v
   alike_then g (exits p v) q = exits p v
   alike_then g (raises p v) q = raises p v
@@ -80,8 +80,8 @@ module _ {one two : Layout} where
   alike_only g q None h w p v = alike_improper v
   alike_only g q (Some a) h w p v = q a h w p v
 
-  pub alike_value : {B : Type 0} {x y : Evaluation} {f : Value → Here → World → Evaluated B} (g : Value → Here → World → Evaluated B) → Alike one two x y → Onwards one two f g →
-      Alike one two (with_value x f) (with_value y g)
+  pub alike_value : {B : Type 0} {x y : Evaluation} {f : Value → Here → World → Evaluated B} (g : Value → Here → World → Evaluated B) → Alike one two x y →
+      Onwards one two f g → Alike one two (with_value x f) (with_value y g)
   alike_value g x q = alike_then (λ (a : Option Value) h w. only_value a g h w) x (alike_only g q)
 
   pub alike_cond : {A : Type 0} (b : Bool) {x y z u : Evaluated A} → Alike one two x y → Alike one two z u → Alike one two (cond b x z) (cond b y u)
@@ -115,20 +115,23 @@ module _ {one two : Layout} where
 
   -- ---- operands
 
-  pub alike_both : {B : Type 0} (t : Bool) {left right : Here → World → Evaluation} (left' right' : Here → World → Evaluation) (h : Here) (w : World) (p : Place) (v : Apart one two w.made)
-      {go : Value → Value → Here → World → Evaluated B} (go' : Value → Value → Here → World → Evaluated B) → Operands one two left left' → Operands one two right right' →
-      ((a : Value) → Onwards one two (go a) (go' a)) →
+  pub alike_both : {B : Type 0} (t : Bool) {left right : Here → World → Evaluation} (left' right' : Here → World → Evaluation)
+      (h : Here) (w : World) (p : Place) (v : Apart one two w.made)
+      {go : Value → Value → Here → World → Evaluated B} (go' : Value → Value → Here → World → Evaluated B) → Operands one two left left' →
+      Operands one two right right' → ((a : Value) → Onwards one two (go a) (go' a)) →
       Alike one two (both t left right h w go) (both t left' right' (placed p h) (apart w v) go')
   alike_both false left' right' h w p v go' l r q = alike_value _ (r h w p v) (λ b h w p v. alike_value _ (l h w p v) (λ a h w p v. q a b h w p v))
   alike_both true left' right' h w p v go' l r q = alike_value _ (l h w p v) (λ a h w p v. alike_value _ (r h w p v) (λ b h w p v. q a b h w p v))
 
-  pub alike_unless : {B : Type 0} (light : Bool) {x : Here → World → Evaluation} (y : Here → World → Evaluation) (h : Here) (w : World) (p : Place) (v : Apart one two w.made)
+  pub alike_unless : {B : Type 0} (light : Bool) {x : Here → World → Evaluation} (y : Here → World → Evaluation)
+      (h : Here) (w : World) (p : Place) (v : Apart one two w.made)
       {go : Option Value → Here → World → Evaluated B} (go' : Option Value → Here → World → Evaluated B) → Operands one two x y → Onwards one two go go' →
       Alike one two (unless_light light x h w go) (unless_light light y (placed p h) (apart w v) go')
   alike_unless true y h w p v go' o q = q None h w p v
   alike_unless false y h w p v go' o q = alike_value _ (o h w p v) (λ a h w p v. q (Some a) h w p v)
 
-  pub alike_now : {B : Type 0} (before : Option Value) {x : Here → World → Evaluation} (y : Here → World → Evaluation) (h : Here) (w : World) (p : Place) (v : Apart one two w.made)
+  pub alike_now : {B : Type 0} (before : Option Value) {x : Here → World → Evaluation} (y : Here → World → Evaluation)
+      (h : Here) (w : World) (p : Place) (v : Apart one two w.made)
       {go : Value → Here → World → Evaluated B} (go' : Value → Here → World → Evaluated B) → Operands one two x y → Onwards one two go go' →
       Alike one two (now_or_before before x h w go) (now_or_before before y (placed p h) (apart w v) go')
   alike_now (Some a) y h w p v go' o q = q a h w p v
@@ -148,7 +151,8 @@ module _ {one two : Layout} where
   alike_as (ret.Comp c) None h w p v = alike_improper v
 
   pub alike_written : (result : Ret) (h : Here) (p : Place) {x y : Evaluation} → Alike one two x y →
-      Alike one two (and_then (back_from_call h x) (λ v h w. as_written result v h w)) (and_then (back_from_call (placed p h) y) (λ v h w. as_written result v h w))
+      Alike one two (and_then (back_from_call h x) (λ v h w. as_written result v h w))
+      (and_then (back_from_call (placed p h) y) (λ v h w. as_written result v h w))
   alike_written result h p x = alike_then (λ a h w. as_written result a h w) (alike_back h p x) (alike_as result)
 
 -- the same setting, where calls do something else
@@ -156,7 +160,8 @@ abbrev pub with_calls : Surroundings → (Called → World → Evaluation) → (
 with_calls s c x = record s { call = c; external = x }
 
 -- Calls do alike, on however many bytes of stack.
-pub record DoAlike (one two : Layout) (s : Surroundings) (c : Called → World → Evaluation) (x : External → Bool → List Value → World → Evaluation) : Type 0 where
+pub record DoAlike (one two : Layout) (s : Surroundings) (c : Called → World → Evaluation)
+    (x : External → Bool → List Value → World → Evaluation) : Type 0 where
   pub calls : (call : Called) (w : World) (below : ℕ) (v : Apart one two w.made) → Alike one two (s.call call w) (c (record call { below = below }) (apart w v))
   pub outside : (row : External) (frame : Bool) (arguments : List Value) (w : World) (v : Apart one two w.made) →
       Alike one two (s.external row frame arguments w) (x row frame arguments (apart w v))
@@ -168,7 +173,8 @@ module _ {one two : Layout} (s : Surroundings) (c : Called → World → Evaluat
   alike_node e h w p v g q = alike_spend w.left w v _ (λ w v. alike_then _ (q w v) (alike_type s.end (type_of (scope h) e)))
 
   module _ (d : DoAlike one two s c x) where
-    alike_called : (o : Option (List Comp)) (f : ℕ) (arguments : List Value) (result : Ret) (tail : Bool) (h : Here) (w : World) (p : Place) (v : Apart one two w.made) →
+    alike_called : (o : Option (List Comp)) (f : ℕ) (arguments : List Value) (result : Ret) (tail : Bool)
+        (h : Here) (w : World) (p : Place) (v : Apart one two w.made) →
         Alike one two (called_with s o f arguments result tail h w) (called_with (with_calls s c x) o f arguments result tail (placed p h) (apart w v))
     alike_called None f arguments result tail h w p v = alike_improper v
     alike_called (Some comps) f arguments result tail h w p v =

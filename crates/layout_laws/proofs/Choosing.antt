@@ -32,7 +32,8 @@ module _ {one two : Layout} where
   last_chosen true a others = a
   last_chosen false a others = others
 
-  pub alike_looked : (o : Option Value) (h : Here) (w : World) (p : Place) (v : Apart one two w.made) → Alike one two (looked_up o h w) (looked_up o (placed p h) (apart w v))
+  pub alike_looked : (o : Option Value) (h : Here) (w : World) (p : Place) (v : Apart one two w.made) →
+      Alike one two (looked_up o h w) (looked_up o (placed p h) (apart w v))
   alike_looked (Some a) h w p v = gives p v
   alike_looked None h w p v = alike_improper v
 
@@ -51,8 +52,10 @@ module _ {one two : Layout} where
   alike_entered end (q ∷ params) [] w v x = alike_improper v
   alike_entered end (q ∷ params) (a ∷ values) w v x = alike_tested end (type_of_comp q.comp) a w v (alike_entered end params values w v x)
 
-  alike_handled : (end : ℕ) {r s : Option (Ready Body)} → OneReady one two r s → (label : LabelTree) (values : List Value) (level tries : ℕ) (h : Here) (w : World)
-      (p : Place) (v : Apart one two w.made) (again other : Evaluation → Evaluation) → ((x y : Evaluation) → Alike one two x y → Alike one two (again x) (other y)) →
+  alike_handled : (end : ℕ) {r s : Option (Ready Body)} → OneReady one two r s →
+      (label : LabelTree) (values : List Value) (level tries : ℕ) (h : Here) (w : World)
+      (p : Place) (v : Apart one two w.made) (again other : Evaluation → Evaluation) →
+      ((x y : Evaluation) → Alike one two x y → Alike one two (again x) (other y)) →
       Alike one two (handled end r label values level tries h w again) (handled end s label values level tries (placed p h) (apart w v) other)
   alike_handled end neither_ready label values level tries h w p v again other k = exits p v
   alike_handled end (both_ready name params {x} {y} body) label values level tries h w p v again other k =
@@ -60,7 +63,8 @@ module _ {one two : Layout} where
       k (entered end params values w (back level tries (x bound w))) (entered end params values (apart w v) (back level tries (y (placed p bound) (apart w v))))
       (alike_entered end params values w v (alike_back_in level tries (body bound w p v)))
 
-  module _ (end level tries : ℕ) (rs qs : List (Ready Body)) (found : (within : Bool) (label : LabelTree) → OneReady one two (ready_for within label rs) (ready_for within label qs)) where
+  module _ (end level tries : ℕ) (rs qs : List (Ready Body))
+      (found : (within : Bool) (label : LabelTree) → OneReady one two (ready_for within label rs) (ready_for within label qs)) where
     pub alike_caught : (turns : ℕ) (within : Bool) {x y : Evaluation} → Alike one two x y →
         Alike one two (caught end turns within rs level tries x) (caught end turns within qs level tries y)
     alike_caught zero within x = x
@@ -71,8 +75,8 @@ module _ {one two : Layout} where
         alike_handled end (found within label) label values level tries h w p v (caught end turns true rs level tries) (caught end turns true qs level tries)
         (λ x y a. alike_caught turns true a)
 
-  pub alike_tried : {f : Value → Here → World → Evaluation} (g : Value → Here → World → Evaluation) (level tries : ℕ) {x y : Evaluation} → Alike one two x y → Onwards one two f g →
-      Alike one two (tried f level tries x) (tried g level tries y)
+  pub alike_tried : {f : Value → Here → World → Evaluation} (g : Value → Here → World → Evaluation) (level tries : ℕ) {x y : Evaluation} →
+      Alike one two x y → Onwards one two f g → Alike one two (tried f level tries x) (tried g level tries y)
   alike_tried g level tries (gives p v) k = gives p v
   alike_tried g level tries (exits p v) k = exits p v
   alike_tried g level tries (raises {a} {h} {w} p v) k = k a (back_in level tries h) w p v

@@ -16,7 +16,8 @@ use Rattle.cmm_meaning.specs.Evaluation.{Body, Evaluation, Gives, Surroundings, 
 use Rattle.layout_laws.proofs.Alike.{Place, placed, Apart, apart, Alike, gives, exits, raises, with_calls, DoAlike, alike_improper, alike_then, alike_value, alike_cond, alike_tested, alike_proper, alike_node, alike_both, alike_unless, alike_now, alike_applied, alike_external}
 use Rattle.layout_laws.proofs.Choosing.{OneReady, neither_ready, both_ready, OneChosen, neither_chosen, both_chosen, first_found, last_chosen, alike_looked, alike_chosen, alike_back_in, alike_caught, alike_tried}
 
-module _ {one two : Layout} (s : Surroundings) (c : Called → World → Evaluation) (x : External → Bool → List Value → World → Evaluation) (d : DoAlike one two s c x) where
+module _ {one two : Layout} (s : Surroundings) (c : Called → World → Evaluation)
+    (x : External → Bool → List Value → World → Evaluation) (d : DoAlike one two s c x) where
   -- the other surroundings
   abbrev t : Surroundings
   t = with_calls s c x
@@ -150,4 +151,5 @@ module _ {one two : Layout} (s : Surroundings) (c : Called → World → Evaluat
         OneReady one two (ready_for within label (readied s handlers tail)) (ready_for within label (readied t handlers tail))
     one_handler NoHandler tail within label = neither_ready
     one_handler (Handle at name params body rest) tail within label =
-        first_found (same_label label name && not (is_bare label && within)) (both_ready name params (alike_evaluated body tail)) (one_handler rest tail within label)
+        first_found (same_label label name && not (is_bare label && within)) (both_ready name params (alike_evaluated body tail))
+        (one_handler rest tail within label)

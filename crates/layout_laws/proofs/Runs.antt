@@ -95,7 +95,8 @@ module _ (one two : Layout) where
     alike_callees (suc depth) call w below v =
         alike_activated (around depth) (callees file two depth) (outside (data_end file) two)
         (record { calls = alike_callees depth; outside = alike_outside (data_end file) })
-        (slice_index one.frames call.function) (slice_index two.frames call.function) (slice_get (functions file) call.function) call.arguments call.below below w v
+        (slice_index one.frames call.function) (slice_index two.frames call.function)
+        (slice_get (functions file) call.function) call.arguments call.below below w v
 
   -- ---- runs
 
