@@ -15,6 +15,8 @@ pub enum Alloc {
 pub enum Order {
     /// As the passes before give them.
     Plain,
+    /// Each straight run in the order of list scheduling.
+    List,
 }
 
 /// What is chosen for a text.
