@@ -9,4 +9,4 @@ returns-in_err-allocation-clause-bad c =
 
 pub returns-in_err-order-clause-bad : goal.returns-in_err-order-clause-bad
 returns-in_err-order-clause-bad c =
-    let p = err_from_is_err_and c.from_residual-2.result c.from_residual-2.ensures.1 in rw p.1 (no_order (texts c.args.others.now) c.in_err-order.ensures.bad)
+    let p = err_from_is_err_and c.from_residual-in_err-order.result c.from_residual-in_err-order.ensures.1 in rw p.1 (no_order (texts c.args.others.now) c.in_err-order.ensures.bad)
