@@ -8,10 +8,10 @@ use Rattle.command_line.specs.declared.form.Slot.TheVariants as slot
 use Rattle.choices.specs.Defaults.{defaults}
 use Rattle.command_line.specs.Command.{default_jobs, default_steps, default_size, default_moves}
 use Rattle.rv_machine.specs.Places.{most_room}
-use Rattle.command_line.specs.Values.{IsSteps, IsSize, IsMoves, never, IsItems, none, IsCounted, IsAlloc, most_jobs, most_steps}
+use Rattle.command_line.specs.Values.{IsSteps, IsSize, IsMoves, never, IsItems, none, IsCounted, IsAlloc, IsOrder, most_jobs, most_steps}
 use Rattle.command_line.specs.Program.{Defaults}
 use Rattle.command_line.proofs.Cuts.{list-unique}
-use Rattle.command_line.proofs.Unique.{steps-unique, size-unique, moves-unique, counted-unique, alloc-unique}
+use Rattle.command_line.proofs.Unique.{steps-unique, size-unique, moves-unique, counted-unique, alloc-unique, order-unique}
 
 abbrev digit : ℕ → Bool
 digit b = nat_le 48 b && nat_le b 57
@@ -73,3 +73,6 @@ jobs_left_out = record { text = codes "1"; is = refl; reads = jobs_default; alon
 
 pub alloc_left_out : Defaults slot.Alloc IsAlloc (defaults).alloc
 alloc_left_out = record { text = codes "colour"; is = refl; reads = refl; alone = λ x is. alloc-unique (codes "colour") x (defaults).alloc is refl }
+
+pub order_left_out : Defaults slot.Schedule IsOrder (defaults).order
+order_left_out = record { text = codes "none"; is = refl; reads = refl; alone = λ x is. order-unique (codes "none") x (defaults).order is refl }

@@ -5,7 +5,7 @@ mod Entered
 mod Gives
 mod Matched
 mod Numbers
-pub mod Order
+pub mod Permuted
 mod Tested
 pub mod Unique
 mod Walked

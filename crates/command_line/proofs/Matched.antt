@@ -11,7 +11,7 @@ use Rattle.clap.specs.declared.parser.matches.ValueSource.TheVariants.{DefaultVa
 use Rattle.command_line.specs.declared.form.CommandWord.{CommandWord}
 use Rattle.command_line.specs.declared.form.CommandWord.TheVariants as word
 use Rattle.command_line.specs.declared.form.Slot.{Slot}
-use Rattle.command_line.specs.declared.form.Slot.TheVariants.{Plain, Args, Answers, Steps, Stack, Heap, Moves, Fuel, Jobs, Alloc, Seed, Functions}
+use Rattle.command_line.specs.declared.form.Slot.TheVariants.{Plain, Args, Answers, Steps, Stack, Heap, Moves, Fuel, Jobs, Alloc, Schedule, Seed, Functions}
 use Rattle.command_line.specs.Words.{command_text, slots_of_command, fills_slot, IsForm}
 use Rattle.command_line.proofs.Gives.{wanted_given}
 use Rattle.command_line.specs.Program.{id_of, default_texts, word_gives, word_lacks, HasText, AreTaken}
@@ -105,6 +105,7 @@ rule_is Moves = (refl, refl)
 rule_is Fuel = (refl, refl)
 rule_is Jobs = (refl, refl)
 rule_is Alloc = (refl, refl)
+rule_is Schedule = (refl, refl)
 rule_is Seed = (refl, refl)
 rule_is Functions = (refl, refl)
 
@@ -147,6 +148,7 @@ default_form Moves = inr (_, refl)
 default_form Fuel = inr (_, refl)
 default_form Jobs = inr (_, refl)
 default_form Alloc = inr (_, refl)
+default_form Schedule = inr (_, refl)
 default_form Seed = inl refl
 default_form Functions = inl refl
 
@@ -181,7 +183,7 @@ full : (x : Text) (xs : List Text) → x ∷ xs ≡ [] → ⊥
 full x xs e = cc
 
 wanted_each : (command : CommandWord) (others : List Text) → IsForm command others → ForEach (Wanted others) (slots_of_command command)
-wanted_each word.Compile others form = (λ e. absurd (full _ [] e), (λ e. absurd (full _ [] e), tt))
+wanted_each word.Compile others form = (λ e. absurd (full _ [] e), (λ e. absurd (full _ [] e), (λ e. absurd (full _ [] e), tt)))
 wanted_each word.Run others form = (
   λ _. form.there 0 Plain (lit< tt),
   (
@@ -199,10 +201,10 @@ wanted_each word.Check others form = (
   λ _. form.there 0 Plain (lit< tt),
   (
     λ e. absurd (full _ [] e),
-    (λ e. absurd (full _ [] e), (λ e. absurd (full _ [] e), (λ e. absurd (full _ [] e), tt))),
+    (λ e. absurd (full _ [] e), (λ e. absurd (full _ [] e), (λ e. absurd (full _ [] e), (λ e. absurd (full _ [] e), tt)))),
   ),
 )
-wanted_each word.List others form = (λ _. form.there 0 Plain (lit< tt), (λ e. absurd (full _ [] e), tt))
+wanted_each word.List others form = (λ _. form.there 0 Plain (lit< tt), (λ e. absurd (full _ [] e), (λ e. absurd (full _ [] e), tt)))
 wanted_each word.Soak others form = (λ _. form.there 0 Seed (lit< tt), (λ _. form.there 1 Functions (lit< tt), tt))
 
 stands_by : (command : CommandWord) (others : List Text) (slot : Slot) → Contains (slots_of_command command) slot → Wanted others slot → (o : Option Text)

@@ -12,13 +12,14 @@ use Rattle.choices.specs.declared.choices.Alloc.{Alloc}
 use Rattle.choices.specs.declared.choices.Alloc.TheVariants.{Colour, Linear}
 use Rattle.choices.specs.declared.choices.Choices.{Choices}
 use Rattle.choices.specs.declared.choices.Order.{Order}
+use Rattle.choices.specs.declared.choices.Order.TheVariants as order
 use Rattle.stages.specs.declared.stage.Stage.{Stage}
 use Rattle.stages.specs.declared.stage.Stage.TheVariants as stage
 use Rattle.command_line.specs.declared.command.Moves.{Moves}
 use Rattle.command_line.specs.declared.command.Moves.TheVariants.{Seed}
 use Rattle.command_line.specs.Command.{CommandTree, CompileCommand, RunCommand, CheckCommand, ListCommand, RunTree, CheckTree, IsRun, IsCheck, Means, IsCommand, compile, run, check, list, soak, default_jobs, default_steps, default_size, default_moves, Sets, SetsChoices, given, left_out, TellsSlot, MayWantMemory, WithinLimits, WithinFuel, KeepsLimits}
 use Rattle.rv_machine.specs.Places.{most_room}
-use Rattle.command_line.specs.Values.{Nothing, IsSteps, IsSize, IsMoves, never, every, seeded, SeedsMoves, seed, IsItems, IsCounted, IsSeed, IsStage, stage_word, IsAlloc, alloc_word, decimal_number, most_steps, most_jobs, most_functions}
+use Rattle.command_line.specs.Values.{Nothing, IsSteps, IsSize, IsMoves, never, every, seeded, SeedsMoves, seed, IsItems, IsCounted, IsSeed, IsStage, stage_word, IsAlloc, alloc_word, IsOrder, order_word, decimal_number, most_steps, most_jobs, most_functions}
 use Rattle.command_line.specs.View.{view}
 use Rattle.command_line.specs.Words.{command_text, slots_of_command, fills_slot, IsForm, AreCommandWords}
 use Rattle.command_line.specs.declared.command.Command.{Command}
@@ -75,18 +76,30 @@ pub alloc-unique : (text : List ℕ) (a b : Alloc) → IsAlloc text a → IsAllo
 alloc-unique text a b e f =
     sym (told_alloc a) ∙ (ap (λ t. alloc_by (get_or t 0 0)) (sym e ∙ f) ∙ told_alloc b)
 
+-- and so does that of the word for an order
+abbrev order_by : ℕ → Order
+order_by n = if n == 110 then order.Plain else order.List
+
+told_order : (o : Order) → order_by (get_or (order_word o) 0 0) ≡ o
+told_order order.Plain = refl
+told_order order.List = refl
+
+pub order-unique : (text : List ℕ) (a b : Order) → IsOrder text a → IsOrder text b → a ≡ b
+order-unique text a b e f =
+    sym (told_order a) ∙ (ap (λ t. order_by (get_or t 0 0)) (sym e ∙ f) ∙ told_order b)
+
 same_choices : (alloc alloc' : Alloc) (order order' : Order) → alloc ≡ alloc' → order ≡ order'
     → let c : Choices = record { alloc = alloc; order = order } in
     let d : Choices = record { alloc = alloc'; order = order' } in
     c ≡ d
 same_choices alloc alloc' order order' a b = cc
 
-choices-unique : (others : List (List ℕ)) → count_by (fills_slot slot.Alloc) others ≤ 1 → (c d : Choices)
+choices-unique : (others : List (List ℕ)) → count_by (fills_slot slot.Alloc) others ≤ 1 → count_by (fills_slot slot.Schedule) others ≤ 1 → (c d : Choices)
     → SetsChoices others c → SetsChoices others d → c ≡ d
-choices-unique others few c d a b =
+choices-unique others few once c d a b =
     same_choices c.alloc d.alloc c.order d.order
     (sets-unique others slot.Alloc IsAlloc (defaults).alloc few alloc-unique c.alloc d.alloc a.alloc b.alloc)
-    (a.order ∙ sym b.order)
+    (sets-unique others slot.Schedule IsOrder (defaults).order once order-unique c.order d.order a.order b.order)
 
 -- after `seed:` there is one seed
 seeds-unique : (text : List ℕ) (a b : Moves) → SeedsMoves text a → SeedsMoves text b → a ≡ b
@@ -148,7 +161,7 @@ check-unique others form c d a b =
     (sets-unique others Args IsItems [] (form.once 1 Args (lit< tt)) list-unique c.args d.args a.args b.args)
     (sets-unique others Answers IsItems [] (form.once 2 Answers (lit< tt)) list-unique c.answers d.answers a.answers b.answers)
     (sets-unique others Fuel IsSteps default_steps (form.once 3 Fuel (lit< tt)) steps-unique c.fuel d.fuel a.fuel b.fuel)
-    (choices-unique others (form.once 4 slot.Alloc (lit< tt)) c.choices d.choices a.choices b.choices)
+    (choices-unique others (form.once 4 slot.Alloc (lit< tt)) (form.once 5 slot.Schedule (lit< tt)) c.choices d.choices a.choices b.choices)
 
 pub parts : (x y : List ℕ) (xs ys : List (List ℕ)) → x ∷ xs ≡ y ∷ ys → (x ≡ y) × (xs ≡ ys)
 parts x y xs ys e = (cc, cc)
@@ -172,12 +185,12 @@ word-unique c d e = sym (told_command c) ∙ (ap (λ t. command_by (get_or t 2 0
 means-unique : (others : List (List ℕ)) (command : CommandWord) (c d : CommandTree) → IsForm command others
     → Means others command c → Means others command d → c ≡ d
 means-unique others _ _ _ form (compile c j a s) (compile d k b t) =
-    ap₂ CompileCommand (choices-unique others (form.once 1 slot.Alloc (lit< tt)) c d a b)
+    ap₂ CompileCommand (choices-unique others (form.once 1 slot.Alloc (lit< tt)) (form.once 2 slot.Schedule (lit< tt)) c d a b)
     (sets-unique others Jobs (IsCounted most_jobs) default_jobs (form.once 0 Jobs (lit< tt)) (counted-unique most_jobs) j k s t)
 means-unique others _ _ _ form (run r a) (run s b) = ap RunCommand (run-unique others form r s a b)
 means-unique others _ _ _ form (check c a) (check d b) = ap CheckCommand (check-unique others form c d a b)
 means-unique others _ _ _ form (list c a k s) (list d b l t) =
-    ap₂ ListCommand (choices-unique others (form.once 1 slot.Alloc (lit< tt)) c d k l)
+    ap₂ ListCommand (choices-unique others (form.once 1 slot.Alloc (lit< tt)) (form.once 2 slot.Schedule (lit< tt)) c d k l)
     (tells-unique others Plain IsStage (form.once 0 Plain (lit< tt)) stage-unique a b s t)
 means-unique others _ _ _ form (soak m k s u) (soak n l t v) =
     let seeds : m ≡ n = tells-unique others slot.Seed IsSeed (form.once 0 slot.Seed (lit< tt)) seed-unique m n s t in
@@ -251,6 +264,9 @@ stands_at H command w e stands =
 -- what the words after a command's may mean, one by one
 pub no_choices : (others : List (List ℕ)) → Nothing (Sets others slot.Alloc IsAlloc (defaults).alloc) → Nothing (SetsChoices others)
 no_choices others none choices s = none choices.alloc s.alloc
+
+pub no_order : (others : List (List ℕ)) → Nothing (Sets others slot.Schedule IsOrder (defaults).order) → Nothing (SetsChoices others)
+no_order others none choices s = none choices.order s.order
 
 pub no_compile : (others : List (List ℕ)) → Nothing (Sets others Jobs (IsCounted most_jobs) default_jobs) → Nothing (Means others word.Compile)
 no_compile others none _ (compile choices jobs a s) = none jobs s

@@ -19,7 +19,7 @@ use Rattle.clap.specs.declared.parser.matches.ValueSource.TheVariants.{CommandLi
 use Rattle.command_line.specs.declared.form.CommandWord.{CommandWord}
 use Rattle.command_line.specs.declared.form.CommandWord.TheVariants as word
 use Rattle.command_line.specs.declared.form.Slot.{Slot}
-use Rattle.command_line.specs.declared.form.Slot.TheVariants.{Plain, Args, Answers, Steps, Stack, Heap, Moves, Fuel, Jobs, Alloc, Seed, Functions}
+use Rattle.command_line.specs.declared.form.Slot.TheVariants.{Plain, Args, Answers, Steps, Stack, Heap, Moves, Fuel, Jobs, Alloc, Schedule, Seed, Functions}
 use Rattle.command_line.specs.Words.{command_text, slots_of_command, prefix_of, fills_slot, GivesSlot}
 use Rattle.command_line.proofs.Gives.{starts_cut}
 use Rattle.command_line.specs.Program.{id_of, default_texts, option_rule, slot_rule, program}
@@ -29,7 +29,7 @@ use Rattle.command_line.specs.Program.{id_of, default_texts, option_rule, slot_r
 abbrev slot_by : ℕ → Slot
 slot_by n = if n == 28530 then Plain else (if n == 29287 then Args else (if n == 28275 then Answers else (if n == 29797 then Steps
     else (if n == 29793 then Stack else (if n == 25953 then Heap else (if n == 28534 then Moves else (if n == 30053 then Fuel
-    else (if n == 28514 then Jobs else (if n == 27756 then Alloc else (if n == 25957 then Seed else Functions))))))))))
+    else (if n == 28514 then Jobs else (if n == 27756 then Alloc else (if n == 25448 then Schedule else (if n == 25957 then Seed else Functions)))))))))))
 
 -- its second byte and its third are enough
 abbrev mark : List ℕ → ℕ
@@ -46,6 +46,7 @@ told_slot Moves = refl
 told_slot Fuel = refl
 told_slot Jobs = refl
 told_slot Alloc = refl
+told_slot Schedule = refl
 told_slot Seed = refl
 told_slot Functions = refl
 
@@ -100,7 +101,7 @@ ForEach P [] = Unit {0}
 ForEach P (slot ∷ slots) = P slot × ForEach P slots
 
 pub known_each : (command : CommandWord) → ForEach (Known (rules_at command)) (slots_of_command command)
-known_each word.Compile = (option Jobs (λ v. refl) (λ v. refl) refl, (option Alloc (λ v. refl) (λ v. refl) refl, tt))
+known_each word.Compile = (option Jobs (λ v. refl) (λ v. refl) refl, (option Alloc (λ v. refl) (λ v. refl) refl, (option Schedule (λ v. refl) (λ v. refl) refl, tt)))
 known_each word.Run = (
   plain refl refl,
   (
@@ -128,12 +129,12 @@ known_each word.Check = (
       option Answers (λ v. refl) (λ v. refl) refl,
       (
         option Fuel (λ v. refl) (λ v. refl) refl,
-        (option Alloc (λ v. refl) (λ v. refl) refl, tt),
+        (option Alloc (λ v. refl) (λ v. refl) refl, (option Schedule (λ v. refl) (λ v. refl) refl, tt)),
       ),
     ),
   ),
 )
-known_each word.List = (plain refl refl, (option Alloc (λ v. refl) (λ v. refl) refl, tt))
+known_each word.List = (plain refl refl, (option Alloc (λ v. refl) (λ v. refl) refl, (option Schedule (λ v. refl) (λ v. refl) refl, tt)))
 known_each word.Soak = (option Seed (λ v. refl) (λ v. refl) refl, (option Functions (λ v. refl) (λ v. refl) refl, tt))
 
 -- ---- what is built and entered
@@ -542,6 +543,7 @@ cut_value Moves text e = starts_cut (prefix_of Moves) text e
 cut_value Fuel text e = starts_cut (prefix_of Fuel) text e
 cut_value Jobs text e = starts_cut (prefix_of Jobs) text e
 cut_value Alloc text e = starts_cut (prefix_of Alloc) text e
+cut_value Schedule text e = starts_cut (prefix_of Schedule) text e
 cut_value Seed text e = starts_cut (prefix_of Seed) text e
 cut_value Functions text e = starts_cut (prefix_of Functions) text e
 

@@ -13,7 +13,7 @@ use Rattle.command_line.specs.declared.command.Moves.{Moves}
 use Rattle.command_line.specs.declared.command.Moves.TheVariants.{Never}
 use Rattle.rv_machine.specs.Places.{most_room}
 use Rattle.bs_words.specs.Symbol.{IsSymbol}
-use Rattle.command_line.specs.Values.{IsSteps, IsSize, IsMoves, IsItems, IsCounted, IsSeed, IsStage, IsAlloc, most_steps, most_jobs, most_functions}
+use Rattle.command_line.specs.Values.{IsSteps, IsSize, IsMoves, IsItems, IsCounted, IsSeed, IsStage, IsAlloc, IsOrder, most_steps, most_jobs, most_functions}
 use Rattle.command_line.specs.Words.{command_text, IsForm, GivesSlot}
 
 -- What a run is to do.
@@ -71,10 +71,10 @@ pub data Sets {X : Type 0} (others : List (List ℕ)) (slot : Slot) (Reads : Lis
       → x ≡ default
       → Sets others slot Reads default x
 
--- The words set what is chosen; of the order of lines they say nothing.
+-- The words set what is chosen.
 pub record SetsChoices (others : List (List ℕ)) (choices : Choices) : Type 0 where
   pub alloc : Sets others slot.Alloc IsAlloc (defaults).alloc choices.alloc
-  pub order : choices.order ≡ (defaults).order
+  pub order : Sets others slot.Schedule IsOrder (defaults).order choices.order
 
 -- The words after `run` are this run.
 pub record IsRun (others : List (List ℕ)) (run : RunTree) : Type 0 where

@@ -6,7 +6,7 @@ use Rattle.clap.specs.Takes.{takes}
 use Rattle.command_line.specs.declared.form.CommandWord.{CommandWord}
 use Rattle.command_line.specs.declared.form.CommandWord.TheVariants as word
 use Rattle.command_line.specs.declared.form.Slot.{Slot}
-use Rattle.command_line.specs.declared.form.Slot.TheVariants.{Plain, Args, Answers, Steps, Stack, Heap, Moves, Fuel, Jobs, Alloc, Seed, Functions}
+use Rattle.command_line.specs.declared.form.Slot.TheVariants.{Plain, Args, Answers, Steps, Stack, Heap, Moves, Fuel, Jobs, Alloc, Schedule, Seed, Functions}
 use Rattle.command_line.specs.Words.{command_text, slots_of_command, GivesSlot}
 
 -- ---- what the parser is given
@@ -23,6 +23,7 @@ id_of Moves = codes "moves"
 id_of Fuel = codes "fuel"
 id_of Jobs = codes "jobs"
 id_of Alloc = codes "alloc"
+id_of Schedule = codes "schedule"
 id_of Seed = codes "seed"
 id_of Functions = codes "functions"
 
@@ -37,6 +38,7 @@ default_texts Moves = codes "none" ∷ []
 default_texts Fuel = codes "100000000" ∷ []
 default_texts Jobs = codes "1" ∷ []
 default_texts Alloc = codes "colour" ∷ []
+default_texts Schedule = codes "none" ∷ []
 default_texts _ = []
 
 abbrev pub option_rule : Text → List Text → Rule

@@ -8,6 +8,8 @@ use Rattle.stages.specs.declared.stage.Stage.{Stage}
 use Rattle.stages.specs.declared.stage.Stage.TheVariants as stage
 use Rattle.choices.specs.declared.choices.Alloc.{Alloc}
 use Rattle.choices.specs.declared.choices.Alloc.TheVariants.{Colour, Linear}
+use Rattle.choices.specs.declared.choices.Order.{Order}
+use Rattle.choices.specs.declared.choices.Order.TheVariants as order
 use Rattle.rv_machine.specs.Places.{most_room}
 use Rattle.rv_machine.specs.declared.setup.Arg.{Arg}
 use Rattle.rv_machine.specs.declared.setup.Arg.TheVariants.{Word, Symbol}
@@ -88,6 +90,14 @@ alloc_word Linear = codes "linscan"
 
 abbrev pub IsAlloc : List ℕ → Alloc → Type 0
 IsAlloc text a = text ≡ alloc_word a
+
+-- the word for each order of lines
+abbrev pub order_word : Order → List ℕ
+order_word order.Plain = codes "none"
+order_word order.List = codes "list"
+
+abbrev pub IsOrder : List ℕ → Order → Type 0
+IsOrder text o = text ≡ order_word o
 
 -- ---- moves
 

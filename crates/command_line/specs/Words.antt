@@ -5,7 +5,7 @@ use Rattle.std.specs.List.{list_any, starts_with}
 use Rattle.command_line.specs.declared.form.CommandWord.{CommandWord}
 use Rattle.command_line.specs.declared.form.CommandWord.TheVariants as word
 use Rattle.command_line.specs.declared.form.Slot.{Slot}
-use Rattle.command_line.specs.declared.form.Slot.TheVariants.{Plain, Args, Answers, Steps, Stack, Heap, Moves, Fuel, Jobs, Alloc, Seed, Functions}
+use Rattle.command_line.specs.declared.form.Slot.TheVariants.{Plain, Args, Answers, Steps, Stack, Heap, Moves, Fuel, Jobs, Alloc, Schedule, Seed, Functions}
 
 -- ---- the table of commands
 
@@ -19,10 +19,10 @@ command_text word.Soak = codes "soak"
 
 -- what the other words may be for
 abbrev pub slots_of_command : CommandWord → List Slot
-slots_of_command word.Compile = Jobs ∷ Alloc ∷ []
+slots_of_command word.Compile = Jobs ∷ Alloc ∷ Schedule ∷ []
 slots_of_command word.Run = Plain ∷ Args ∷ Answers ∷ Steps ∷ Stack ∷ Heap ∷ Moves ∷ []
-slots_of_command word.Check = Plain ∷ Args ∷ Answers ∷ Fuel ∷ Alloc ∷ []
-slots_of_command word.List = Plain ∷ Alloc ∷ []
+slots_of_command word.Check = Plain ∷ Args ∷ Answers ∷ Fuel ∷ Alloc ∷ Schedule ∷ []
+slots_of_command word.List = Plain ∷ Alloc ∷ Schedule ∷ []
 slots_of_command word.Soak = Seed ∷ Functions ∷ []
 
 -- what a word has to be there for
@@ -45,6 +45,7 @@ prefix_of Moves = codes "--moves="
 prefix_of Fuel = codes "--fuel="
 prefix_of Jobs = codes "--jobs="
 prefix_of Alloc = codes "--alloc="
+prefix_of Schedule = codes "--schedule="
 prefix_of Seed = codes "--seed="
 prefix_of Functions = codes "--functions="
 

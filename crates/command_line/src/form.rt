@@ -30,13 +30,14 @@ pub(crate) enum Slot {
     Fuel,
     Jobs,
     Alloc,
+    Schedule,
     Seed,
     Functions,
 }
 
 static NO_SLOTS: [Slot; 0] = [];
 
-static COMPILE_SLOTS: [Slot; 2] = [Slot::Jobs, Slot::Alloc];
+static COMPILE_SLOTS: [Slot; 3] = [Slot::Jobs, Slot::Alloc, Slot::Schedule];
 
 static RUN_SLOTS: [Slot; 7] = [
     Slot::Plain,
@@ -48,15 +49,16 @@ static RUN_SLOTS: [Slot; 7] = [
     Slot::Moves,
 ];
 
-static CHECK_SLOTS: [Slot; 5] = [
+static CHECK_SLOTS: [Slot; 6] = [
     Slot::Plain,
     Slot::Args,
     Slot::Answers,
     Slot::Fuel,
     Slot::Alloc,
+    Slot::Schedule,
 ];
 
-static LIST_SLOTS: [Slot; 2] = [Slot::Plain, Slot::Alloc];
+static LIST_SLOTS: [Slot; 3] = [Slot::Plain, Slot::Alloc, Slot::Schedule];
 
 static PLAIN_SLOT: [Slot; 1] = [Slot::Plain];
 
@@ -145,6 +147,7 @@ impl Slot {
             Slot::Fuel => word.strip_prefix(b"--fuel=".as_slice()),
             Slot::Jobs => word.strip_prefix(b"--jobs=".as_slice()),
             Slot::Alloc => word.strip_prefix(b"--alloc=".as_slice()),
+            Slot::Schedule => word.strip_prefix(b"--schedule=".as_slice()),
             Slot::Seed => word.strip_prefix(b"--seed=".as_slice()),
             Slot::Functions => word.strip_prefix(b"--functions=".as_slice()),
         }
@@ -181,6 +184,7 @@ impl Slot {
             Slot::Fuel => "fuel",
             Slot::Jobs => "jobs",
             Slot::Alloc => "alloc",
+            Slot::Schedule => "schedule",
             Slot::Seed => "seed",
             Slot::Functions => "functions",
         }

@@ -15,7 +15,7 @@ mod parser;
 mod read;
 mod values;
 
-pub use choices::{Alloc, Choices};
+pub use choices::{Alloc, Choices, Order};
 pub use command::{CheckWords, Command, Moves, RunWords, WordsError};
 pub use read::read_words;
 pub use rv_machine::Arg;

@@ -56,6 +56,7 @@ fn argument<'a>(alloc: Global, slot: Slot) -> Arg<'a>
         Slot::Fuel => option_or(alloc, "fuel", "100000000"),
         Slot::Jobs => option_or(alloc, "jobs", "1"),
         Slot::Alloc => option_or(alloc, "alloc", "colour"),
+        Slot::Schedule => option_or(alloc, "schedule", "none"),
         Slot::Seed => option(alloc, "seed"),
         Slot::Functions => option(alloc, "functions"),
     }

@@ -9,7 +9,7 @@ ghost use Rattle.command_line.specs.declared.command.WordsError.{WordsError};
 ghost use Rattle.command_line.specs.declared.form.CommandWord.{CommandWord};
 ghost use Rattle.command_line.specs.declared.form.Slot.{Slot};
 ghost use Rattle.bs_words.specs.Symbol.{IsSymbol};
-ghost use Rattle.command_line.specs.Values.{IsSteps, IsSize, IsMoves, IsItems, IsCounted, IsSeed, IsStage, IsAlloc, Nothing, most_jobs, most_functions};
+ghost use Rattle.command_line.specs.Values.{IsSteps, IsSize, IsMoves, IsItems, IsCounted, IsSeed, IsStage, IsAlloc, IsOrder, Nothing, most_jobs, most_functions};
 ghost use Rattle.command_line.specs.Words.{fills_slot, command_text, slots_of_command, AreCommandWords, IsForm, GivesSlot};
 ghost use Rattle.command_line.specs.Program.{HasText, IsSlotText, Defaults, id_of, program};
 ghost use Rattle.command_line.specs.Command.{CommandTree, Sets, SetsChoices, SetsCheckNumbers, SetsRunNumbers, MayWantMemory, TellsSlot, IsRun, IsCheck, Means, IsCommand, KeepsLimits};
@@ -22,7 +22,7 @@ use crate::form::{CommandWord, Slot, has_form};
 use crate::parser::matches_of;
 use crate::values;
 use bs_words::{List, Name};
-use choices::{Alloc, Choices, DEFAULTS};
+use choices::{Alloc, Choices, Order};
 use clap::ArgMatches;
 use rv_machine::Arg;
 use stages::Stage;
@@ -164,15 +164,18 @@ fn check(alloc: Global, others: &[String], given: &ArgMatches<'_>) -> Result<Che
 
 /// What is chosen of how the text is compiled.
 fn choices(others: &[String], given: &ArgMatches<'_>) -> Result<Choices, BadValue>
-    requires once { count_by (fills_slot Slot.Alloc) (texts others.now) ≤ 1 }
-    requires stands { HasText (texts others.now) Slot.Alloc
+    requires alloc_once { count_by (fills_slot Slot.Alloc) (texts others.now) ≤ 1 }
+    requires alloc_stands { HasText (texts others.now) Slot.Alloc
         (first_value (found_of given.now) (id_of Slot.Alloc)) }
+    requires order_once { count_by (fills_slot Slot.Schedule) (texts others.now) ≤ 1 }
+    requires order_stands { HasText (texts others.now) Slot.Schedule
+        (first_value (found_of given.now) (id_of Slot.Schedule)) }
     ensures value { IfOk result (λ choices. SetsChoices (texts others.now) choices) }
     ensures bad { OnErr result (Nothing (SetsChoices (texts others.now))) }
 {
     Ok(Choices {
         alloc: allocation(others, given)?,
-        order: DEFAULTS.order,
+        order: order(others, given)?,
     })
 }
 
@@ -187,6 +190,19 @@ fn allocation(others: &[String], given: &ArgMatches<'_>) -> Result<Alloc, BadVal
 {
     let text = text_for(others, given, Slot::Alloc);
     values::alloc(text.as_bytes()).ok_or(BadValue)
+}
+
+/// In which order lines stand.
+fn order(others: &[String], given: &ArgMatches<'_>) -> Result<Order, BadValue>
+    requires once { count_by (fills_slot Slot.Schedule) (texts others.now) ≤ 1 }
+    requires stands { HasText (texts others.now) Slot.Schedule
+        (first_value (found_of given.now) (id_of Slot.Schedule)) }
+    ensures value { IfOk result (λ order.
+        Sets (texts others.now) Slot.Schedule IsOrder defaults.order order) }
+    ensures bad { OnErr result (Nothing (Sets (texts others.now) Slot.Schedule IsOrder defaults.order)) }
+{
+    let text = text_for(others, given, Slot::Schedule);
+    values::order(text.as_bytes()).ok_or(BadValue)
 }
 
 /// The most functions that are compiled at a time.
@@ -310,7 +326,8 @@ fn taken(
 
 /// The command that the words are, the program's own name left out.
 ///
-/// - `compile`, `check` and `list` have the option `--alloc=`, which is `colour`, the default, or `linscan`.
+/// - `compile`, `check` and `list` have the option `--alloc=`, which is `colour`, the default, or `linscan`, and the
+///   option `--schedule=`, which is `none`, the default, or `list`.
 /// - `compile` has the option `--jobs=`, a decimal number from 1 to 64, and 1 by default.
 /// - `run ENTRY` has the name of a function and these options. ENTRY is 1 to 255 bytes, each 0x21 to
 ///   0x7E.

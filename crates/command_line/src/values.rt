@@ -3,11 +3,11 @@ ghost use Rattle.std.specs.Prelude.{◌≡◌, ◌≢◌, ◌<◌, ◌≤◌, �
 ghost use Rattle.bs_words.specs.Contents.{contents};
 ghost use Rattle.command_line.specs.declared.command.WordsError.{WordsError};
 ghost use Rattle.bs_words.specs.Symbol.{IsSymbol};
-ghost use Rattle.command_line.specs.Values.{IsNumber, IsSteps, IsSize, IsMoves, SeedsMoves, IsItem, IsCounted, IsSeed, IsStage, IsAlloc, IsItems, Nothing};
+ghost use Rattle.command_line.specs.Values.{IsNumber, IsSteps, IsSize, IsMoves, SeedsMoves, IsItem, IsCounted, IsSeed, IsStage, IsAlloc, IsOrder, IsItems, Nothing};
 
 use crate::command::{Moves, WordsError};
 use bs_words::{List, Name, is_symbol, sub};
-use choices::Alloc;
+use choices::{Alloc, Order};
 use rv_machine::{Arg, MOST_ROOM};
 use stages::Stage;
 use std::alloc::Global;
@@ -159,6 +159,21 @@ pub(crate) fn alloc(text: &[u8]) -> Option<Alloc>
         Some(Alloc::Colour)
     } else if text == b"linscan".as_slice() {
         Some(Alloc::Linear)
+    } else {
+        None
+    }
+}
+
+/// In which order lines stand, as the text says: `none` or `list`.
+pub(crate) fn order(text: &[u8]) -> Option<Order>
+    ensures { MatchOption result
+        (Nothing (IsOrder text.now))
+        (λ order. IsOrder text.now order) }
+{
+    if text == b"none".as_slice() {
+        Some(Order::Plain)
+    } else if text == b"list".as_slice() {
+        Some(Order::List)
     } else {
         None
     }

@@ -2,7 +2,7 @@ use Rattle.std.proofs.Common.{Err, IsErrOf, ℕ, rules, lit<, refl}
 use Rattle.bs_words.specs.declared.list.List.{List}
 use Rattle.rv_machine.specs.declared.setup.Arg.{Arg}
 use Rattle.command_line.specs.declared.command.WordsError.TheVariants.{ValueText}
-use Rattle.command_line.specs.declared.form.Slot.TheVariants.{Plain, Args, Answers, Fuel, Alloc}
+use Rattle.command_line.specs.declared.form.Slot.TheVariants.{Plain, Args, Answers, Fuel, Alloc, Schedule}
 use Rattle.command_line.proofs.Defaults.{args_left_out, answers_left_out, fuel_left_out}
 use Rattle.command_line.proofs.read.check.Goals as goal
 
@@ -21,7 +21,12 @@ pub returns-in_err-choices-clause-bad : goal.returns-in_err-choices-clause-bad
 returns-in_err-choices-clause-bad c = λ e check is. c.in_err-choices.ensures.bad check.choices is.choices
 
 pub choices-requires : goal.choices-requires
-choices-requires c = record { once = c.requires.form.once 4 Alloc (lit< tt); stands = c.requires.stands Alloc (4, lit< tt, refl) }
+choices-requires c = record {
+  alloc_once = c.requires.form.once 4 Alloc (lit< tt);
+  alloc_stands = c.requires.stands Alloc (4, lit< tt, refl);
+  order_once = c.requires.form.once 5 Schedule (lit< tt);
+  order_stands = c.requires.stands Schedule (5, lit< tt, refl);
+}
 
 pub entry-requires : goal.entry-requires
 entry-requires c = record { once = c.requires.form.once 0 Plain (lit< tt); stands = c.requires.stands Plain (0, lit< tt, refl) }

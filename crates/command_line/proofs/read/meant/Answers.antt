@@ -4,7 +4,7 @@ use Rattle.command_line.specs.declared.command.CheckWords.{CheckWords}
 use Rattle.stages.specs.declared.stage.Stage.{Stage}
 use Rattle.command_line.specs.declared.command.WordsError.TheVariants.{OutOfMemory, ValueText}
 use Rattle.command_line.specs.declared.form.CommandWord.TheVariants as word
-use Rattle.command_line.specs.declared.form.Slot.TheVariants.{Plain, Jobs, Alloc}
+use Rattle.command_line.specs.declared.form.Slot.TheVariants.{Plain, Jobs, Alloc, Schedule}
 use Rattle.command_line.specs.View.{texts, run_view, check_view}
 use Rattle.command_line.specs.Command.{compile, run, check, list}
 use Rattle.command_line.proofs.Unique.{means_at, memory_at, nothing_at, form_at, stands_at, no_compile, no_compile_choices, no_run, no_check, no_list, no_list_choices}
@@ -25,14 +25,18 @@ jobs-requires c = record {
 
 pub choices-requires : goal.choices-requires
 choices-requires c = record {
-  once = (form_at (texts c.args.others.now) c.args.command word.Compile c.in-Compile.is c.requires.form).once 1 Alloc (lit< tt);
-  stands = stands_at (Has (texts c.args.others.now) (found_of c.args.given.now)) c.args.command word.Compile c.in-Compile.is c.requires.stands Alloc (1, lit< tt, refl);
+  alloc_once = (form_at (texts c.args.others.now) c.args.command word.Compile c.in-Compile.is c.requires.form).once 1 Alloc (lit< tt);
+  alloc_stands = stands_at (Has (texts c.args.others.now) (found_of c.args.given.now)) c.args.command word.Compile c.in-Compile.is c.requires.stands Alloc (1, lit< tt, refl);
+  order_once = (form_at (texts c.args.others.now) c.args.command word.Compile c.in-Compile.is c.requires.form).once 2 Schedule (lit< tt);
+  order_stands = stands_at (Has (texts c.args.others.now) (found_of c.args.given.now)) c.args.command word.Compile c.in-Compile.is c.requires.stands Schedule (2, lit< tt, refl);
 }
 
 pub choices-requires-in-List : goal.choices-requires-in-List
 choices-requires-in-List c = record {
-  once = (form_at (texts c.args.others.now) c.args.command word.List c.in-List.is c.requires.form).once 1 Alloc (lit< tt);
-  stands = stands_at (Has (texts c.args.others.now) (found_of c.args.given.now)) c.args.command word.List c.in-List.is c.requires.stands Alloc (1, lit< tt, refl);
+  alloc_once = (form_at (texts c.args.others.now) c.args.command word.List c.in-List.is c.requires.form).once 1 Alloc (lit< tt);
+  alloc_stands = stands_at (Has (texts c.args.others.now) (found_of c.args.given.now)) c.args.command word.List c.in-List.is c.requires.stands Alloc (1, lit< tt, refl);
+  order_once = (form_at (texts c.args.others.now) c.args.command word.List c.in-List.is c.requires.form).once 2 Schedule (lit< tt);
+  order_stands = stands_at (Has (texts c.args.others.now) (found_of c.args.given.now)) c.args.command word.List c.in-List.is c.requires.stands Schedule (2, lit< tt, refl);
 }
 
 pub stage-requires : goal.stage-requires

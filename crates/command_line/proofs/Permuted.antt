@@ -5,11 +5,11 @@ use Rattle.std.specs.List.Sorted.{IsPermutation}
 use Rattle.std.proofs.lemmas.List.Sorted.{IsPermutation-sym, All-permutation, Contains-permutation, sum_by-IsPermutation}
 use Rattle.command_line.specs.declared.form.CommandWord.{CommandWord}
 use Rattle.command_line.specs.declared.form.Slot.{Slot}
-use Rattle.command_line.specs.declared.form.Slot.TheVariants.{Plain, Args, Answers, Steps, Stack, Heap, Moves, Fuel, Jobs, Alloc, Seed, Functions}
+use Rattle.command_line.specs.declared.form.Slot.TheVariants.{Plain, Args, Answers, Steps, Stack, Heap, Moves, Fuel, Jobs, Alloc, Schedule, Seed, Functions}
 use Rattle.choices.specs.Defaults.{defaults}
 use Rattle.choices.specs.declared.choices.Choices.{Choices}
 use Rattle.command_line.specs.Command.{CommandTree, RunTree, CheckTree, Sets, SetsChoices, given, left_out, TellsSlot, IsRun, IsCheck, Means, IsCommand, compile, run, check, list, soak, default_jobs, default_steps, default_size, default_moves}
-use Rattle.command_line.specs.Values.{IsSteps, IsSize, IsMoves, IsItems, IsCounted, IsSeed, IsStage, IsAlloc, most_jobs, most_functions}
+use Rattle.command_line.specs.Values.{IsSteps, IsSize, IsMoves, IsItems, IsCounted, IsSeed, IsStage, IsAlloc, IsOrder, most_jobs, most_functions}
 use Rattle.command_line.specs.Words.{command_text, slots_of_command, wanted_of, fills_slot, IsForm, GivesSlot}
 use Rattle.command_line.proofs.Unique.{parts}
 
@@ -30,7 +30,7 @@ sets-order xs ys slot Reads default x p (left_out none e) =
     left_out (λ value g. none value (gives-order ys xs slot value (IsPermutation-sym xs ys p) g)) e
 
 choices-order : (xs ys : List (List ℕ)) (choices : Choices) → IsPermutation xs ys → SetsChoices xs choices → SetsChoices ys choices
-choices-order xs ys choices p is = record { alloc = sets-order xs ys Alloc IsAlloc (defaults).alloc choices.alloc p is.alloc; order = is.order }
+choices-order xs ys choices p is = record { alloc = sets-order xs ys Alloc IsAlloc (defaults).alloc choices.alloc p is.alloc; order = sets-order xs ys Schedule IsOrder (defaults).order choices.order p is.order }
 
 run-order : (xs ys : List (List ℕ)) (r : RunTree) → IsPermutation xs ys → IsRun xs r → IsRun ys r
 run-order xs ys r p is = record {
