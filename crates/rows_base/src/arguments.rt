@@ -5,7 +5,7 @@
 use anyhow::Result;
 use bs_words::{List, Name};
 use command_line::{
-    Alloc, Arg, CheckWords, Choices, Command, Moves, RunWords, Stage, WordsError, read_words,
+    Alloc, Arg, CheckWords, Choices, Command, Moves, Order, RunWords, Stage, WordsError, read_words,
 };
 use std::alloc::{AllocError, Global};
 
@@ -58,8 +58,8 @@ fn of_command(alloc: Global, command: &Command) -> Result<String, AllocError> {
 
 /// A compile with its values.
 fn of_compile(alloc: Global, choices: Choices, jobs: u32) -> Result<String, AllocError> {
-    let places = word_of(choices.alloc);
-    format!(in alloc; "compile jobs {jobs} alloc {places}")
+    let chosen = of_choices(alloc, choices)?;
+    format!(in alloc; "compile jobs {jobs} {chosen}")
 }
 
 /// A run with its values.
@@ -76,15 +76,15 @@ fn of_run(alloc: Global, run: &RunWords) -> Result<String, AllocError> {
 fn of_check(alloc: Global, check: &CheckWords) -> Result<String, AllocError> {
     let call = of_call(alloc, &check.entry, &check.args, &check.answers)?;
     let fuel = check.fuel;
-    let places = word_of(check.choices.alloc);
-    format!(in alloc; "check {call} fuel {fuel} alloc {places}")
+    let chosen = of_choices(alloc, check.choices)?;
+    format!(in alloc; "check {call} fuel {fuel} {chosen}")
 }
 
 /// A listing with its stage.
 fn of_list(alloc: Global, choices: Choices, stage: Stage) -> Result<String, AllocError> {
     let place = place_of(stage);
-    let places = word_of(choices.alloc);
-    format!(in alloc; "list stage {place} alloc {places}")
+    let chosen = of_choices(alloc, choices)?;
+    format!(in alloc; "list stage {place} {chosen}")
 }
 
 /// The name of a function that is called, its arguments, and what external calls give.
@@ -146,12 +146,17 @@ fn of_moves(alloc: Global, moves: Moves) -> Result<String, AllocError> {
     }
 }
 
-/// How registers get their places, as the words say it.
-fn word_of<'a>(places: Alloc) -> &'a str {
-    match places {
+/// What is chosen, as the words say it.
+fn of_choices(alloc: Global, choices: Choices) -> Result<String, AllocError> {
+    let places = match choices.alloc {
         Alloc::Colour => "colour",
         Alloc::Linear => "linscan",
-    }
+    };
+    let order = match choices.order {
+        Order::Plain => "none",
+        Order::List => "list",
+    };
+    format!(in alloc; "alloc {places} schedule {order}")
 }
 
 /// The stage's place in the order of stages, from 0.
