@@ -18,7 +18,7 @@ use Rattle.made_functions.specs.Chained.{AreLinesOf}
 use Rattle.made_functions.specs.Known.{NamesHomes}
 use Rattle.made_functions.specs.Made.{in_order}
 use Rattle.made_functions.proofs.Known.{all_homes}
-use Rattle.schedule_rules.specs.Orders.{Ordered, scheduled}
+use Rattle.schedule_rules.specs.Orders.{scheduled}
 use Rattle.schedule_rules.proofs.Reorder.{scheduled_ordered}
 use Rattle.schedule_rules.proofs.Sums.{ordered_labels}
 use Rattle.scheduled_lines.proofs.Forms.{regular_kept}
